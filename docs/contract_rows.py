@@ -2,8 +2,7 @@
 import re
 
 from crate_list import crates
-from finding import definitions
-from reading import items_of, public_items, text_of, words_of
+from rattle_source import definitions, items_of, public_items, text_of, words_of
 
 # Words of our specs that a row need not name: how an answer is said.
 GENERAL = {"SomeExactly", "IsOnly"}
@@ -57,7 +56,7 @@ def allowed_names(crate, calls, names):
     return allowed | {it for it in names if is_lemma(it)} | set(crates())
 
 
-def say_of_row(crate, row):
+def faults_of_row(crate, row):
     """What one row names that is neither in the contracts of its calls nor public."""
     heads, text, title = row
     calls, missing = calls_named(crate, heads)
@@ -72,7 +71,7 @@ def say_of_row(crate, row):
         yield f"{title}: not in the contract: {', '.join(stale)}"
 
 
-def say_of_lemmas(text, rows):
+def faults_of_lemmas(text, rows):
     """Lemmas for callers that no row of their section names."""
     heads = {name for row in rows for name in row[1]} | set(re.findall(r"(?m)^\|.*, `(\w+)` \|$", text))
     sections = re.findall(r"(?m)^## .*`(\w+)::proofs::ForCallers`", text)
@@ -83,7 +82,7 @@ def say_of_lemmas(text, rows):
             yield from [f"no row names the lemma {it.strip()}" for it in line.split(",") if it.strip() not in heads]
 
 
-def say_of_answers(text):
+def faults_of_answers(text):
     """What is wrong in the table of what makes an answer the only one."""
     rows = re.findall(r"(?m)^\| `([\w:]+)` \| `(\w+)`, `(\w+)` \|$", text)
     calls = {it.name: it for it in public_items("markdown_scanners_tree") if it.kind == "fn"}
@@ -94,16 +93,16 @@ def say_of_answers(text):
     yield from [f"one answer: lacks {it.name}" for it in calls.values() if "only" in it.clauses and it.name not in named]
 
 
-def say_of_rows(text):
+def faults_of_rows(text):
     """What the rows lack, and what they name that is not so."""
     rows, ours = rows_of(text), set(crates())
     if not rows:
         yield "no row was found"
-    yield from say_of_lemmas(text, rows)
-    yield from say_of_answers(text)
+    yield from faults_of_lemmas(text, rows)
+    yield from faults_of_answers(text)
     said = {}
     for crate, heads, body, title in rows:
-        yield from say_of_row(crate, (heads, body, title))
+        yield from faults_of_row(crate, (heads, body, title))
         for item in calls_named(crate, heads)[0]:
             first, names = said.setdefault((crate, item.name), (title, set()))
             names.update(re.findall(r"`([^`]+)`", body))

@@ -7,7 +7,7 @@ from collections import Counter
 from functools import cache
 
 import totals_file
-from reading import TOP, text_of
+from rattle_source import TOP, text_of
 
 WORDS = "no one two three four five six seven eight nine ten eleven twelve thirteen fourteen fifteen sixteen".split()
 FIGURE = r"(\w+(?:[.,]\w+)*)"
@@ -113,10 +113,10 @@ def of_sources():
     ]
     places = "such as {} openers, {} bullets, a label among {} escaped brackets, and tags over {} lines"
     return [
-        ("README.md", "whose logic `rt version` names `{}`", [source("tests/mutations/inside.py", r'KIT = ".* logic (\w+)"')]),
+        ("README.md", "whose logic `rt version` names `{}`", [source("tests/mutations/rt_internals.py", r'KIT = ".* logic (\w+)"')]),
         ("README.md", places, hostile),
         ("docs/DECISIONS.md", "a perfect hash of {} seeds", [number("crates/html_entities/generate.py", r"(?m)^SEED_COUNT = (\d+)")]),
-        ("tests/mutations/README.md", "tries up to {} in one check", [number("tests/mutations/grouping.py", r"(?m)^MOST = (\d+)")]),
+        ("tests/mutations/README.md", "tries up to {} in one check", [number("tests/mutations/edit_groups.py", r"(?m)^MOST = (\d+)")]),
     ]
 
 

@@ -4,7 +4,7 @@ from collections import Counter
 
 from contract_rows import rows_of
 from crate_list import crates
-from reading import TOP, files_below, public_items, text_of
+from rattle_source import TOP, files_below, public_items, text_of
 
 MAP = "docs/MAP.md"
 USES = "cmark_uses"

@@ -9,7 +9,7 @@ import textwrap
 
 from map_page import (MAP, USES, calls_and_types, counted, crates_of, files_of, files_of_folder, has_calls, listed, modules_of,
                       named, sections_of, tokens_of)
-from reading import TOP, public_items, text_of
+from rattle_source import TOP, public_items, text_of
 
 ITEM = re.compile(r"(?m)^- .*(?:\n  .*)*\n?")
 WIDTH = 121

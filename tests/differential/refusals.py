@@ -5,20 +5,21 @@ change, and with what they answer.
     tests/differential/refusals.py | cmp - crates/cmark_refusals/stdout
 
 Nothing here knows the library. What a call answers is counted from docs/DEFINITIONS.md (answers.py, cuts.py, trees.py); how
-a value is shown follows the rules of Rust's derived `Debug` for the types of `markdown_values` (shown.py, telling.py). Which
-calls a case makes, and on what, is as crates/cmark_refusals/src has it; those without a request are in quiet.py.
+a value is printed follows the rules of Rust's derived `Debug` for the types of `markdown_values` (debug_format.py, case_answers.py). Which
+calls a case makes, and on what, is as crates/cmark_refusals/src has it; those without a request are in no_memory_answers.py.
 """
 import sys
 
 sys.dont_write_bytecode = True
 import answers
-from quiet import QUIET
-from shown import Plain, Value, boxed, code_block, fenced, footnote, heading, image, index, link, shown, some, told
-from telling import KNOWN, OF_30, STREET, html_steps, quote, told_label, told_tag
+from case_answers import KNOWN, OF_30, STREET, html_steps, label_answer, quote, tag_answer
+from debug_format import (Plain, Value, boxed, code_block, debug_text, fenced, footnote, heading, image, index, link, some,
+                          with_variant)
+from no_memory_answers import NO_MEMORY
 from trees import nested
 
 def call(before, answer):
-    return [f"before {shown(before)}", "ready", shown(answer)]
+    return [f"before {debug_text(before)}", "ready", debug_text(answer)]
 
 
 def copy(value):
@@ -52,7 +53,7 @@ def values():
     yield "text_from_string", call(OF_30, boxed(OF_30))
     yield "text_clone", copy(boxed(OF_30))
     yield "text_into_string", copy(OF_30) + copy("藏")
-    yield "text_into_static", call(OF_30, told("boxed", OF_30))
+    yield "text_into_static", call(OF_30, with_variant("boxed", OF_30))
     yield from in_both("code_block_kind", fenced)
     yield from in_both("heading", heading)
     yield from in_both("code_block", code_block)
@@ -67,21 +68,21 @@ def values():
 
 # Scanners.
 
-def shown_run(line, calls):
-    """A run of calls as it is told, each answer by the kind of its call."""
+def run_answer(line, calls):
+    """A run of calls as it is printed, each answer by the kind of its call."""
     kinds = {"upto": "Count", "list": "List", "definition": "Definition"}
     found, rest, place, stop = answers.line_run(line, calls)
-    told_answers = [Value(kinds.get(name, "Flag"), some(it) if name in ("list", "definition") else it)
+    run_answers = [Value(kinds.get(name, "Flag"), some(it) if name in ("list", "definition") else it)
                     for (name, *_), it in zip(calls, found)]
     stopped = some(None if stop is None else (stop, Value("SpacePending")))
-    return Value("LineRun", answers=told_answers, rest=list(rest), scanned=place, stop=stopped)
+    return Value("LineRun", answers=run_answers, rest=list(rest), scanned=place, stop=stopped)
 
 
 def line_run():
     line = "> -\t1.\t:   x\ty"
     calls = [("upto", 3), ("quote",), ("list", 0), ("space", 1), ("is_at_end",), ("list", 4), ("space", 2),
              ("definition", 8), ("is_at_end",), ("upto", 0)]
-    return call(line, shown_run(line.encode(), calls))
+    return call(line, run_answer(line.encode(), calls))
 
 
 def row():
@@ -92,7 +93,7 @@ def row():
 
 
 def unescaped(text):
-    return told("boxed", answers.unescaped(text, KNOWN))
+    return with_variant("boxed", answers.unescaped(text, KNOWN))
 
 
 def html_run(text, places):
@@ -109,11 +110,11 @@ def scans():
     yield "scan_table_head", row()
     yield "unescape", call("a\\*b &amp;lt; ..", unescaped("a\\*b &amp;lt; &#x1F354; &no; c\r".encode()))
     yield "unescape_900", call("900 references", unescaped(b"&amp;" * 900))
-    yield "scan_html_block_inner", call("<foo bar>", told_tag(b"<foo\n> bar>", quote))
-    yield "scan_html_block_inner_900", call("448 attributes", told_tag(b"<ab" + b"\n> a" * 448 + b">", quote))
-    yield "scan_link_label_rest", call("hello world", told_label(b"hello\r\nworld\r\n]"))
-    yield "scan_link_label_rest_900", call("two words", told_label(b"a" * 450 + b"  " + b"a" * 449 + b"]"))
-    yield "scan_link_label_bytes", call("hello world", told_label(b"hello\r\nworld\r\n]\xff"))
+    yield "scan_html_block_inner", call("<foo bar>", tag_answer(b"<foo\n> bar>", quote))
+    yield "scan_html_block_inner_900", call("448 attributes", tag_answer(b"<ab" + b"\n> a" * 448 + b">", quote))
+    yield "scan_link_label_rest", call("hello world", label_answer(b"hello\r\nworld\r\n]"))
+    yield "scan_link_label_rest_900", call("two words", label_answer(b"a" * 450 + b"  " + b"a" * 449 + b"]"))
+    yield "scan_link_label_bytes", call("hello world", label_answer(b"hello\r\nworld\r\n]\xff"))
     yield "link_label_new", call(STREET, Plain(STREET))
     text = "<!-- <!x> <!-- <![CDATA[ ]]>"
     yield "run_inline_html", call(text, html_run(text, [2, 7, 12, 17, 18]))
@@ -122,9 +123,9 @@ def scans():
 # Trees: A, in it B, in that C, and in that D.
 
 def changed(tree, change, before, after):
-    """A call on a tree: so many nodes are told before it and after it."""
-    lines = [tree.told("before", before), "ready"]
-    return lines + [shown(index(change(tree))), tree.told("after", after)]
+    """A call on a tree: so many nodes are printed before it and after it."""
+    lines = [tree.described("before", before), "ready"]
+    return lines + [debug_text(index(change(tree))), tree.described("after", after)]
 
 
 def appended():
@@ -145,13 +146,13 @@ def pushed():
 
 def cloned():
     tree = nested(*"ABCD")
-    return [tree.told("before", 4), "ready", tree.told("copy", 4), tree.told("after", 4)]
+    return [tree.described("before", 4), "ready", tree.described("copy", 4), tree.described("after", 4)]
 
 
 def ordered():
     tree = nested(*"ABCD")
     order = [(index(node), depth) for node, depth in tree.in_order()]
-    return [tree.told("before", 4), "ready", shown(order), tree.told("after", 4)]
+    return [tree.described("before", 4), "ready", debug_text(order), tree.described("after", 4)]
 
 
 def trees():
@@ -164,8 +165,8 @@ def trees():
 
 
 def main():
-    quiet = ((f"no_memory_{name}", ["ready", *map(shown, told_by())]) for name, told_by in QUIET.items())
-    for cases in (values(), scans(), trees(), quiet):
+    no_memory = ((f"no_memory_{name}", ["ready", *map(debug_text, answers_of())]) for name, answers_of in NO_MEMORY.items())
+    for cases in (values(), scans(), trees(), no_memory):
         for name, lines in cases:
             print("\n".join([f"case {name}", *lines]))
 

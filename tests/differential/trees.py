@@ -73,7 +73,7 @@ class Tree:
         assert self.nodes[child][0][0] < end
         self.nodes[child][0][1], self.nodes[child][2], self.focus = end, None, child
 
-    def told(self, word, count):
+    def described(self, word, count):
         """The focus, the spine, and so many nodes."""
         links = [f"node {at} {item} {child or '-'} {following or '-'}"
                  for at, (item, child, following) in list(self.nodes.items())[:count]]

@@ -1,5 +1,5 @@
 """What cmark_scan is run on: its words, its input, and what it then prints and answers with ample memory."""
-from running import Scan
+from program_runs import Scan
 
 # How many reads and writes a run on a long input makes at least.
 MANY = 100
@@ -11,7 +11,7 @@ NAMED = []
 USAGE = b"usage: cmark_scan line CALL.. | html | label | unescape\n"
 # Words that are answered, and as many that are not.
 KNOWN, OTHER = ["html"], ["htmk"]
-# What is told on standard error: by which words, under what, with which status, and in which writes.
+# What is printed on standard error: by which words, under what, with which status, and in which writes.
 COMPLAINTS = [
     ("other words", OTHER, {}, 2, [USAGE]),
     ("no text", ["label"], {"given": b"\xff"}, 1, [b"not UTF-8\n"]),

@@ -2,7 +2,7 @@
 their output then."""
 import errno
 
-from running import TOP, Scan
+from program_runs import TOP, Scan
 
 # What is said of a fault, by its number; of any other, that it is an error of input or output.
 REASONS = {
@@ -49,7 +49,7 @@ def usage_of(program, usage):
 
 
 def complaints_of(program, usage):
-    """What is told on standard error: by which words, under what, with which status, and in which writes."""
+    """What is printed on standard error: by which words, under what, with which status, and in which writes."""
     return [
         ("other words", OTHER, {}, 2, [program, *usage_of(program, usage).removeprefix(program).partition(b"--hepl")]),
         ("a read fault", [], {"read_fail": 1}, 3, [program, b": ", b"standard input", b": Input/output error\n"]),

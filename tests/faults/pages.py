@@ -95,7 +95,7 @@ def long():
 
 
 def passing():
-    """A page that is longer than the memory in which it is told, SMALL_MEMORY, and whose output is."""
+    """A page that is longer than the memory in which it is printed, SMALL_MEMORY, and whose output is."""
     return [headings(2_500_000)]
 
 

@@ -33,13 +33,13 @@ def cases_of(top):
 
 
 def without_refusals(out):
-    """The output without the lines that tell of a refusal, and which calls they tell of. Such a line stands after `ready`,
-    and has the state that was told before it."""
+    """The output without the lines that report a refusal, and which calls these are. Such a line stands after `ready`,
+    and has the state that was printed before it."""
     kept, calls, lines = [], [], out.splitlines(keepends=True)
     for at, line in enumerate(lines):
-        told = lines[at - 2 : at] if at > 1 else []
-        before = told[0].removeprefix(b"before ") if told else b""
-        if told and told[1] == READY and told[0] != before and line == b"refused " + before:
+        before_it = lines[at - 2 : at] if at > 1 else []
+        before = before_it[0].removeprefix(b"before ") if before_it else b""
+        if before_it and before_it[1] == READY and before_it[0] != before and line == b"refused " + before:
             calls.append(kept.count(READY))
         else:
             kept.append(line)
@@ -50,7 +50,7 @@ def calls_refused(run, ample, are_all_refused):
     """The calls that were refused, in a run that is as it must be: with the ample answer, or with that after a refusal, or
     ended by a refusal of what a case is made of. None in a third outcome."""
     out, calls = without_refusals(run.out)
-    if run.err or len(calls) > 1 or run.told is None or run.told["live"] != ample.told["live"]:
+    if run.err or len(calls) > 1 or run.counts is None or run.counts["live"] != ample.counts["live"]:
         return None
     if run.status == 0 and out == ample.out and not (are_all_refused and calls):
         return calls
@@ -70,7 +70,7 @@ def refused_in_turn(program, case, how, ample, tally):
         calls = calls_refused(run, ample, how == "refuse_from")
         tally.check(f"{program.name} {case.name}, {how} {n}", calls is not None, run)
         if run.count("refused") < 1:
-            tally.check(f"{program.name} {case.name}, with nothing refused at {n}", run.told and run.same_as(ample), run)
+            tally.check(f"{program.name} {case.name}, with nothing refused at {n}", run.counts and run.same_as(ample), run)
             return seen
         seen.update(calls or [])
     tally.check(f"{program.name} {case.name}, {how}: there is no end", False)
@@ -81,8 +81,8 @@ def run_case(program, case, tally):
     ample = program.run([case.name])
     well = (ample.out, ample.err, ample.status) == (case.wanted, b"", 0)
     tally.check(f"{program.name} {case.name}, with ample memory", well, ample)
-    tally.check(f"{program.name} {case.name}, what refuse.c told", ample.told is not None, ample)
-    if not ample.told:
+    tally.check(f"{program.name} {case.name}, what refuse.c reported", ample.counts is not None, ample)
+    if not ample.counts:
         return
     turns = [refused_in_turn(program, case, how, ample, tally) for how in ("refuse", "refuse_from")]
     seen = set().union(*turns)
@@ -95,17 +95,17 @@ def run_case(program, case, tally):
 
 def without_memory(program, case, ample, tally):
     """Nothing is asked for after `ready`, and all may be refused from there on."""
-    ready = ample.told["at_ready"]
-    tally.check(f"{program.name} {case.name}, requests after `ready`", ample.told["requests"] == ready, ample)
+    ready = ample.counts["at_ready"]
+    tally.check(f"{program.name} {case.name}, requests after `ready`", ample.counts["requests"] == ready, ample)
     run = program.run([case.name], refuse_from=ready + 1)
-    tally.check(f"{program.name} {case.name}, all refused after `ready`", run.told and run.same_as(ample), run)
+    tally.check(f"{program.name} {case.name}, all refused after `ready`", run.counts and run.same_as(ample), run)
 
 
 def ask_once(program, case, ample, tally):
     """A call that measures its text first asks for memory once, for its 900 bytes: the first request refused, it is refused;
     the second refused, there is none."""
-    ready = ample.told["at_ready"]
-    once = ample.told["requests"] == ready + 1 and ample.told["last_size"] == 900
+    ready = ample.counts["at_ready"]
+    once = ample.counts["requests"] == ready + 1 and ample.counts["last_size"] == 900
     tally.check(f"{program.name} {case.name}, requests of the call", once, ample)
     first, second = (program.run([case.name], refuse=ready + n) for n in (1, 2))
     well = calls_refused(first, ample, False) == [1]

@@ -18,7 +18,7 @@ def in_turn(program, scan, what, how, is_well, tally, **more):
     for n in range(1, TOO_MANY):
         run = program.run(scan.words, scan.given, **{word: n}, **more)
         if run.count(counted) < (1 if counted == "refused" else n):
-            tally.check(f"{program.name} {scan.name}, {what}: fewer than {n}", run.told and scan.is_answered(run), run)
+            tally.check(f"{program.name} {scan.name}, {what}: fewer than {n}", run.counts and scan.is_answered(run), run)
             return n - 1
         tally.check(f"{program.name} {scan.name}, {what} {n}", is_well(run, n), run)
     tally.check(f"{program.name} {scan.name}, {what}: there is no end", False)
@@ -36,7 +36,7 @@ def is_stopped(scan, run, word):
 
 def refused_memory(program, scan, tally):
     ample = program.run(scan.words, scan.given)
-    tally.check(f"{program.name} {scan.name}, with ample memory", scan.is_answered(ample) and ample.told, ample)
+    tally.check(f"{program.name} {scan.name}, with ample memory", scan.is_answered(ample) and ample.counts, ample)
 
     def is_well(run, n):
         says = scan.no_words() if n <= ample.count("at_first_read") else [scan.no_memory()]
@@ -57,11 +57,11 @@ def other_words(program, inputs, tally):
     """Status 2 without a read, and with no request but those for the words themselves."""
     known = for_words(program.run(inputs.KNOWN))
     run = program.run(inputs.OTHER, b"x", read_fail=1)
-    well = (run.out, run.err, run.status) == (b"", inputs.USAGE, 2) and run.told and run.count("reads") == 0
+    well = (run.out, run.err, run.status) == (b"", inputs.USAGE, 2) and run.counts and run.count("reads") == 0
     tally.check(f"{program.name}, other words", well and run.count("requests") == known, run)
     run = program.run(inputs.OTHER, b"x", refuse_from=known + 1)
     well = (run.out, run.err, run.status) == (b"", inputs.USAGE, 2)
-    tally.check(f"{program.name}, other words without memory", well and run.told, run)
+    tally.check(f"{program.name}, other words without memory", well and run.counts, run)
 
 
 def failing_reads(program, scan, least, tally, **more):
@@ -75,7 +75,7 @@ def failing_reads(program, scan, least, tally, **more):
 
 def short_reads(program, scan, least, tally, **more):
     """Each read is short in turn."""
-    is_well = lambda run, _: run.told and scan.is_answered(run)
+    is_well = lambda run, _: run.counts and scan.is_answered(run)
     short = in_turn(program, scan, "short read", ("read_short", "reads"), is_well, tally, **more)
     tally.check(f"{program.name} {scan.name}, reads that were short", short >= least, why=f"{short}")
 
@@ -84,7 +84,7 @@ def reads_of(program, scan, sizes, tally):
     """All reads are short."""
     for size in sizes:
         run = program.run(scan.words, scan.given, read_size=size)
-        tally.check(f"{program.name} {scan.name}, reads of {size} bytes", run.told and scan.is_answered(run), run)
+        tally.check(f"{program.name} {scan.name}, reads of {size} bytes", run.counts and scan.is_answered(run), run)
 
 
 def failing_writes(program, scan, size, numbers, tally):
@@ -105,7 +105,7 @@ def failing_writes(program, scan, size, numbers, tally):
 def writes_of(program, scan, sizes, tally):
     for size in sizes:
         run = program.run(scan.words, scan.given, write_size=size)
-        tally.check(f"{program.name} {scan.name}, writes of {size} bytes", run.told and scan.is_answered(run), run)
+        tally.check(f"{program.name} {scan.name}, writes of {size} bytes", run.counts and scan.is_answered(run), run)
 
 
 def failing_errors(program, inputs, tally):
@@ -113,7 +113,7 @@ def failing_errors(program, inputs, tally):
     for name, words, asked, status, parts in inputs.COMPLAINTS:
         run = program.run(words, error_fail=1, errno=errno.EIO, **asked)
         well = (run.out, run.err, run.status) == (b"", b"".join(parts[1:]), status) and run.count("errors") == len(parts)
-        tally.check(f"{program.name}, {name} that can't be told", well, run)
+        tally.check(f"{program.name}, {name} that can't be printed", well, run)
         run = program.run(words, closed=[2], errno=errno.EIO, **asked)
         tally.check(f"{program.name}, {name} with no standard error", (run.out, run.status) == (b"", status), run)
 
@@ -150,7 +150,7 @@ def endless_input(program, inputs, scan, tally):
 
 def in_small_memory(program, scan, size, tally):
     run = program.run(scan.words, scan.given, memory=size)
-    tally.check(f"{program.name} {scan.name}, in {size} bytes of memory", run.told and scan.is_answered(run), run)
+    tally.check(f"{program.name} {scan.name}, in {size} bytes of memory", run.counts and scan.is_answered(run), run)
 
 
 def without_input(program, scan, tally):

@@ -1,17 +1,17 @@
 """Which functions of a crate call which, by the prover's names: `crate::tree::Tree::push`, `crate::tree::TreeClone::clone`.
 
-Of a library that is built, the code that its library folder has of each function tells it. Of any other crate the names in
-the sources do, where two functions of one name are not told apart.
+Of a library that is built, the code that its library folder has of each function says it. Of any other crate the names in
+the sources do, where two functions of one name are taken for one.
 """
 import re
 import sys
 from functools import cache
 
 from edits import TOP
-from inside import code_of
+from rt_internals import code_of
 
 sys.path.insert(0, str(TOP / "docs"))
-from reading import items_of
+from rattle_source import items_of
 
 # The modules of a crate's root.
 ROOTS = ("main", "lib")

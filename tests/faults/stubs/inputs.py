@@ -1,6 +1,6 @@
 """What the stub of cmark_scan is run on: it prints its input. This stands for tests/faults/inputs.py in the
 tests of tests/faults/run."""
-from running import Scan
+from program_runs import Scan
 
 MANY = 5
 READS = 1_048_576

@@ -11,7 +11,7 @@ import re
 
 from calls import functions_of, holder_of
 from edits import TOP, crate_of, edited
-from reading import in_braces, items_of
+from rattle_source import head_at, items_of
 
 MOST = 24
 PROVED = re.compile(r"^fn (\S+): proved$", re.M)
@@ -22,7 +22,6 @@ ONLY = re.compile(r"only=[1-9]\d* proved=\d+")
 NAMES_WHAT_IS_GONE = re.compile(
     r"^\S*?(\w+)/(\w+)\.antt:\d\S* .*(?:has no field|is not in scope|has no `|was not admitted)", re.M
 )
-CLAUSE = re.compile(r"\s*(?:requires|ensures)\*?\s+(?:\w+\s+)?\{")
 OF_A_FUNCTION = {"Answers", "Invariants", "Proof"}
 
 
@@ -35,15 +34,6 @@ def changed_lines(edit):
             if old != new:
                 found[path, number] = old, new
     return found
-
-
-def head_at(text, number):
-    """The head of the function at a line, its contract with it: all before its body, without comments and white space."""
-    text = re.sub(r"/\*.*?\*/|//[^\n]*", "", "\n".join(text.split("\n")[number - 1 :]), flags=re.S)
-    at = re.search(r"\{|^\s*(?=requires|ensures)", text, re.M).end()
-    while clause := CLAUSE.match(text, at):
-        at = clause.end() + len(in_braces(text, clause.end() - 1)) + 1
-    return "".join(text[:at].split())
 
 
 def item_at(crate, path, number):
@@ -68,7 +58,7 @@ def changed_by(item, after, calls):
 
 
 def changed_functions(edit, lines, calls):
-    """The functions that an edit may have refused, by the prover's names; none where these can't be told. What it writes in the
+    """The functions that an edit may have refused, by the prover's names; none where these are unknown. What it writes in the
     place of a comment between functions is new ones."""
     crate, after, found = crate_of(edit), edited(edit), set()
     for (path, number), (old, _) in lines.items():

@@ -1,7 +1,7 @@
-"""What cmark_refusals is made of and how it tells tags, labels and scans of inline HTML, for refusals.py and quiet.py."""
+"""What cmark_refusals is made of and how it prints tags, labels and scans of inline HTML, for refusals.py and no_memory_answers.py."""
 import answers
 from cuts import bytes_passed, find_at, least_closers
-from shown import Plain, borrowed, boxed, shown, some
+from debug_format import Plain, borrowed, boxed, debug_text, some
 
 OF_30 = "0123456789abcdefghijklmnopqrst"
 STREET = "Straße " + OF_30
@@ -13,16 +13,16 @@ def quote(rest):
     return 2 if rest.startswith(b"> ") else 0
 
 
-def told_tag(text, skips):
+def tag_answer(text, skips):
     """Its length, and the length and text of a buffer: of the tag where something in it is skipped, else of nothing."""
     found = answers.tag(text, skips)
     if not found:
         return Plain("none")
     buffer = found[0] if found[1] != len(found[0]) else b""
-    return Plain(f"{found[1]} {len(buffer)} {shown(buffer.decode())}")
+    return Plain(f"{found[1]} {len(buffer)} {debug_text(buffer.decode())}")
 
 
-def told_label(text):
+def label_answer(text):
     """The bytes taken and the text of a label in which nothing is skipped."""
     found = answers.label(text, lambda rest: 0)
     return some(found and (found[0], borrowed(found[1]) if found[2] else boxed(found[1])))

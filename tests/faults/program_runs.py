@@ -16,23 +16,23 @@ ENDS = ("", ".by-rattle")
 
 
 class Run:
-    """What a program wrote, its status, and what refuse.c told of it: None where it told nothing, as after a signal."""
+    """What a program wrote, its status, and what refuse.c reported of it: None where it reported nothing, as after a signal."""
 
-    def __init__(self, out, err, status, told):
+    def __init__(self, out, err, status, report):
         self.out, self.err, self.status = out, err, status
-        numbers = [line.split() for line in told.splitlines()]
-        self.told = {name: int(number) for name, number in numbers} or None
+        numbers = [line.split() for line in report.splitlines()]
+        self.counts = {name: int(number) for name, number in numbers} or None
 
     def count(self, name):
-        """What was told by a name, or -1 where nothing was."""
-        return self.told[name] if self.told else -1
+        """The count of this name, or -1 where refuse.c reported nothing."""
+        return self.counts[name] if self.counts else -1
 
     def same_as(self, other):
         return (self.out, self.err, self.status) == (other.out, other.err, other.status)
 
     def __str__(self):
         out = f"{self.out[:120]!r}.. of {len(self.out)} bytes" if len(self.out) > 120 else repr(self.out)
-        return f"status {self.status}, output {out}, errors {self.err[:120]!r}, {self.told}"
+        return f"status {self.status}, output {out}, errors {self.err[:120]!r}, {self.counts}"
 
 
 class Scan:
@@ -96,23 +96,23 @@ class Program:
     def run(self, words, given=b"", closed=(), memory=None, stdin=None, stdout=subprocess.PIPE, **asked):
         """Runs it. What is asked of refuse.c is named without FAULTS_, in lower case; the bytes given are its input unless
         stdin is a file."""
-        told, telling = os.pipe()
-        env = {"LD_PRELOAD": str(self.library), "FAULTS_TELL": str(telling)}
+        report, writing = os.pipe()
+        env = {"LD_PRELOAD": str(self.library), "FAULTS_TELL": str(writing)}
         env.update({f"FAULTS_{name.upper()}": str(number) for name, number in asked.items()})
         with tempfile.TemporaryFile() as file:
             file.write(given)
             file.seek(0)
             how = {"stdin": file if stdin is None else stdin, "stdout": stdout, "stderr": subprocess.PIPE, "env": env}
-            how.update(pass_fds=[telling], preexec_fn=prepared(closed, memory))
+            how.update(pass_fds=[writing], preexec_fn=prepared(closed, memory))
             started = subprocess.Popen([str(self.path), *words], **how)
-            os.close(telling)
+            os.close(writing)
             try:
                 out, err = started.communicate(timeout=SECONDS)
             except subprocess.TimeoutExpired:
                 started.kill()
                 out, err = started.communicate()
                 err += b"(it had not ended after %d seconds)" % SECONDS
-        return Run(out or b"", err, started.returncode, read_to_end(told))
+        return Run(out or b"", err, started.returncode, read_to_end(report))
 
 
 class Tally:

@@ -4,45 +4,12 @@ from functools import cache
 from pathlib import Path
 
 from crate_list import crates
-from reading import TOP, files_below, imports_of, items_of, text_of, words_of
+from rattle_source import TOP, definitions, files_below, imports_of, items_of, lemmas_imported, text_of, words_of
 
-HEADED = re.compile(r"(?:(?:abbrev|unfoldable) (?:pub )?|(?:pub )?(?:record|data|ruleset) )([^\s:({]+)")
-STATED = re.compile(r"(?:pub )?([^\s:({]+) :")
-OF_FUNCTIONS = ("Answers.antt", "Invariants.antt", "Proof.antt")
 OPERATORS = {
     "eq": r"[=!]=|assert_(?:eq|ne)!", "index": r"\w\[", "add": r" \+ ", "sub": r" - ",
     "fmt": r"format!|write!|\bprinted", "hash": r"hash",
 }
-
-
-def defined_in(path):
-    """The words and lemmas that a file defines, with their lines; the fields of records are none."""
-    record, has_blocks = None, re.search(r"(?m)^module ", text_of(path))
-    for number, line in enumerate(text_of(path).splitlines(), 1):
-        bare = line.lstrip(" ")
-        indent = len(line) - len(bare)
-        if record is not None and bare and indent <= record:
-            record = None
-        if record is not None:
-            continue
-        if found := HEADED.match(bare):
-            record = indent if " record " in f" {bare[:11]}" else None
-            yield found[1], number
-        elif indent <= (2 if has_blocks else 0) and (found := STATED.match(bare)):
-            yield found[1], number
-
-
-@cache
-def definitions():
-    """Where each word of specs and each lemma is defined."""
-    found = {}
-    for crate in crates():
-        for part in ("specs", "proofs"):
-            for path in files_below(f"crates/{crate}/{part}", ".antt"):
-                if part == "specs" or not path.endswith(OF_FUNCTIONS):
-                    for word, number in defined_in(path):
-                        found.setdefault(word, []).append((path, number))
-    return found
 
 
 @cache
@@ -151,15 +118,14 @@ def alone(word):
 
 
 def proofs_of(item):
-    """The proof files of a call, then those of its module."""
+    """The proof files of a call."""
     top = f"crates/{item.crate}/proofs"
-    folder, own = f"{top}/{item.module}", []
-    for path in files_below(top if item.of_type else folder, ".antt"):
+    found = []
+    for path in files_below(top if item.of_type else f"{top}/{item.module}", ".antt"):
         above = Path(path).parent
         if above.name == item.short and (not item.of_type or re.match(item.of_type + r"(?![a-z])", above.parent.name)):
-            own.append(path)
-    shared = [it for it in files_below(folder, ".antt") if Path(it).parent == Path(folder)]
-    return own + [it for it in shared if not (TOP / it).with_suffix("").is_dir()]
+            found.append(path)
+    return found
 
 
 def naming_word(word, parts):
@@ -190,7 +156,13 @@ def lemmas_of(item):
     return [(path, number, it) for it in cited for path, number in definitions().get(it, []) if "/proofs/" in path]
 
 
-def with_clause(name):
+def lemmas_of_proofs(item):
+    """The lemmas that the proof files of a call import."""
+    own = proofs_of(item)
+    return [it for path in own for it in lemmas_imported(path) if it[0] not in own]
+
+
+def items_with_clause(name):
     """The functions and traits that have a clause of this name."""
     return [it for it in all_items() if name in it.clauses and name not in ("requires", "ensures") and not it.test]
 

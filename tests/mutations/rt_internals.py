@@ -19,7 +19,7 @@ ONE_JOB = ["--jobs", "1"]
 def stop_on_another_kit():
     found = subprocess.run(["rt", "version"], stdout=subprocess.PIPE, text=True, check=True).stdout.strip()
     if found != KIT:
-        sys.exit(f"tests/mutations/run: rt is of the kit {found}, and tests/mutations/inside.py goes by {KIT}")
+        sys.exit(f"tests/mutations/run: rt is of the kit {found}, and tests/mutations/rt_internals.py goes by {KIT}")
 
 
 def rt_program():

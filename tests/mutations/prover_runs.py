@@ -1,6 +1,6 @@
 """Has the prover try wrong bodies, in groups and side by side, over what it has kept of the crate as it stands.
 
-`rt must-fail` tries the edits of a crate one after another. So this checks groups of edits by the inside of rt (`inside.py`); each
+`rt must-fail` tries the edits of a crate one after another. So this checks groups of edits by the inside of rt (`rt_internals.py`); each
 edit that its group does not show to be refused is tried as `rt must-fail` tries it.
 """
 import os
@@ -12,8 +12,8 @@ from pathlib import Path
 
 from calls import Calls, asked_for, calls_in_code, calls_in_sources
 from edits import TOP, crate_of, free_memory
-from grouping import PROVED, edits_in, groups_of, refused_in, texts_of
-from inside import Prover
+from edit_groups import PROVED, edits_in, groups_of, refused_in, texts_of
+from rt_internals import Prover
 
 
 def build_libraries(crates):
@@ -75,25 +75,25 @@ class Checks:
         return said
 
 
-def shown(prover, crate, group, kept):
+def refused_together(prover, crate, group, kept):
     """The edits of a group that one check shows to be refused."""
     texts = texts_of(group)
     _, said = prover.check(crate, texts, asked_for(group), kept)
     return refused_in(group, said) if prover.are_read(said, texts) else set()
 
 
-def shown_in(checks, crate, groups, kept):
+def refused_in_groups(checks, crate, groups, kept):
     """The edits of these groups that are refused in checks of the groups."""
     name_of = lambda group: f"{crate.name}, {', '.join(sorted(it.stem for it in edits_in(group)))}"
-    found = [checks.begin(name_of(it), lambda it=it: shown(checks.prover, crate, it, kept)) for it in groups]
+    found = [checks.begin(name_of(it), lambda it=it: refused_together(checks.prover, crate, it, kept)) for it in groups]
     return set().union(*(it.result() for it in found))
 
 
 def tried_over(checks, crate, edits, calls, kept):
     """The edits that checks of groups show to be refused, or of their own functions alone, and what rt says of each other one."""
-    refused = shown_in(checks, crate, groups_of(edits, calls), kept)
+    refused = refused_in_groups(checks, crate, groups_of(edits, calls), kept)
     others = [group for it in edits if it not in refused for group in groups_of([it], calls)]
-    refused |= shown_in(checks, crate, others, kept)
+    refused |= refused_in_groups(checks, crate, others, kept)
     alone = lambda it: checks.begin(f"{crate.name}, {it.stem}", lambda: checks.prover.try_alone(crate, it, kept))
     said = {edit: alone(edit) for edit in edits if edit not in refused}
     return refused, {edit: it.result() for edit, it in said.items()}
@@ -101,7 +101,7 @@ def tried_over(checks, crate, edits, calls, kept):
 
 def tried(checks, crate, edits):
     """Whether each edit is refused, and what rt says of it where it was tried alone. That all is proved as it stands is seen
-    before and after. A library's code tells what calls what, else the sources do."""
+    before and after. A library's code says what calls what, else the sources do."""
     kept = Path(crate.folder) / "out/incremental"  # where `rt check` and `rt lib` keep theirs
     kept.mkdir(parents=True, exist_ok=True)
     proved = PROVED.findall(checks.as_it_stands(crate, kept))

@@ -1,13 +1,23 @@
-"""What docs/check-map and docs/where read of the tree: the items of its code, and the words of specs and proofs."""
+"""Reads Rattle sources: the items of code, with their contracts and bodies, and the words and lemmas that specs and proofs define.
+
+All scripts that need to know what a source says ask here, by patterns over lines as `rt fmt` lays them out; none of them parses a source itself.
+"""
 import re
 from dataclasses import dataclass, field
 from functools import cache
 from pathlib import Path
 
+from crate_list import crates
+
 TOP = Path(__file__).resolve().parent.parent
 WORD = re.compile(r"[^\W\d][\w']*")
 TYPE = re.compile(r"pub (struct|enum|union|type|const|static) (\w+)")
 IMPORT = re.compile(r"use Rattle\.(\w+)\.specs\.([\w.]+?)(?:\.\{([^}]*)\}| as (\w+))")
+PROOF_IMPORT = re.compile(r"(?m)^\s*(?:pub )?use Rattle\.(\w+)\.proofs\.([\w.'-]+?)(?:\.\{([^}]*)\}| as \w+)")
+HEADED = re.compile(r"(?:(?:abbrev|unfoldable) (?:pub )?|(?:pub )?(?:record|data|ruleset) )([^\s:({]+)")
+STATED = re.compile(r"(?:pub )?([^\s:({]+) :")
+OF_FUNCTIONS = ("Answers.antt", "Invariants.antt", "Proof.antt")
+CLAUSE = re.compile(r"\s*(?:requires|ensures)\*?\s+(?:\w+\s+)?\{")
 PRIVATE = re.compile(r"\s*(?:pub\(crate\) )?(?:const|static) (\w+):")
 PRIVATE_TYPE = re.compile(r"(?:pub\(crate\) )?(?:struct|enum|union|type|trait) (\w+)")
 
@@ -201,6 +211,17 @@ def imports_of(path):
     return words, aliases
 
 
+def lemmas_imported(path):
+    """The lemmas that a proof file takes of our crates, each with where it is defined; of a whole module that it names, the file."""
+    for crate, module, words in PROOF_IMPORT.findall(text_of(path)):
+        own = f"crates/{crate}/proofs/{module.replace('.', '/')}.antt"
+        for word in [it.split(" as ")[0].strip() for it in words.split(",")]:
+            places = [it for it in definitions().get(word, []) if it[0].startswith(f"crates/{crate}/proofs/")]
+            yield from [(*it, word) for it in [it for it in places if it[0] == own] or places]
+        if not words and (TOP / own).is_file():
+            yield own, 1, ""
+
+
 def words_of(item, ours):
     """The words of our specs that a contract names."""
     words, aliases = imports_of(item.path)
@@ -210,3 +231,57 @@ def words_of(item, ours):
         if aliases.get(it[1], [""])[0] in ours:
             found.append(it[2])
     return list(dict.fromkeys(found))
+
+
+def defined_in(path):
+    """The words and lemmas that a file defines, with their lines; the fields of records are none."""
+    record, has_blocks = None, re.search(r"(?m)^module ", text_of(path))
+    for number, line in enumerate(text_of(path).splitlines(), 1):
+        bare = line.lstrip(" ")
+        indent = len(line) - len(bare)
+        if record is not None and bare and indent <= record:
+            record = None
+        if record is not None:
+            continue
+        if found := HEADED.match(bare):
+            record = indent if " record " in f" {bare[:11]}" else None
+            yield found[1], number
+        elif indent <= (2 if has_blocks else 0) and (found := STATED.match(bare)):
+            yield found[1], number
+
+
+@cache
+def definitions():
+    """Where each word of specs and each lemma is defined."""
+    found = {}
+    for crate in crates():
+        for part in ("specs", "proofs"):
+            for path in files_below(f"crates/{crate}/{part}", ".antt"):
+                if part == "specs" or not path.endswith(OF_FUNCTIONS):
+                    for word, number in defined_in(path):
+                        found.setdefault(word, []).append((path, number))
+    return found
+
+
+def head_at(text, number):
+    """The head of the function at a line, its contract with it: all before its body, without comments and white space."""
+    text = re.sub(r"/\*.*?\*/|//[^\n]*", "", "\n".join(text.split("\n")[number - 1 :]), flags=re.S)
+    at = re.search(r"\{|^\s*(?=requires|ensures)", text, re.M).end()
+    while clause := CLAUSE.match(text, at):
+        at = clause.end() + len(in_braces(text, clause.end() - 1)) + 1
+    return "".join(text[:at].split())
+
+
+class NoFunction(Exception):
+    """An edit changes something that stands before all functions of its file, as a constant."""
+
+
+def without_ensures(text, place):
+    """The source without the `ensures` of the function that stands at the place, and that function's name."""
+    heads = [it.start() for it in re.finditer(r"^(pub )?(extern \"C\" )?fn ", text, flags=re.M) if it.start() <= place]
+    if not heads:
+        raise NoFunction
+    start = max(heads)
+    end = text.index("\n{\n", start)
+    head = re.sub(r"^    ensures\b.*?(?=^    requires\b|\Z)", "", text[start:end] + "\n", flags=re.M | re.S)
+    return text[:start] + head.rstrip("\n") + text[end:], re.search(r"fn (\w+)", head)[1]

@@ -1,9 +1,9 @@
-"""What the cases `no_memory_..` of cmark_refusals tell: the answers of calls that take no memory. refusals.py says where each
+"""What the cases `no_memory_..` of cmark_refusals print: the answers of calls that take no memory. refusals.py says where each
 comes from."""
 import answers
+from case_answers import KNOWN, OF_30, STREET, html_steps, label_answer, quote, tag_answer
 from cuts import CLOSERS, bytes_passed, find_at, least_closers
-from shown import INLINED, Plain, Value, borrowed, copied, index, link, some, told
-from telling import KNOWN, OF_30, STREET, html_steps, quote, told_label, told_tag
+from debug_format import INLINED, Plain, Value, borrowed, copied, index, link, some, with_variant
 from trees import nested
 
 OF_22, OF_23 = OF_30[:22], OF_30[:23]
@@ -18,8 +18,8 @@ def inlined(text):
 
 def texts():
     return [
-        inlined(OF_22), inlined(OF_23), Plain("🍔 true"), (told("borrowed", OF_30), True, True),
-        (told("inlined", "藏"), True, True), told("inlined", "a"), copied(OF_22),
+        inlined(OF_22), inlined(OF_23), Plain("🍔 true"), (with_variant("borrowed", OF_30), True, True),
+        (with_variant("inlined", "藏"), True, True), with_variant("inlined", "a"), copied(OF_22),
     ]
 
 
@@ -70,7 +70,7 @@ def options():
 # Starts of lines.
 
 def of_line(line, *calls):
-    """What calls answer on the start of a line; a call without an answer tells nothing."""
+    """What calls answer on the start of a line; a call without an answer prints nothing."""
     start, found = answers.LineStart(line), []
     for name, *words in calls:
         found.append(getattr(start, name)(*words))
@@ -131,24 +131,24 @@ def scanners():
 
 # Scanners of inline text, and what the calls that may want memory answer without it.
 
-def told_reference(text):
+def reference_answer(text):
     found = answers.reference(text, KNOWN)
     if not found:
         return 0, some(None)
     variant = "borrowed" if found[1] in KNOWN.values() else "inlined"
-    return found[0], some(told(variant, found[1]))
+    return found[0], some(with_variant(variant, found[1]))
 
 
-def told_destination(text, max_next):
+def destination_answer(text, max_next):
     length = answers.destination(text, max_next)
     return some(None if length is None else (length, text[:length].decode()))
 
 
-def told_title(text):
+def title_answer(text):
     return some(answers.link_title(text))
 
 
-def told_definition(text, max_next):
+def definition_answer(text, max_next):
     found = answers.reference_definition(text, max_next)
     if not found:
         return some(None)
@@ -159,7 +159,7 @@ def told_definition(text, max_next):
 HTML_LINES = (b"<PRE>", b"a --> b", b"</td/>", b"<b c> \n")
 
 
-def told_html(text):
+def html_answer(text):
     """The kind of the block that begins there, and whether the line ends a comment, and a block with a name."""
     kind = answers.html_kind(text)
     ends = tuple(answers.ends_html(text, it) for it in ("Comment", "BlockName"))
@@ -172,16 +172,16 @@ def inline():
     plain = "plain & simple"
     assert answers.unescaped(plain.encode(), KNOWN) == plain
     return [
-        *map(told_reference, ("&#x1F354;".encode(), b"&amp;", b"&#12345678;")),
-        some(answers.wikilink(b"a|b]]", 0, 3)), told_destination(b"((a))", 1), told_destination(b"(((a)))", 1),
+        *map(reference_answer, ("&#x1F354;".encode(), b"&amp;", b"&#12345678;")),
+        some(answers.wikilink(b"a|b]]", 0, 3)), destination_answer(b"((a))", 1), destination_answer(b"(((a)))", 1),
         some((end, borrowed(address), Value("Autolink"))), some(answers.wikilink(b"a|b]]", 0, 3)[0] - 1),
-        some((bare, Plain(f"0..{bare}"))), some(len(address)), *map(told_title, (b"'a\n\\'b' c", b"(a\n\nb)")),
-        told_definition(b"[a]: <b>\n'c'\n", 1), told_definition(b"[a]: b 'c' d", 1),
+        some((bare, Plain(f"0..{bare}"))), some(len(address)), *map(title_answer, (b"'a\n\\'b' c", b"(a\n\nb)")),
+        definition_answer(b"[a]: <b>\n'c'\n", 1), definition_answer(b"[a]: b 'c' d", 1),
         answers.is_block_name(b"DIV>"),
-        some(answers.tag_alone(b"<a b=\t'c'>  \n")), *map(told_html, HTML_LINES),
-        *(answers.ends_html(b"", it) for it in ("Comment", "TagAlone")), told_tag(b"<foo bar>", None), told_tag(b"</a\n>", None),
-        told_tag(b"<a\nb\nc>", quote), told_tag(b"</a\n\n> >", quote), told("borrowed", plain),
-        answers.table_head(b"| a |"), *map(told_label, (b"a\\ ]", b" a b ]", b"a  b", b"a\n\nb]")),
+        some(answers.tag_alone(b"<a b=\t'c'>  \n")), *map(html_answer, HTML_LINES),
+        *(answers.ends_html(b"", it) for it in ("Comment", "TagAlone")), tag_answer(b"<foo bar>", None), tag_answer(b"</a\n>", None),
+        tag_answer(b"<a\nb\nc>", quote), tag_answer(b"</a\n\n> >", quote), with_variant("borrowed", plain),
+        answers.table_head(b"| a |"), *map(label_answer, (b"a\\ ]", b" a b ]", b"a  b", b"a\n\nb]")),
     ]
 
 
@@ -204,8 +204,8 @@ def guarded(text, kind, number=0):
 def steps(text, places):
     """The answer of each step, then the bytes passed over and the number of steps that were not refused."""
     made = list(html_steps(text, places))
-    told_steps = [Value("Err", Value(why)) if why else Value("Ok", some(found)) for why, found, _ in made]
-    return [*told_steps, (made[-1][2], sum(not why for why, _, _ in made))]
+    step_answers = [Value("Err", Value(why)) if why else Value("Ok", some(found)) for why, found, _ in made]
+    return [*step_answers, (made[-1][2], sum(not why for why, _, _ in made))]
 
 
 def inline_html():
@@ -236,7 +236,7 @@ def linked(number):
     return some(index(number) if number else None)
 
 
-def told_spine(tree):
+def spine_answer(tree):
     up, grandparent = (tree.spine[-at] if len(tree.spine) >= at else None for at in (1, 2))
     return [linked(tree.focus), *tree.spine, len(tree.spine), (linked(up), linked(grandparent)), not tree.nodes]
 
@@ -249,7 +249,7 @@ def tree_index():
 def tree():
     it = nested([0, 9], [0, 8], [0, 3])
     it.append([3, 8])
-    found = told_spine(it)
+    found = spine_answer(it)
     it.nodes[3][0][1] = 4
     found += [(it.nodes[3][0][1], linked(it.nodes[3][2])), linked(it.pop())]
     it.truncate_to_parent(3)
@@ -257,24 +257,24 @@ def tree():
     it.nodes[4][1], it.nodes[2][2] = 3, None
     found += [(linked(it.nodes[4][1]), linked(it.nodes[2][2])), linked(it.next_sibling(1))]
     it.reset()
-    return found + told_spine(it)
+    return found + spine_answer(it)
 
 
 def remove_node():
     it = nested([0, 9], [0, 8])
-    return [linked(it.remove_node()), *told_spine(it)]
+    return [linked(it.remove_node()), *spine_answer(it)]
 
 
 def truncate_siblings():
     it = nested([0, 9], [3, 8])
     it.cut_children(4)
-    return [(index(it.focus), *it.nodes[it.focus][0]), *told_spine(it)]
+    return [(index(it.focus), *it.nodes[it.focus][0]), *spine_answer(it)]
 
 
-QUIET = {
+NO_MEMORY = {
     "texts": texts,
     "copied_short_text": lambda: [(copied(OF_22), True, True)],
-    "static_owned_text": lambda: [told("boxed", OF_30)],
+    "static_owned_text": lambda: [with_variant("boxed", OF_30)],
     "owned_string": lambda: [OF_30[:15]],
     "values": values,
     "static_table": lambda: [TABLE],

@@ -1,7 +1,7 @@
-"""Builds the tree with a wrong body in it, unproved, and runs the tests and stored runs that may tell it.
+"""Builds the tree with a wrong body in it, unproved, and runs the tests and stored runs that may notice it.
 
 A static library is built only where it is proved. So in the crate of the C functions the edited function loses what it
-ensures: then it is proved to be safe, and packages/c/run may tell it.
+ensures: then it is proved to be safe, and packages/c/run may notice it.
 """
 import re
 import shutil
@@ -12,13 +12,14 @@ from pathlib import Path
 
 from crate_list import crates, made_of
 from edits import copied, crate_of, edited
+from rattle_source import NoFunction, without_ensures
 
 # Tests of hostile texts that don't end in the minute that rt gives a build with checks: they say nothing here.
 SLOW = {"passes_over_hostile_texts_once", "passes_over_cut_texts_once"}
 
-# What may tell a wrong body of a crate, the quickest first: the stored run of a program, the tests of a crate, or its tests of
+# What may notice a wrong body of a crate, the quickest first: the stored run of a program, the tests of a crate, or its tests of
 # memory, of which each is refused its first request.
-TELLERS = {
+TESTS = {
     "markdown_values": ["tests cmark_vectors", "run cmark_replay", "tests cmark_vectors_programs"],
     "markdown_scanners_tree": ["run cmark_replay", "tests markdown_scanners_tree", "tests cmark_vectors"],
     "program_faults": ["tests cmark_scan", "tests cmark_vectors_programs"],
@@ -33,10 +34,10 @@ TELLERS = {
 }
 
 
-def stale_tellers():
-    """Crates of TELLERS that crates.txt has not, and tellers that are not made of their crate."""
-    for crate, tellers in TELLERS.items():
-        names = {it.split()[1] for it in tellers}
+def stale_tests():
+    """Crates of TESTS that crates.txt has not, and tests that are not made of their crate."""
+    for crate, tests in TESTS.items():
+        names = {it.split()[1] for it in tests}
         unknown = {crate, *names} - set(crates())
         yield from [f"there is no crate {it}" for it in sorted(unknown)]
         yield from [f"{it} is not made of {crate}" for it in sorted(names - unknown) if crate not in made_of(it)]
@@ -54,7 +55,7 @@ def stored_run(crate, room):
 
 
 def words_of(kind, crate, room):
-    """The words of a teller's command."""
+    """The words of a test's command."""
     if kind == "run":
         return stored_run(crate, room)
     tests = ["rt", "try", "--test", "--steps", "1"]
@@ -68,9 +69,9 @@ def fails(said):
     return any(how != "ok" for how in ends) if ends else None
 
 
-def tells(teller, room):
+def fails_in(name, room):
     """Whether the tests or the stored run fail in the tree of the folder, or None where they were not built or none was run."""
-    kind, name = teller.split()
+    kind, name = name.split()
     crate = room / "crates" / name
     how = {"stdin": subprocess.DEVNULL, "stdout": subprocess.PIPE, "stderr": subprocess.STDOUT, "errors": "replace"}
     ran = subprocess.run(words_of(kind, crate, room), cwd=crate, **how)
@@ -79,23 +80,8 @@ def tells(teller, room):
     return ran.returncode != 0 if kind == "run" else fails(ran.stdout)
 
 
-class NoFunction(Exception):
-    """An edit changes something that stands before all functions of its file, as a constant."""
-
-
-def without_ensures(text, place):
-    """The source without the `ensures` of the function that stands at the place, and that function's name."""
-    heads = [it.start() for it in re.finditer(r"^(pub )?(extern \"C\" )?fn ", text, flags=re.M) if it.start() <= place]
-    if not heads:
-        raise NoFunction
-    start = max(heads)
-    end = text.index("\n{\n", start)
-    head = re.sub(r"^    ensures\b.*?(?=^    requires\b|\Z)", "", text[start:end] + "\n", flags=re.M | re.S)
-    return text[:start] + head.rstrip("\n") + text[end:], re.search(r"fn (\w+)", head)[1]
-
-
-def told_in_c(crate, texts):
-    """Whether packages/c/run tells the edited texts, where the functions that they change are safe."""
+def noticed_in_c(crate, texts):
+    """Whether packages/c/run notices the edited texts, where the functions that they change are safe."""
     for path, text in texts.items():
         before = (crate / path).read_text()
         place = next(at for at, (one, other) in enumerate(zip(before, text)) if one != other)
@@ -108,34 +94,34 @@ def told_in_c(crate, texts):
     how = {"stdin": subprocess.DEVNULL, "stdout": subprocess.DEVNULL, "stderr": subprocess.DEVNULL}
     if subprocess.run(["rt", "lib"], cwd=crate, **how).returncode:
         return False, "NOT BUILT: not even safe"
-    told = subprocess.run(["packages/c/run"], cwd=crate.parent.parent, **how).returncode
-    return (True, "told by packages/c/run") if told else (False, "TOLD BY NO TEST")
+    is_noticed = subprocess.run(["packages/c/run"], cwd=crate.parent.parent, **how).returncode
+    return (True, "noticed by packages/c/run") if is_noticed else (False, "NOTICED BY NO TEST")
 
 
-def told_by(edit):
-    """Whether a test or a stored run tells the edit, and which, or why none was found."""
+def noticed_by(edit):
+    """Whether a test or a stored run notices the edit, and which, or why none was found."""
     crate = crate_of(edit)
     with tempfile.TemporaryDirectory(prefix="mutations-") as folder:
         room = copied(Path(folder))
-        if crate not in TELLERS:
-            return told_in_c(room / "crates" / crate, edited(edit))
+        if crate not in TESTS:
+            return noticed_in_c(room / "crates" / crate, edited(edit))
         for path, text in edited(edit).items():
             (room / "crates" / crate / path).write_text(text)
-        for teller in TELLERS[crate]:
-            told = tells(teller, room)
-            if told is None:
-                return False, f"NOT RUN: {teller}"
-            if told:
-                return True, f"told by {teller}"
-    return False, "TOLD BY NO TEST"
+        for test in TESTS[crate]:
+            is_noticed = fails_in(test, room)
+            if is_noticed is None:
+                return False, f"NOT RUN: {test}"
+            if is_noticed:
+                return True, f"noticed by {test}"
+    return False, "NOTICED BY NO TEST"
 
 
 def try_all(edits, lanes):
-    """Tries the edits, a line each, and counts those that a test or a stored run tells."""
-    told = others = 0
+    """Tries the edits, a line each, and counts those that a test or a stored run notices."""
+    noticed = others = 0
     with ThreadPoolExecutor(lanes) as pool:
-        for edit, (is_told, found) in zip(edits, pool.map(told_by, edits)):
-            told, others = told + is_told, others + (not is_told)
+        for edit, (is_noticed, found) in zip(edits, pool.map(noticed_by, edits)):
+            noticed, others = noticed + is_noticed, others + (not is_noticed)
             print(f"{crate_of(edit)}/{edit.stem}: {found}", flush=True)
-    print(f"{told} told, {others} not told")
+    print(f"{noticed} noticed, {others} not noticed")
     return 1 if others or not edits else 0

@@ -1,4 +1,4 @@
-"""How Rust's derived `Debug` shows values, and the values of `markdown_values` by their types."""
+"""How Rust's derived `Debug` prints values, and the values of `markdown_values` by their types."""
 
 
 class Value:
@@ -16,7 +16,7 @@ def some(value):
 ESCAPED = {"\\": "\\\\", '"': '\\"', "\t": "\\t", "\n": "\\n", "\r": "\\r"}
 
 
-def shown(value):
+def debug_text(value):
     """The text of `{:?}`."""
     if isinstance(value, bool):
         return "true" if value else "false"
@@ -25,22 +25,22 @@ def shown(value):
     if isinstance(value, str):
         return '"' + "".join(ESCAPED.get(it, it) for it in value) + '"'
     if isinstance(value, list):
-        return "[" + ", ".join(map(shown, value)) + "]"
+        return "[" + ", ".join(map(debug_text, value)) + "]"
     if isinstance(value, tuple):
-        return "(" + ", ".join(map(shown, value)) + ")"
+        return "(" + ", ".join(map(debug_text, value)) + ")"
     if value.fields:
-        return f"{value.name} {{ " + ", ".join(f"{name}: {shown(it)}" for name, it in value.fields.items()) + " }"
-    return value.name + (shown(value.parts) if value.parts else "")
+        return f"{value.name} {{ " + ", ".join(f"{name}: {debug_text(it)}" for name, it in value.fields.items()) + " }"
+    return value.name + (debug_text(value.parts) if value.parts else "")
 
 
 class Plain:
-    """Shown as this text."""
+    """Printed as this text."""
 
     def __init__(self, text):
         self.name, self.parts, self.fields = text, (), {}
 
 
-# Texts: which are owned, lent, or lie in the value itself, which has room for 22 bytes.
+# Texts: which are owned, borrowed, or lie in the value itself, which has room for 22 bytes.
 
 INLINED = 22
 
@@ -53,14 +53,14 @@ def borrowed(text):
     return Value("Borrowed", text)
 
 
-def told(variant, text):
-    """A text that is told with its variant."""
-    return Plain(f"{variant} {shown(text)}")
+def with_variant(variant, text):
+    """A text that is printed with its variant."""
+    return Plain(f"{variant} {debug_text(text)}")
 
 
 def copied(text):
-    """How a text that is copied from an owned one is told."""
-    return told("inlined" if len(text.encode()) <= INLINED else "boxed", text)
+    """How a text that is copied from an owned one is printed."""
+    return with_variant("inlined" if len(text.encode()) <= INLINED else "boxed", text)
 
 
 # Tags, by the text in each place of them.
