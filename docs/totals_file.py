@@ -2,10 +2,10 @@
 """Files of totals: how much a test tries, so that one that tries less fails. In a line are a name and its total; `#` begins
 a comment.
 
-    docs/totals_file.py FILE NAME TOTAL    the status is 1 where FILE has another total of this name, and where TOTAL is 0
-
-Where the environment has WRITE_TOTALS, as a tool's option --write-totals sets it, a total is written instead of compared.
+Compares a total with that of its name in FILE: the status is 1 where FILE has another one, and where TOTAL is 0. Where the
+environment has WRITE_TOTALS, as a tool's option --write-totals sets it, a total is written instead of compared.
 """
+import argparse
 import fcntl
 import os
 import re
@@ -68,6 +68,8 @@ def fault(path, name, total):
 
 
 if __name__ == "__main__":
-    if len(sys.argv) != 4:
-        sys.exit(__doc__)
-    sys.exit(fault(*sys.argv[1:]) or None)
+    parser = argparse.ArgumentParser(description=__doc__, formatter_class=argparse.RawDescriptionHelpFormatter)
+    for word in ("file", "name", "total"):
+        parser.add_argument(word, metavar=word.upper())
+    asked = parser.parse_args()
+    sys.exit(fault(asked.file, asked.name, asked.total) or None)

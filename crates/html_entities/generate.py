@@ -1,12 +1,10 @@
 #!/usr/bin/env python3
 """Writes the rows of HTML's entities from Python's `html.entities.html5`, with the tables by which they are found.
 
-    crates/html_entities/generate.py            writes the files
-    crates/html_entities/generate.py --check    says which file is not what it would write; the status is 1 then
-
 It writes specs/Rows1.antt and so on, three files of src/, and the input and the expected output of the program
 html_entities_names, both from Python's list alone.
 """
+import argparse
 import sys
 from html.entities import html5
 from pathlib import Path
@@ -146,9 +144,11 @@ def files():
 
 
 def main():
-    status = 0
+    parser = argparse.ArgumentParser(description=__doc__, formatter_class=argparse.RawDescriptionHelpFormatter)
+    parser.add_argument("--check", action="store_true", help="writes nothing, and says which file is not what it would write; the status is 1 then")
+    is_check, status = parser.parse_args().check, 0
     for path, text in files().items():
-        if sys.argv[1:] != ["--check"]:
+        if not is_check:
             (TOP / path).write_bytes(text.encode())
         elif not (TOP / path).exists() or (TOP / path).read_bytes() != text.encode():
             print(f"crates/html_entities/{path} is not what generate.py writes")

@@ -1,11 +1,12 @@
-# What the scripts of this folder share: where things stand, and how they end. Each works at the top of the tree.
-cd "$(dirname "${BASH_SOURCE[0]}")/../.."
+# What the scripts of this folder share: where things are, and how they end. Each works at the top of the tree.
+# shellcheck shell=bash disable=SC2034  # what is set here is read there
+cd "$(dirname "${BASH_SOURCE[0]}")/../.." || exit
 top=$PWD
 version=$(cat VERSION)
 header=packages/c/include/markdown_scanners.h
 crate=crates/markdown_scanners_c
 made=$crate/out/libmarkdown_scanners_c.a # as rt makes it, of the crate alone
-proof=$crate/out/proof.txt               # what rt said when it made that, behind its checksum
+proof=$crate/out/proof.txt               # what rt said when it made that, after its checksum
 archive=out/libmarkdown_scanners.a
 shared_name=libmarkdown_scanners.so.${version%%.*}
 shared=out/$shared_name

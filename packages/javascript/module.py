@@ -1,15 +1,17 @@
 #!/usr/bin/env python3
-"""packages/javascript/module.py TREE FOLDER 32|64 ..: compiles the crate markdown_scanners_c of the tree, which is proved, as
-WebAssembly modules: markdown_scanners.wasm with a 32-bit memory, markdown_scanners64.wasm with a 64-bit one.
+"""Compiles the crate markdown_scanners_c of the tree TREE, which is proved, as WebAssembly modules in FOLDER:
+markdown_scanners.wasm with a 32-bit memory, markdown_scanners64.wasm with a 64-bit one.
 
 The kit compiles for WebAssembly what calls no C. The three functions of the heap, by which the crate asks for memory, are C's,
 and here the host's. So the kit makes its LLVM code for the plainest x86-64, which has the sizes and the layouts of wasm64, and
 hands it to a clang that keeps it; and the kit's own clang and linker make the module of it. The functions of the header are its
-exports, and a section tells the version.
+exports, and a section has the version.
 
 The 32-bit module is made by wasm-opt (Debian's binaryen) of one with a 64-bit memory and no SIMD, which wasm-opt can't lower: its
 sizes and layouts stay those of wasm64, and each address is cut to 32 bits where memory is read or written. Where both are made,
-a section of it names the other one."""
+a section of it names the other one.
+"""
+import argparse
 import os
 import re
 import shutil
@@ -155,20 +157,21 @@ def narrowed(made, room):
     return after.read_bytes()
 
 
-def main(tree, folder, *asked):
-    tree, folder = Path(tree).resolve(), Path(folder).resolve()
+def main(tree, folder, bits):
     with tempfile.TemporaryDirectory() as name:
         room = Path(name)
         code, toolchain = lowered(tree, room)
         text = text_of(code, toolchain, room)
-        if "64" in asked:
+        if "64" in bits:
             (folder / WIDE).write_bytes(linked(text, toolchain, room, WIDE_FEATURES) + version_section())
-        if "32" in asked:
-            beside = section("markdown_scanners64", WIDE) if "64" in asked else b""
+        if "32" in bits:
+            beside = section("markdown_scanners64", WIDE) if "64" in bits else b""
             (folder / NARROW).write_bytes(narrowed(linked(text, toolchain, room, FEATURES), room) + version_section() + beside)
 
 
 if __name__ == "__main__":
-    if len(sys.argv) < 4 or not {*sys.argv[3:]} <= {"32", "64"}:
-        sys.exit(__doc__)
-    main(*sys.argv[1:])
+    parser = argparse.ArgumentParser(description=__doc__, formatter_class=argparse.RawDescriptionHelpFormatter)
+    parser.add_argument("tree", metavar="TREE", type=lambda it: Path(it).resolve())
+    parser.add_argument("folder", metavar="FOLDER", type=lambda it: Path(it).resolve())
+    parser.add_argument("bits", metavar="32|64", nargs="+", choices=["32", "64"])
+    main(**vars(parser.parse_args()))

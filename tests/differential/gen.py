@@ -1,14 +1,12 @@
 #!/usr/bin/env python3
 """Cases for pulldown-cmark's scanners and for cmark_replay, a line each on standard output.
 
-usage: gen.py SEED COUNT [FILE.md ..]
-
 COUNT random cases, made of the bytes that each call looks for, and then cases from the lines of each Markdown file.
 The same seed, count and files give the same cases. README.md says what a case looks like, and which inputs are left
 out because the library departs from pulldown-cmark there.
 """
+import argparse
 import random
-import sys
 
 LARGEST = 2**64 - 1
 LONGEST_LINES = 4000  # of a Markdown file
@@ -257,13 +255,16 @@ def print_file(cases, path):
 
 
 def main():
-    if len(sys.argv) < 3 or not (sys.argv[1].isdigit() and sys.argv[2].isdigit()):
-        sys.exit("usage: gen.py SEED COUNT [FILE.md ..]")
-    cases = Cases(int(sys.argv[1]))
-    for _ in range(int(sys.argv[2])):
+    parser = argparse.ArgumentParser(description=__doc__, formatter_class=argparse.RawDescriptionHelpFormatter)
+    parser.add_argument("seed", metavar="SEED", type=int)
+    parser.add_argument("count", metavar="COUNT", type=int)
+    parser.add_argument("files", metavar="FILE.md", nargs="*")
+    asked = parser.parse_args()
+    cases = Cases(asked.seed)
+    for _ in range(asked.count):
         call = cases.one_of(*CALLS)
         print_case(call, getattr(cases, call)())
-    for path in sys.argv[3:]:
+    for path in asked.files:
         print_file(cases, path)
 
 

@@ -36,7 +36,20 @@ RECORDED = [
   60 67 email "<l@m.n>"
   67 68 text " "
   68 71 html "<o>"
-""", b'<document sourcepos="1:1-7:11" xmlns="http://commonmark.org/xml/1.0">\n  <heading sourcepos="1:1-1:17" level="1">\n    <text sourcepos="1:3-1:4" xml:space="preserve">a </text>\n    <emph sourcepos="1:5-1:7">\n      <text sourcepos="1:6-1:6" xml:space="preserve">b</text>\n    </emph>\n    <text sourcepos="1:8-1:8" xml:space="preserve"> </text>\n    <code sourcepos="1:11-1:15" xml:space="preserve">c ` d</code>\n  </heading>\n  <block_quote sourcepos="3:1-5:35">\n    <paragraph sourcepos="3:3-5:35">\n      <text sourcepos="3:3-3:4" xml:space="preserve">e </text>\n      <link sourcepos="3:5-3:7" destination="/p" title="q">\n        <text sourcepos="3:6-3:6" xml:space="preserve">f</text>\n      </link>\n      <softbreak />\n      <strong sourcepos="4:3-4:7">\n        <text sourcepos="4:5-4:5" xml:space="preserve">g</text>\n      </strong>\n      <linebreak />\n      <text sourcepos="4:10-4:11" xml:space="preserve">h </text>\n      <image sourcepos="4:12-4:23" destination="/j" title="k">\n        <text sourcepos="4:14-4:14" xml:space="preserve">i</text>\n      </image>\n      <text sourcepos="4:24-4:31" xml:space="preserve"> \xc3\xa4 </text>\n      <link sourcepos="4:36-4:42" destination="mailto:l@m.n">\n        <text sourcepos="4:33-4:37" xml:space="preserve">l@m.n</text>\n      </link>\n      <text sourcepos="4:39-4:39" xml:space="preserve"> </text>\n      <html_inline sourcepos="4:40-4:42" xml:space="preserve">&lt;o&gt;</html_inline>\n    </paragraph>\n  </block_quote>\n</document>\n'),
+""",
+        b'<document sourcepos="1:1-7:11" xmlns="http://commonmark.org/xml/1.0">\n  <heading sourcepos="1:1-1:17" level="1">\n'
+        b'    <text sourcepos="1:3-1:4" xml:space="preserve">a </text>\n    <emph sourcepos="1:5-1:7">\n'
+        b'      <text sourcepos="1:6-1:6" xml:space="preserve">b</text>\n    </emph>\n    <text sourcepos="1:8-1:8" xml:space="preserve"> </text>\n'
+        b'    <code sourcepos="1:11-1:15" xml:space="preserve">c ` d</code>\n  </heading>\n  <block_quote sourcepos="3:1-5:35">\n'
+        b'    <paragraph sourcepos="3:3-5:35">\n      <text sourcepos="3:3-3:4" xml:space="preserve">e </text>\n'
+        b'      <link sourcepos="3:5-3:7" destination="/p" title="q">\n        <text sourcepos="3:6-3:6" xml:space="preserve">f</text>\n'
+        b'      </link>\n      <softbreak />\n      <strong sourcepos="4:3-4:7">\n        <text sourcepos="4:5-4:5" xml:space="preserve">g</text>\n'
+        b'      </strong>\n      <linebreak />\n      <text sourcepos="4:10-4:11" xml:space="preserve">h </text>\n'
+        b'      <image sourcepos="4:12-4:23" destination="/j" title="k">\n        <text sourcepos="4:14-4:14" xml:space="preserve">i</text>\n'
+        b'      </image>\n      <text sourcepos="4:24-4:31" xml:space="preserve"> \xc3\xa4 </text>\n'
+        b'      <link sourcepos="4:36-4:42" destination="mailto:l@m.n">\n        <text sourcepos="4:33-4:37" xml:space="preserve">l@m.n</text>\n'
+        b'      </link>\n      <text sourcepos="4:39-4:39" xml:space="preserve"> </text>\n'
+        b'      <html_inline sourcepos="4:40-4:42" xml:space="preserve">&lt;o&gt;</html_inline>\n    </paragraph>\n  </block_quote>\n</document>\n'),
     Recorded("declaration", b'a <!b>\n', b"""\
 1 1 0 paragraph
   0 2 text "a "
@@ -65,7 +78,10 @@ RECORDED = [
   1 3 text "\\u00c2\\u00a3"
   3 4 text "*"
   4 5 text "b"
-""", b'<document sourcepos="1:1-1:5" xmlns="http://commonmark.org/xml/1.0">\n  <paragraph sourcepos="1:1-1:5">\n    <emph sourcepos="1:1-1:4">\n      <text sourcepos="1:2-1:3" xml:space="preserve">\xc2\xa3</text>\n    </emph>\n    <text sourcepos="1:5-1:5" xml:space="preserve">b</text>\n  </paragraph>\n</document>\n'),
+""",
+        b'<document sourcepos="1:1-1:5" xmlns="http://commonmark.org/xml/1.0">\n  <paragraph sourcepos="1:1-1:5">\n    <emph sourcepos="1:1-1:4">\n'
+        b'      <text sourcepos="1:2-1:3" xml:space="preserve">\xc2\xa3</text>\n    </emph>\n'
+        b'    <text sourcepos="1:5-1:5" xml:space="preserve">b</text>\n  </paragraph>\n</document>\n'),
     Recorded("runs", b'# _*__*_\n', b"""\
 1 1 0 heading 1
   2 3 start emphasis
@@ -121,7 +137,10 @@ RECORDED = [
   0 1 text "a"
 3 3 0 paragraph
   not UTF-8
-""", b'<document sourcepos="1:1-3:3" xmlns="http://commonmark.org/xml/1.0">\n  <paragraph sourcepos="1:1-1:1">\n    <text sourcepos="1:1-1:1" xml:space="preserve">a</text>\n  </paragraph>\n  <paragraph sourcepos="3:1-3:3">\n    <text sourcepos="3:1-3:3" xml:space="preserve">\xef\xbf\xbd</text>\n  </paragraph>\n</document>\n'),
+""",
+        b'<document sourcepos="1:1-3:3" xmlns="http://commonmark.org/xml/1.0">\n  <paragraph sourcepos="1:1-1:1">\n'
+        b'    <text sourcepos="1:1-1:1" xml:space="preserve">a</text>\n  </paragraph>\n  <paragraph sourcepos="3:1-3:3">\n'
+        b'    <text sourcepos="3:1-3:3" xml:space="preserve">\xef\xbf\xbd</text>\n  </paragraph>\n</document>\n'),
     Recorded("differ", b'*a*\n', b"""\
 1 1 0 paragraph
   0 1 start strong

@@ -1,5 +1,8 @@
 """What cmark_blocks is run on: its words, its input, and what it then prints and answers with ample memory."""
-from page_program import KNOWN, OTHER, Page, complaints_of, named_of, unread_of, usage_of
+import page_program
+from page_program import Page, complaints_of, named_of, unread_of, usage_of
+
+KNOWN, OTHER = page_program.KNOWN, page_program.OTHER
 
 # How many reads and writes a run on a long input makes at least.
 MANY = 100

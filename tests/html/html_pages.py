@@ -5,7 +5,7 @@ from pathlib import Path
 
 sys.dont_write_bytecode = True
 sys.path.append(str(Path(__file__).resolve().parents[1] / "differential"))
-from block_pages import BY_OLDER_RULES, LINES, ODD, PARTS, ROWS, TASKS, made_paragraphs, texts_in
+from block_pages import BY_OLDER_RULES, LINES, ODD, ROWS, TASKS, made_paragraphs
 from block_pages import made as made_blocks
 
 # Without what is not UTF-8, which cmark_html refuses.

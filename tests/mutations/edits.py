@@ -67,20 +67,20 @@ def edited(edit):
     return texts
 
 
-def copied(room):
+def copied(scratch):
     """Copies what proofs and builds read of the tree into a folder, with the libraries that are built."""
     for name in ("crates.txt", "HANDLES", "README.md", "LICENSE", "VERSION", "CHANGELOG.md"):
-        shutil.copy(TOP / name, room)
+        shutil.copy(TOP / name, scratch)
     for name in ("packages", "docs"):
-        shutil.copytree(TOP / name, room / name, ignore=shutil.ignore_patterns("target"))
+        shutil.copytree(TOP / name, scratch / name, ignore=shutil.ignore_patterns("target"))
     for crate in (TOP / "crates").iterdir():
         for part in ("src", "specs", "proofs"):
             if (crate / part).is_dir():
-                shutil.copytree(crate / part, room / "crates" / crate.name / part)
+                shutil.copytree(crate / part, scratch / "crates" / crate.name / part)
         library = crate / "out/rlib"
         if (library / "stamp").is_file():
-            shutil.copytree(library, room / "crates" / crate.name / "out/rlib")
+            shutil.copytree(library, scratch / "crates" / crate.name / "out/rlib")
         for part in ("stdin", "stdout", "args"):
             if (crate / part).is_file():
-                shutil.copy(crate / part, room / "crates" / crate.name)
-    return room
+                shutil.copy(crate / part, scratch / "crates" / crate.name)
+    return scratch

@@ -24,7 +24,7 @@ def build_libraries(crates):
             raise SystemExit(f"tests/mutations/run: {Path(folder).name} is not proved as it stands, so its edits say nothing")
 
 
-class Room:
+class MemoryGate:
     """Lets a check begin where there is memory for it, and for what others may come to take; one at least goes on."""
 
     # In kilobytes: what must be free, beside what the checks that began in the last seconds may yet take.
@@ -56,14 +56,14 @@ class Checks:
 
     def __init__(self, lanes):
         # a thread of Linux has a niceness of its own, which what it starts has too
-        self.prover, self.room, self.lanes = Prover(), Room(), ThreadPoolExecutor(lanes, initializer=os.nice, initargs=(self.NICE,))
+        self.prover, self.gate, self.lanes = Prover(), MemoryGate(), ThreadPoolExecutor(lanes, initializer=os.nice, initargs=(self.NICE,))
 
     def begin(self, what, check):
         """Has a check run, which answers later, and says how long it took."""
         return self.lanes.submit(self.timed, what, check)
 
     def timed(self, what, check):
-        since, answer = self.room.run(lambda: (time.monotonic(), check()))
+        since, answer = self.gate.run(lambda: (time.monotonic(), check()))
         print(f"{time.monotonic() - since:4.0f} s  {what}", flush=True)
         return answer
 

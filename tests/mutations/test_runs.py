@@ -43,9 +43,9 @@ def stale_tests():
         yield from [f"{it} is not made of {crate}" for it in sorted(names - unknown) if crate not in made_of(it)]
 
 
-def stored_run(crate, room):
+def stored_run(crate, scratch):
     """The words that hold a program's output to its stored run."""
-    cases = room / "cases"
+    cases = scratch / "cases"
     cases.mkdir(exist_ok=True)
     (cases / "stored").write_bytes((crate / "stdin").read_bytes() if (crate / "stdin").is_file() else b"")
     (cases / "stored.stdout").write_bytes((crate / "stdout").read_bytes())
@@ -54,10 +54,10 @@ def stored_run(crate, room):
     return ["rt", "try", "--steps", "1", "--cases", str(cases)]
 
 
-def words_of(kind, crate, room):
+def words_of(kind, crate, scratch):
     """The words of a test's command."""
     if kind == "run":
-        return stored_run(crate, room)
+        return stored_run(crate, scratch)
     tests = ["rt", "try", "--test", "--steps", "1"]
     return [*tests, "--fail-alloc", "1", "--", "memory"] if kind == "refused" else tests
 
@@ -69,12 +69,12 @@ def fails(said):
     return any(how != "ok" for how in ends) if ends else None
 
 
-def fails_in(name, room):
+def fails_in(name, scratch):
     """Whether the tests or the stored run fail in the tree of the folder, or None where they were not built or none was run."""
     kind, name = name.split()
-    crate = room / "crates" / name
+    crate = scratch / "crates" / name
     how = {"stdin": subprocess.DEVNULL, "stdout": subprocess.PIPE, "stderr": subprocess.STDOUT, "errors": "replace"}
-    ran = subprocess.run(words_of(kind, crate, room), cwd=crate, **how)
+    ran = subprocess.run(words_of(kind, crate, scratch), cwd=crate, **how)
     if "run=none" in ran.stdout or "proved=no" not in ran.stdout:
         return None
     return ran.returncode != 0 if kind == "run" else fails(ran.stdout)
@@ -102,13 +102,13 @@ def noticed_by(edit):
     """Whether a test or a stored run notices the edit, and which, or why none was found."""
     crate = crate_of(edit)
     with tempfile.TemporaryDirectory(prefix="mutations-") as folder:
-        room = copied(Path(folder))
+        scratch = copied(Path(folder))
         if crate not in TESTS:
-            return noticed_in_c(room / "crates" / crate, edited(edit))
+            return noticed_in_c(scratch / "crates" / crate, edited(edit))
         for path, text in edited(edit).items():
-            (room / "crates" / crate / path).write_text(text)
+            (scratch / "crates" / crate / path).write_text(text)
         for test in TESTS[crate]:
-            is_noticed = fails_in(test, room)
+            is_noticed = fails_in(test, scratch)
             if is_noticed is None:
                 return False, f"NOT RUN: {test}"
             if is_noticed:

@@ -19,34 +19,34 @@ GROWING = {
 SLACK = 1.1
 
 
-def counts(compare, room, files):
+def counts(compare, scratch, files):
     """The instructions of each file: of the original, and swapped."""
-    for old in room.glob("callgrind.*"):
+    for old in scratch.glob("callgrind.*"):
         old.unlink()
-    words = ["valgrind", "--tool=callgrind", f"--callgrind-out-file={room}/callgrind.out", "--toggle-collect=measured_*",
+    words = ["valgrind", "--tool=callgrind", f"--callgrind-out-file={scratch}/callgrind.out", "--toggle-collect=measured_*",
              "--dump-after=measured_original", "--dump-after=measured_swapped", compare, "instructions", *files]
     subprocess.run([str(it) for it in words], check=True, capture_output=True)
-    parts = sorted(room.glob("callgrind.out.*"), key=lambda it: int(it.suffix[1:]))
+    parts = sorted(scratch.glob("callgrind.out.*"), key=lambda it: int(it.suffix[1:]))
     found = [int(re.search(r"(?m)^(?:summary|totals): (\d+)", it.read_text())[1]) for it in parts]
     if len(found) != 2 * len(files):
         raise RuntimeError(f"callgrind made {len(found)} parts for {len(files)} files")
     return list(zip(found[0::2], found[1::2]))
 
 
-def instructions(compare, room, files):
+def instructions(compare, scratch, files):
     """Those of all files together."""
-    both = counts(compare, room, files)
+    both = counts(compare, scratch, files)
     return sum(it[0] for it in both), sum(it[1] for it in both)
 
 
-def growth(compare, room):
+def growth(compare, scratch):
     """Prints how the instructions of both grow with an input; the inputs on which they grow faster than the original's."""
     files = []
     for name, made in GROWING.items():
         for length in LENGTHS:
-            files.append(room / f"growing{len(files)}.md")
+            files.append(scratch / f"growing{len(files)}.md")
             files[-1].write_text(made(length))
-    both = counts(compare, room, files)
+    both = counts(compare, scratch, files)
     steep = []
     print("| Input | | " + " | ".join(map(str, LENGTHS)) + " |\n|---|---|" + "---:|" * len(LENGTHS))
     for row, name in enumerate(GROWING):

@@ -129,17 +129,17 @@ def swapped_punctuation(text):
     return replaced(text, r"(?m)^const PUNCT_TAB", "use crate::scanners::is_ascii_punctuation;\n\nconst PUNCT_TAB", "puncttable.rs")
 
 
-def copy_package(room, name, more=""):
+def copy_package(scratch, name, more=""):
     """A package of the source, and its folder src."""
-    package = room / name
+    package = scratch / name
     shutil.copytree(SOURCE, package, ignore=shutil.ignore_patterns("main.rs", "build.rs", "Cargo.toml", ".cargo*", "debian", "examples"))
     (package / "Cargo.toml").write_text(MANIFEST.format(name=name, more=more))
     return package / "src"
 
 
-def make_swapped(room, ours):
+def make_swapped(scratch, ours):
     """The package `swapped`; the functions that were swapped."""
-    source = copy_package(room, "swapped", ours)
+    source = copy_package(scratch, "swapped", ours)
     before = []
     for file, swap in [("scanners.rs", swapped_scanners), ("linklabel.rs", swapped_labels), ("puncttable.rs", swapped_punctuation)]:
         text = (source / file).read_text()
@@ -155,9 +155,9 @@ def make_swapped(room, ours):
     return before
 
 
-def make_beside(room, ours):
+def make_beside(scratch, ours):
     """The package `beside`: both, of which beside.rs makes the calls."""
-    source = copy_package(room, "beside", ours)
+    source = copy_package(scratch, "beside", ours)
     (source / "scanners").mkdir()
     text = (source / "scanners.rs").read_text()
     (source / "scanners/before.rs").write_text(replaced(text, r"(?m)^fn scan_email", "pub(crate) fn scan_email", "scanners.rs"))
@@ -179,22 +179,22 @@ def make_beside(room, ours):
         file.write("\npub use crate::scanners::{take_notes, Note};\n")
 
 
-def make_workspace(room):
+def make_workspace(scratch):
     """All packages in a fresh folder. It answers the names of all functions that could be swapped."""
     for folder in NEEDED:
         if not folder.is_dir():
             raise NotAsKnown(f"there is no {folder}")
-    room.mkdir(parents=True, exist_ok=True)
-    (room / ".cargo").mkdir()
-    (room / ".cargo/config.toml").write_text(CONFIG.format(registry=REGISTRY))
-    (room / "Cargo.toml").write_text(WORKSPACE)
+    scratch.mkdir(parents=True, exist_ok=True)
+    (scratch / ".cargo").mkdir()
+    (scratch / ".cargo/config.toml").write_text(CONFIG.format(registry=REGISTRY))
+    (scratch / "Cargo.toml").write_text(WORKSPACE)
     ours = f'markdown-scanners = {{ path = "{TOP / "packages/rust"}" }}\n'
-    copy_package(room, "original")
-    names = make_swapped(room, ours)
-    make_beside(room, ours)
-    shutil.copytree(HERE / "compare", room / "compare")
-    shutil.copytree(REGISTRY / "tendril-0.4.0", room / "tendril", ignore=shutil.ignore_patterns(".cargo*"))
-    packed = [it for it in (room / "tendril/src").glob("*.rs") if "repr(packed)" in it.read_text()]
+    copy_package(scratch, "original")
+    names = make_swapped(scratch, ours)
+    make_beside(scratch, ours)
+    shutil.copytree(HERE / "compare", scratch / "compare")
+    shutil.copytree(REGISTRY / "tendril-0.4.0", scratch / "tendril", ignore=shutil.ignore_patterns(".cargo*"))
+    packed = [it for it in (scratch / "tendril/src").glob("*.rs") if "repr(packed)" in it.read_text()]
     for file in packed: # a reference into it is an error of the compiler by now
         file.write_text(file.read_text().replace("repr(packed)", "repr(C)"))
     return names

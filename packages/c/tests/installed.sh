@@ -1,11 +1,12 @@
 # What packages/c/install and packages/c/dist put where, and the program of the README, built with each library as pkg-config
 # and CMake say. packages/c/test reads this.
+# shellcheck shell=bash disable=SC2154,SC2086  # what common.sh and packages/c/test set; flags are several words
 readme_program() {
     sed -n '/^```c$/,/^```$/p' README.md | sed '/^```/d' >"$room/level.c"
     [ -s "$room/level.c" ] || stop "the README has no program"
 }
 
-# prints_level PROGRAM KIND: the program prints what the README says; it wants the shared library where it is built with it.
+# prints_level PROGRAM KIND: the program prints what the README says; it needs the shared library where it is built with it.
 prints_level() {
     [ "$(LD_LIBRARY_PATH="$prefix/$libdir" "$1")" = "<p><em>a</em> &lt;b&gt;</p>" ] || stop "the README's program prints something else"
     local wants
@@ -94,16 +95,16 @@ check_dist() {
     cmp "$room/once/$name.tar.gz" "$room/again/$name.tar.gz" || stop "the same files are packed in two ways"
     tar -C "$room/anywhere" -xzf "$room/once/$name.tar.gz"
     at=$room/anywhere/$name
-    (cd "$at" && sha256sum --quiet --strict -c SHA256SUMS) || stop "a checksum of what is packed is another"
-    [ "$(cat "$at/VERSION")" = "$version" ] && cmp LICENSE "$at/LICENSE" || stop "the version or the licence is another"
-    grep -q 'rattle-kit-' "$at/PROOF" && [[ $(tail -n 1 "$at/PROOF") = logic=proved\ * ]] || stop "the proof is not told"
+    (cd "$at" && sha256sum --quiet --strict -c SHA256SUMS) || stop "a checksum of what is packed differs"
+    [ "$(cat "$at/VERSION")" = "$version" ] && cmp LICENSE "$at/LICENSE" || stop "the version or the licence differs"
+    grep -q 'rattle-kit-' "$at/PROOF" && [[ $(tail -n 1 "$at/PROOF") = logic=proved\ * ]] || stop "the proof is not recorded"
     cmp "$archive" "$at/lib/libmarkdown_scanners.a" && cmp "$shared" "$at/lib/$shared_name" || stop "other libraries are packed"
     by_pkg_config "$at"
     check_packed_programs "$at"
     check_packed_python "$at"
     check_packed_rust "$at"
     check_packed_javascript "$at"
-    rm -r "$at"/{LICENSE,VERSION,PROOF,SHA256SUMS,README.md,bin,python,rust,javascript,examples}
+    rm -r "${at:?}"/{LICENSE,VERSION,PROOF,SHA256SUMS,README.md,bin,python,rust,javascript,examples}
     has_files "$at"
     passed dist "$runs"
 }
@@ -155,7 +156,7 @@ END
 check_packed_rust() {
     command -v cargo >/dev/null || { leave packed_rust cargo; return; }
     (
-        cd "$1/rust"
+        cd "$1/rust" || exit
         unset MARKDOWN_SCANNERS_LIB_DIR PKG_CONFIG_PATH
         export CARGO_TARGET_DIR=$room/packed
         prints_outline cargo run -q --offline --example headings ../README.md

@@ -2,9 +2,9 @@
 """Prints what calls of the package cost, in nanoseconds: of each the best of RUNS, on `bytes`, a `str` of ASCII, another `str`, and
 a `bytearray`.
 
-    packages/python/tests/speed.py [RUNS]
-
-The first row is a call of the library by ctypes alone, and the second one with a struct for an answer."""
+The first row is a call of the library by ctypes alone, and the second one with a struct for an answer.
+"""
+import argparse
 import os
 import sys
 import timeit
@@ -67,7 +67,7 @@ def alone(name, *given):
     return found
 
 
-def main(runs=500):
+def main(runs):
     data = PAGE.encode()
     address = ctypes.cast(ctypes.c_char_p(data), ctypes.c_void_p).value
     for name in ("scan_line", "scan_code_fence"):
@@ -85,4 +85,6 @@ def main(runs=500):
 
 
 if __name__ == "__main__":
-    main(*map(int, sys.argv[1:]))
+    parser = argparse.ArgumentParser(description=__doc__, formatter_class=argparse.RawDescriptionHelpFormatter)
+    parser.add_argument("runs", metavar="RUNS", type=int, nargs="?", default=500)
+    main(parser.parse_args().runs)

@@ -8,7 +8,7 @@ from pathlib import Path
 
 import c_rows
 import markdown_scanners as mds
-from c_calls import BEFORE, BEHIND, CALLS, FORMS, Data, as_bytes, check_skips, label, tag, told
+from c_calls import BEHIND, CALLS, FORMS, Data, as_bytes, check_skips, label, tag, told
 from c_rows import SIZE_MAX as NONE
 from c_rows import Call, Name
 from markdown_scanners import _c
