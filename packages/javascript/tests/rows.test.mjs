@@ -10,28 +10,7 @@ import { LineRows } from "./line_rows.mjs";
 import { bytesOf, CALLS, checkSkips, label, labelsMatch, NONE, plain, scanners, tag, told, ways } from "./c_calls.mjs";
 import { hold } from "./totals.mjs";
 
-const FILES = ["bytes.c", "line_starts.c", "rows.c", "runs.c", "skips.c"];
-/** Of a macro that checks one call, which fields of the answer it names. */
-const FIELDS = {
-    PART: ["end", "start", "length"],
-    NO_PART: ["status"],
-    FENCE: ["length", "byte"],
-    BREAK: ["length"],
-    NO_BREAK: ["none_before"],
-    END: ["status", "end"],
-    NO_FENCE: [],
-    NO_ITEM: [],
-    DEFINITION: ["end", "label_start", "label_length", "destination_start", "destination_length", "title_start", "title_length"],
-    NO_DEFINITION: ["status"],
-    RUN: ["byte", "count", "can_open", "can_close"],
-    NO_RUN: ["status"],
-};
-/** Of a macro that checks one part, which takes all bytes, the call and its place. */
-const WHOLE = { URI: ["mds_scan_autolink", 1], EMAIL: ["mds_scan_email_autolink", 1], TITLE: ["mds_scan_link_title", 0] };
-const NOTHING = {
-    NO_FENCE: { length: NONE, byte: 0 },
-    NO_ITEM: { length: NONE, start: 0, indent: 0, delimiter: 0 },
-};
+const FILES = ["line_starts.c", "rows.c", "runs.c", "skips.c"];
 const TAGS_AND_LABELS = /^(CELL|(NO_)?(TAG|LABEL)(_AT)?)$/;
 
 /** What stands in a row of rows.py: bytes, large numbers, calls and variables. */
@@ -93,13 +72,9 @@ class Rows {
         if (found !== undefined && typeof found !== "object" && !isNamed) this.same(row, Number(found), Number(wanted));
     }
 
-    checkCall(row, call, ...wanted) {
+    checkEnd(row, call, status, end) {
         const found = this.found(call);
-        FIELDS[row.macro].slice(0, wanted.length).forEach((field, index) => {
-            assert.deepEqual(plain(found[field]), plain(wanted[index]), `${row.file}, line ${row.line}: ${field}`);
-        });
-        const nothing = NOTHING[row.macro] ?? {};
-        this.same(row, Object.fromEntries(Object.keys(nothing).map((it) => [it, found[it]])), nothing);
+        this.same(row, [found.status, found.end], [status, end]);
     }
 
     checkText(row, found, status, taken, text) {
@@ -124,13 +99,6 @@ class Rows {
         this.same(row, true, true);
     }
 
-    checkPart(row, data) {
-        const [call, at] = WHOLE[row.macro.replace("NO_", "")];
-        const found = this.found({ call, given: [data, at] });
-        const wanted = row.macro.startsWith("NO_") ? [c.NOTHING, 0, 0] : [c.OK, data.length, 1];
-        this.same(row, [found.status, found.end, found.start], wanted);
-    }
-
     checkMade(row, call, data, ...wanted) {
         if (!(call.name in CALLS)) return;
         const all = row.macro === "MAKES" ? [c.OK, ...wanted] : [wanted[0], 0, ""];
@@ -152,8 +120,7 @@ class Rows {
         if (macro === "let") this.let(...given);
         else if (macro === "SAME") this.checkSame(row, ...given);
         else if (this.lines.checks(row)) this.lines.check(row);
-        else if (macro in FIELDS) this.checkCall(row, ...given);
-        else if (macro.replace("NO_", "") in WHOLE) this.checkPart(row, ...given);
+        else if (macro === "END") this.checkEnd(row, ...given);
         else if (macro === "MAKES" || macro === "REFUSES") this.checkMade(row, ...given);
         else if (TAGS_AND_LABELS.test(macro)) this.checkOver(row, ...given);
         else if (macro === "WRONG") this.checkWrong(row, ...given);

@@ -1,4 +1,7 @@
-"""Reads the rows of packages/c/tests: which calls they make, of which bytes, and what is wanted of each."""
+"""Reads the rows of packages/c/tests: which calls they make, of which bytes, and what is wanted of each. Rows of one call on one text
+are in packages/rows.tsv, which rows_table.py reads; what only C can compute is counted, so that no row is left out unseen."""
+import ast
+import operator
 import re
 from dataclasses import dataclass, field
 from pathlib import Path
@@ -35,9 +38,13 @@ def without_comments(text):
     return re.sub(r'("(?:[^"\\]|\\.)*")|/\*.*?\*/', lambda it: it[1] or "\n" * it[0].count("\n"), text, flags=re.S)
 
 
+class NotUnderstood(Exception):
+    """A row has what only C can compute."""
+
+
 def inside(text, start):
     """What stands between the bracket before the place and the one that closes it, split at its commas."""
-    depth, parts, at = 0, [""], start
+    depth, parts = 0, [""]
     for it in re.finditer(r"""'(?:[^'\\]|\\.)'|"(?:[^"\\]|\\.)*"|.""", text[start:], re.S):
         token = it[0]
         depth += (token in "([{") - (token in ")]}")
@@ -47,11 +54,7 @@ def inside(text, start):
             parts.append("")
         else:
             parts[-1] += token
-    raise ValueError(f"nothing closes {text[at:at + 40]}")
-
-
-class NotUnderstood(Exception):
-    """A row has what only C can compute."""
+    raise NotUnderstood(f"nothing closes {text[start:start + 40]}")
 
 
 @dataclass
@@ -102,7 +105,22 @@ def number(text):
     words = re.findall(r"\w+|[-+*/()]", text)
     if "".join(words) != re.sub(r"\s", "", text) or not all(it in NAMES or not it[0].isalpha() for it in words):
         raise NotUnderstood(text)
-    return eval("".join("//" if it == "/" else str(NAMES.get(it, it)) for it in words))  # of numbers and signs alone
+    try:
+        return computed(ast.parse("".join("//" if it == "/" else str(int(NAMES.get(it, it)) if it in NAMES else it) for it in words), mode="eval").body)
+    except SyntaxError:
+        raise NotUnderstood(text) from None
+
+
+SIGNS = {ast.Add: operator.add, ast.Sub: operator.sub, ast.Mult: operator.mul, ast.FloorDiv: operator.floordiv}
+
+
+def computed(node):
+    """A number of numbers and signs."""
+    if isinstance(node, ast.Constant):
+        return node.value
+    if isinstance(node, ast.BinOp) and type(node.op) in SIGNS:
+        return SIGNS[type(node.op)](computed(node.left), computed(node.right))
+    raise NotUnderstood(ast.dump(node))
 
 
 def called(name, given, end, text):
@@ -133,8 +151,8 @@ def arguments(given):
     return found
 
 
-def rows_of(name):
-    """The rows of a file, in order; those that only C can compute are left out."""
+def steps_of(name):
+    """The rows of a file, in order, and None for each that only C can compute."""
     text = without_comments((FOLDER / name).read_text())
     text = re.sub(r"^ *#define (?:.*\\\n)*.*$", lambda it: "\n" * it[0].count("\n"), text, flags=re.M)
     at = 0
@@ -146,8 +164,18 @@ def rows_of(name):
             elif found[3]:
                 given, at = inside(text, at)
                 yield Row(name, line, found[3], [value(it) for it in given])
-        except (NotUnderstood, SyntaxError, ValueError, KeyError, IndexError):
-            continue
+        except NotUnderstood:
+            yield None
+
+
+def rows_of(name):
+    """The rows of a file, in order; those that only C can compute are left out."""
+    return [it for it in steps_of(name) if it]
+
+
+def left_to_c(name):
+    """How many rows of a file only C can compute."""
+    return sum(it is None for it in steps_of(name))
 
 
 def let(text):

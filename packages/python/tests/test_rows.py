@@ -1,5 +1,5 @@
-"""The rows of packages/c/tests, which C checks of the functions, checked of the package's calls: the same answers, or more of
-None and exceptions. The file totals of this folder has how many there are of each file; fewer and more fail."""
+"""The rows of packages/rows.tsv and of packages/c/tests, which C checks of the functions, checked of the package's calls: the same
+answers, or more of None and exceptions. The file totals of this folder has how many there are of each file; fewer and more fail."""
 import itertools
 import sys
 import unittest
@@ -8,6 +8,7 @@ from pathlib import Path
 
 import c_rows
 import markdown_scanners as mds
+import rows_table
 from c_calls import BEHIND, CALLS, FORMS, Data, as_bytes, check_skips, label, tag, told
 from c_rows import SIZE_MAX as NONE
 from c_rows import Call, Name
@@ -16,26 +17,35 @@ from markdown_scanners import _c
 sys.path.append(str(Path(__file__).resolve().parents[3] / "docs"))
 import totals_file
 
-FILES = ["bytes.c", "line_starts.c", "rows.c", "runs.c", "skips.c"]
-# Of a macro that checks one call, which fields of the answer it names.
-FIELDS = {
-    "PART": ("end", "start", "length"), "NO_PART": ("status",), "FENCE": ("length", "byte"), "BREAK": ("length",),
-    "NO_BREAK": ("none_before",), "END": ("status", "end"), "NO_FENCE": (), "NO_ITEM": (),
-    "DEFINITION": (
-        "end", "label_start", "label_length", "destination_start", "destination_length", "title_start", "title_length"),
-    "NO_DEFINITION": ("status",), "RUN": ("byte", "count", "can_open", "can_close"), "NO_RUN": ("status",),
-}
-# Of a macro that checks one part, which takes all bytes, the call and its place.
-WHOLE = {"URI": ("mds_scan_autolink", 1), "EMAIL": ("mds_scan_email_autolink", 1), "TITLE": ("mds_scan_link_title", 0)}
+FILES = ["line_starts.c", "rows.c", "runs.c", "skips.c"]
+STATUSES = ["OK", "NOTHING", "NOT_UTF8", "PAST_END", "TOO_LARGE", "BAD_KIND"]
 # The calls that are methods of a line start.
 LINE_CALLS = {f"mds_line_{it}" for it in (
     "space", "upto", "all_space", "eol", "quote", "list", "definition", "task", "alert")}
-NOTHING = {"NO_FENCE": {"length": NONE, "byte": 0}, "NO_ITEM": {"length": NONE, "start": 0, "indent": 0, "delimiter": 0}}
 
 
 def hold(test, name, tried):
     """So many are tried as the file totals says."""
     test.assertEqual(totals_file.fault(Path(__file__).parent / "totals", name, tried), "")
+
+
+def statuses():
+    """The names of the statuses, by their numbers."""
+    names = {name: number for name, number in vars(_c).items() if name.isupper() and isinstance(number, int)}
+    return {names[name]: f"MDS_{name}" for name in STATUSES}
+
+
+class Table(unittest.TestCase):
+    """The rows that all packages read."""
+
+    def test_table(self):
+        rows, names = rows_table.rows(), statuses()
+        for row in rows:
+            for form in FORMS:
+                found = CALLS[f"mds_{row.call}"](Data(row.text, form), *row.arguments)
+                answer = names[found] if row.call == "ends_html_block" else rows_table.printed(found, names)
+                self.assertEqual(answer, row.answer, f"packages/rows.tsv, line {row.line}, {form}")
+        hold(self, "rows.tsv", len(rows))
 
 
 class Lines:
@@ -123,11 +133,9 @@ class Rows(unittest.TestCase):
         elif isinstance(value, Call) and value.name in CALLS and isinstance(value.given[0], bytes):
             self.variables[name] = self.found(value)
 
-    def check_call(self, row, call, *wanted):
-        found, fields = self.found(call), FIELDS[row.macro]
-        for field, it in zip(fields, wanted):
-            self.assertEqual(found[field], it, f"{row}, {field}")
-        self.same(row, {it: found[it] for it in NOTHING.get(row.macro, {})}, NOTHING.get(row.macro, {}))
+    def check_end(self, row, call, status, end):
+        found = self.found(call)
+        self.same(row, (found["status"], found["end"]), (status, end))
 
     def check_text(self, row, found, status, taken, text):
         self.same(row, (found["status"], found["taken"], found["text"]), (status, taken, text))
@@ -226,15 +234,10 @@ class Rows(unittest.TestCase):
             found = self.value(given[0])
             if found is not None and not isinstance(given[1], (Call, Name)) and not isinstance(found, dict):
                 self.same(row, found, given[1])
-        elif macro in ("AT", "ITEM", "COLUMNS") or macro == "NO_ITEM" and len(given) == 2:
+        elif macro in ("AT", "ITEM", "COLUMNS", "NO_ITEM"):
             self.check_start(row, *given)
-        elif macro in FIELDS:
-            self.check_call(row, *given)
-        elif macro.removeprefix("NO_") in WHOLE:
-            name, at = WHOLE[macro.removeprefix("NO_")]
-            found = self.found(Call(name, [given[0], at]))
-            wanted = (_c.NOTHING, 0, 0) if macro.startswith("NO_") else (_c.OK, len(given[0]), 1)
-            self.same(row, (found["status"], found["end"], found["start"]), wanted)
+        elif macro == "END":
+            self.check_end(row, *given)
         elif macro in ("MAKES", "REFUSES") and given[0].name in CALLS:
             wanted = (_c.OK, *given[2:]) if macro == "MAKES" else (given[2], 0, b"")
             self.check_text(row, self.found(Call(given[0].name, [given[1]])), *wanted)
@@ -260,6 +263,7 @@ class Rows(unittest.TestCase):
         self.assertEqual(set(self.tried), set(FILES))
         for name in FILES:
             hold(self, name, self.tried[name])
+        hold(self, "left_to_c", sum(map(c_rows.left_to_c, FILES)))
 
 
 if __name__ == "__main__":

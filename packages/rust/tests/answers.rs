@@ -7,6 +7,7 @@ use std::panic::catch_unwind;
 use markdown_scanners::*;
 
 mod readers;
+mod table;
 
 #[test]
 fn nothing() {

@@ -1,0 +1,214 @@
+//! The rows of packages/rows.tsv, one call on one text each, which the tests of all packages share.
+
+use std::fs;
+
+use markdown_scanners::*;
+
+const FILE: &str = concat!(env!("CARGO_MANIFEST_DIR"), "/../rows.tsv");
+const KINDS: [HtmlBlockKind; 7] = [
+    HtmlBlockKind::RawText,
+    HtmlBlockKind::Comment,
+    HtmlBlockKind::Processing,
+    HtmlBlockKind::Declaration,
+    HtmlBlockKind::Cdata,
+    HtmlBlockKind::BlockName,
+    HtmlBlockKind::TagAlone,
+];
+
+/// A row: its call, its text, and of its other arguments up to two numbers or a second text.
+struct Row {
+    call: String,
+    text: Vec<u8>,
+    one: usize,
+    two: usize,
+    other: Vec<u8>,
+    answer: String,
+}
+
+/// The bytes of a text as the file has it.
+fn read_text(text: &str) -> Vec<u8> {
+    let mut bytes = vec![];
+    let mut rest = text.bytes();
+    while let Some(byte) = rest.next() {
+        bytes.push(match (byte, byte == b'\\') {
+            (byte, false) => byte,
+            _ => match rest.next() {
+                Some(b'n') => b'\n',
+                Some(b'r') => b'\r',
+                Some(b't') => b'\t',
+                Some(b'\\') => b'\\',
+                Some(b'x') => {
+                    let digits = [rest.next().unwrap(), rest.next().unwrap()];
+                    u8::from_str_radix(std::str::from_utf8(&digits).unwrap(), 16).unwrap()
+                }
+                kind => panic!("no escape: {kind:?} in {text}"),
+            },
+        });
+    }
+    bytes
+}
+
+fn read_number(word: &str) -> usize {
+    match word {
+        "max" => usize::MAX,
+        "true" => 1,
+        "false" => 0,
+        _ => word.parse().unwrap(),
+    }
+}
+
+fn read_row(line: &str) -> Row {
+    let columns: Vec<&str> = line.split('\t').collect();
+    let [call, text, arguments, answer] = columns[..] else { panic!("not four columns: {line}") };
+    let mut row =
+        Row { call: call.into(), text: read_text(text), one: 0, two: 0, other: vec![], answer: answer.into() };
+    if matches!(call, "scan_while" | "scan_rev_while") {
+        row.other = read_text(if arguments == "-" { "" } else { arguments });
+        return row;
+    }
+    let numbers: Vec<usize> = arguments.split_whitespace().map(read_number).collect();
+    assert!(numbers.len() <= 2, "too many arguments: {line}");
+    row.one = numbers.first().copied().unwrap_or(0);
+    row.two = numbers.get(1).copied().unwrap_or(0);
+    row
+}
+
+/// A length as the file has it.
+fn length(found: Option<usize>) -> String {
+    found.map_or("none".into(), |it| it.to_string())
+}
+
+fn fence(found: Option<(usize, u8)>) -> String {
+    format!("length={} byte={}", length(found.map(|it| it.0)), found.map_or(0, |it| it.1))
+}
+
+/// A part of the text, where it ends or how many bytes it takes from the start on.
+fn part(data: &[u8], start: usize, found: Option<(usize, &[u8])>) -> Option<String> {
+    let (end, part) = found?;
+    let at = part.as_ptr() as usize - data.as_ptr() as usize;
+    Some(format!("end={} start={at} length={}", start + end, part.len()))
+}
+
+/// The calls whose answer is one number.
+fn number(row: &Row) -> Option<String> {
+    let data = &row.text[..];
+    let byte = row.one as u8;
+    Some(match &row.call[..] {
+        "is_utf8" => usize::from(std::str::from_utf8(data).is_ok()).to_string(),
+        "scan_ch" => scan_ch(data, byte).to_string(),
+        "scan_ch_repeat" => scan_ch_repeat(data, byte).to_string(),
+        "scan_while" => scan_while(data, &row.other).to_string(),
+        "scan_rev_while" => scan_rev_while(data, &row.other).to_string(),
+        "scan_whitespace_in_line" => scan_whitespace_no_nl(data).to_string(),
+        "scan_eol" => length(scan_eol(data)),
+        "scan_line" => scan_line(data).to_string(),
+        "scan_nextline" => scan_nextline(data).to_string(),
+        "scan_blank_line" => length(scan_blank_line(data)),
+        "scan_blockquote_start" => length(scan_blockquote_start(data)),
+        "scan_atx_heading" => scan_atx_heading(data).map_or(0, |level| level as usize).to_string(),
+        "scan_closing_code_fence" => length(scan_closing_code_fence(data, byte, row.two)),
+        "scan_closing_metadata_block" => length(scan_closing_metadata_block(data, byte)),
+        "interrupts_paragraph" => usize::from(interrupts_paragraph(data)).to_string(),
+        "starts_html_block_type_6" => usize::from(starts_html_block_type_6(data)).to_string(),
+        "scan_html_type_7" => length(scan_html_type_7(data)),
+        "scan_html_tag" => length(scan_html_tag(data)),
+        "scan_html_block_start" => {
+            let kind = scan_html_block_start(data);
+            kind.map_or(0, |kind| 1 + KINDS.iter().position(|it| *it == kind).unwrap()).to_string()
+        }
+        _ => return None,
+    })
+}
+
+/// The calls whose answer has fields and is never refused, but for the limit of `calc_indent`.
+fn fields(row: &Row) -> Option<String> {
+    let data = &row.text[..];
+    Some(match &row.call[..] {
+        "scan_code_fence" => fence(scan_code_fence(data)),
+        "scan_metadata_block" => fence(scan_metadata_block(data, row.one == 1, row.two == 1)),
+        "scan_hrule" => {
+            let found = scan_hrule(data);
+            format!("length={} none_before={}", length(found.ok()), found.err().unwrap_or(0))
+        }
+        "scan_setext_heading" => {
+            let found = scan_setext_heading(data);
+            format!("length={} level={}", length(found.map(|it| it.0)), found.map_or(0, |it| it.1 as usize))
+        }
+        "scan_listitem" => scan_listitem(data).map_or("length=none start=0 indent=0 delimiter=0".into(), |it| {
+            format!("length={} start={} indent={} delimiter={}", it.length, it.start, it.indent, it.delimiter)
+        }),
+        _ => return None,
+    })
+}
+
+/// The calls that may refuse a start or a limit, or find nothing: `None` then.
+fn found(row: &Row) -> Option<String> {
+    let (data, start) = (&row.text[..], row.one);
+    match &row.call[..] {
+        "scan_link_dest" => part(data, start, scan_link_dest_bytes(data, start, row.two)),
+        "scan_link_title" => part(data, start, scan_link_title_bytes(data, start)),
+        "scan_autolink" => part(data, 0, scan_autolink_bytes(data, start)),
+        "scan_email_autolink" => part(data, 0, scan_email_autolink_bytes(data, start)),
+        "scan_code_span" => part(data, 0, scan_code_span_bytes(data, start)),
+        "scan_wikilink_pipe" => part(data, 0, scan_wikilink_pipe_bytes(data, start, row.two)),
+        "calc_indent" => {
+            let (place, columns) = (row.one <= usize::MAX / 4).then(|| calc_indent(data, row.one))?;
+            Some(format!("place={place} columns={columns}"))
+        }
+        "scan_delimiter_run" => {
+            let run = std::str::from_utf8(data)
+                .ok()
+                .filter(|it| it.is_char_boundary(start))
+                .and_then(|it| scan_delimiter_run(it, start))?;
+            let (open, close) = (usize::from(run.can_open), usize::from(run.can_close));
+            Some(format!("byte={} count={} can_open={open} can_close={close}", run.byte, run.count))
+        }
+        "scan_reference_definition" => definition(data, start, row.two),
+        call => panic!("no such call: {call}"),
+    }
+}
+
+fn definition(data: &[u8], start: usize, max_next: usize) -> Option<String> {
+    let found = scan_reference_definition(data.get(start..)?, max_next)?;
+    let (label, destination) = (found.label, found.destination);
+    let title = found.title.as_ref();
+    Some(format!(
+        "end={} label_start={} label_length={} destination_start={} destination_length={} title_start={} title_length={}",
+        start + found.len,
+        start + label.start,
+        label.len(),
+        start + destination.start,
+        destination.len(),
+        length(title.map(|it| start + it.start)),
+        title.map_or(0, |it| it.len()),
+    ))
+}
+
+/// Whether the row is one that Rust's types leave out: a text that is not UTF-8 before a call that takes a `str`.
+fn is_left_out(row: &Row) -> bool {
+    row.call == "scan_delimiter_run" && std::str::from_utf8(&row.text).is_err()
+}
+
+fn check(row: &Row) {
+    if row.call == "ends_html_block" {
+        let kind = row.one.checked_sub(1).and_then(|it| KINDS.get(it));
+        let answer =
+            kind.map_or(
+                "MDS_BAD_KIND",
+                |kind| if ends_html_block(&row.text, *kind) { "MDS_OK" } else { "MDS_NOTHING" },
+            );
+        return assert_eq!(answer, row.answer, "{:?}", row.text);
+    }
+    let answer = number(row).or_else(|| fields(row)).or_else(|| found(row));
+    let wanted = (!row.answer.starts_with("MDS_")).then_some(&row.answer);
+    assert_eq!(answer.as_ref(), wanted, "{} of {:?}", row.call, String::from_utf8_lossy(&row.text));
+}
+
+#[test]
+fn rows_of_the_table() {
+    let file = fs::read_to_string(FILE).unwrap();
+    let rows: Vec<Row> = file.lines().filter(|line| !line.starts_with('#')).map(read_row).collect();
+    assert!(rows.len() > 300);
+    assert!(rows.iter().filter(|row| is_left_out(row)).count() < 10);
+    rows.iter().filter(|row| !is_left_out(row)).for_each(check);
+}
