@@ -90,7 +90,7 @@ def faults_of_answers(text):
     for call, clause, lemma in rows:
         if call not in calls or clause not in calls[call].clauses or not is_lemma(lemma):
             yield f"one answer: {call} has no clause {clause}, or there is no lemma {lemma}"
-    yield from [f"one answer: lacks {it.name}" for it in calls.values() if "only" in it.clauses and it.name not in named]
+    yield from [f"one answer: {it.name} is missing" for it in calls.values() if "only" in it.clauses and it.name not in named]
 
 
 def faults_of_rows(text):
@@ -113,4 +113,4 @@ def faults_of_rows(text):
             if title is None:
                 yield f"no row names {item.name}"
             elif missing:
-                yield f"{title}: lacks {', '.join(missing)} of {item.name}"
+                yield f"{title}: needs {', '.join(missing)} of {item.name}"

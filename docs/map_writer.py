@@ -1,6 +1,6 @@
 """Writes the computed part of docs/MAP.md: the names of calls, types and files in its items, and the totals of its head.
 
-A name that the tree has not is taken out. One that the page lacks, or has at another module, is put into the item of its module,
+A name that the tree has not is taken out. One that the page has not, or has at another module, is put into the item of its module,
 after the one that comes before it in the code. What an item says beside its names stays, and so does each item whose names are
 right.
 """

@@ -2,7 +2,7 @@
  *
  * They stand over the libraries `markdown_scanners_tree`, `markdown_inlines`, `markdown_blocks` and `markdown_html`, and each is
  * proved to answer what their definitions say, after CommonMark 0.31.2 (https://spec.commonmark.org/0.31.2/), whose sections stand in
- * brackets below. They are scanners: each reads from the front of the bytes that it is given, or from a place in them, and
+ * brackets below. They are scanners: each reads from the front of the bytes that it is given, or from an offset in them, and
  * says what begins there. None looks for the next construct, so a caller goes through its document and asks. But
  * mds_scan_blocks reads a page, and says which blocks it has, and mds_scan_inlines the text of a block, and says which inlines.
  * mds_block_line reads a page that comes piece by piece. mds_html and mds_safe_html make the HTML of a page.
@@ -19,10 +19,10 @@
  * struct, as a `struct mds_line_start` or a `struct mds_html_guard`, is never null: it has no length beside it, no call tests
  * it, and with a null one the program crashes.
  *
- * Units. Lengths, capacities and places are in bytes, those of an array of another type in its elements. Places count
+ * Units. Lengths, capacities and offsets are in bytes, those of an array of another type in its elements. Offsets count
  * from 0. Columns and indents are in columns of a line whose tabs go to stops of four (2.2).
  *
- * Answers. A length or a place that there may be none of is `MDS_NONE` where there is none. Calls that can refuse what
+ * Answers. A length or an offset that there may be none of is `MDS_NONE` where there is none. Calls that can refuse what
  * they are given answer a status of `enum mds_status`, most as the field `status` of a struct: `MDS_OK` where there is
  * an answer, `MDS_NOTHING` where nothing of the kind stands there, and else why they refused. The other fields mean
  * something where the comment of the struct says so, and are 0 otherwise.
@@ -80,7 +80,7 @@ extern "C" {
  */
 uint32_t mds_version(void);
 
-/* In place of a length or a place, where nothing is found. */
+/* In place of a length or an offset, where nothing is found. */
 #define MDS_NONE SIZE_MAX
 
 /* What a call comes to. */
@@ -88,21 +88,21 @@ enum mds_status {
     MDS_OK = 0,             /* an answer */
     MDS_NOTHING = 1,        /* nothing of the kind stands there */
     MDS_NOT_UTF8 = 2,       /* the text is not UTF-8 */
-    MDS_PAST_END = 3,       /* the place is past the end of the bytes */
-    MDS_BAD_SKIPS = 4,      /* the table of what is left out is none of the text */
+    MDS_PAST_END = 3,       /* the offset is past the end of the bytes */
+    MDS_BAD_SKIPS = 4,      /* the table of what is left out does not match the text */
     MDS_TOO_LARGE = 5,      /* a limit or an indent is so large that columns can't be added to it */
     MDS_EMPTY = 6,          /* there are no bytes */
     MDS_TOO_SHORT = 7,      /* the buffer is too short */
     MDS_NO_MEMORY = 8,      /* memory was refused */
-    MDS_NO_OPENER = 9,      /* no `<!` or `<?` ends at the place */
-    MDS_NOT_RISING = 10,    /* the place is not above the one before it */
-    MDS_INSIDE_FIND = 11,   /* the place is inside what was found before it */
+    MDS_NO_OPENER = 9,      /* no `<!` or `<?` ends at the offset */
+    MDS_NOT_RISING = 10,    /* the offset is not above the one before it */
+    MDS_INSIDE_FIND = 11,   /* the offset is inside what was found before it */
     MDS_SPACE_PENDING = 12, /* columns of a tab are pending, and the call is not one that takes space */
     MDS_BAD_KIND = 13,      /* a call or a block has no known kind, or an extension or an option is not known */
     MDS_BAD_STATE = 14      /* a line start has numbers that none has on these bytes, or what is said to be open is no container */
 };
 
-/* The name of a status, as "MDS_OK"; "unknown" of a number that is none. */
+/* The name of a status, as "MDS_OK"; "unknown" of a number that is not one. */
 static inline const char *mds_status_name(uint32_t status) {
     switch (status) {
     case MDS_OK: return "MDS_OK";
@@ -125,7 +125,7 @@ static inline const char *mds_status_name(uint32_t status) {
 }
 
 /* A text for the caller's buffer, where the status is MDS_OK, and at its front; where it is MDS_TOO_SHORT the buffer is
- * as it was, and `taken` and `length` are told all the same. */
+ * as it was, and `taken` and `length` are set all the same. */
 struct mds_text {
     uint32_t status;
     size_t taken;  /* bytes of the input that it stands for */
@@ -216,7 +216,7 @@ size_t mds_scan_eol(const void *bytes, size_t length);
  */
 size_t mds_scan_line(const void *bytes, size_t length);
 
-/* The place behind the first LF, or the length where there is none. It knows LF alone: where lines may end in CR, ask
+/* The offset after the first LF, or the length where there is none. It knows LF alone: where lines may end in CR, ask
  * mds_scan_line.
  *
  *     mds_scan_nextline("a\rb\nc", 5) == 4
@@ -238,14 +238,14 @@ size_t mds_scan_blockquote_start(const void *bytes, size_t length);
 
 /* A list item. Where there is none `length` is MDS_NONE. */
 struct mds_list_item {
-    size_t length;     /* bytes of the marker and of the white space behind it that belongs to it */
+    size_t length;     /* bytes of the marker and of the white space after it that belongs to it */
     size_t start;      /* the number of an ordered item, else 0 */
     size_t indent;     /* columns of the marker and that space, at least one of it; tabs count from the marker's end */
     uint8_t delimiter; /* `-`, `+` or `*`; `.` or `)` of an ordered item */
 };
 
 /* The list item that begins at the front. (5.2) Tab stops count from the marker's end. Two kinds are items here that
- * are none to MDS_LIST below: a thematic break such as `- - -`, and a marker before a blank rest that begins with a
+ * are not items to MDS_LIST below: a thematic break such as `- - -`, and a marker before a blank rest that begins with a
  * vertical tab or a form feed. A parser that ends a paragraph by this call and begins the item by MDS_LIST loses the
  * second kind, so it asks MDS_LIST both times.
  *
@@ -263,7 +263,7 @@ struct mds_indent {
 
 /* The columns of the spaces and tabs at the front. A space that fills `max` columns is counted and ends the scan; a tab
  * that would go past `max` ends it uncounted, as each other byte does. So spaces are counted on where `max` is 0, and
- * behind a tab that fills it. `max` is SIZE_MAX / 4 at most. (2.2)
+ * after a tab that fills it. `max` is SIZE_MAX / 4 at most. (2.2)
  *
  *     struct mds_indent indent = mds_calc_indent("  a", 3, 4);
  *     indent.place == 2 && indent.columns == 2
@@ -272,25 +272,25 @@ struct mds_indent mds_calc_indent(const void *bytes, size_t length, size_t max);
 
 /* ---- Line starts ---- */
 
-/* A place in a line that is read column by column. It is the caller's: all 0 at the front of a line, `{0}`, and then
+/* A position in a line that is read column by column. It is the caller's: all 0 at the front of a line, `{0}`, and then
  * moved by the calls below. The pointer to it is not null. It belongs to the bytes of one line, from the line's front
- * on; they may go on behind it, up to the end of the text, and are passed whole to each call, from their front. A copy of
+ * on; they may go on after it, up to the end of the text, and are passed whole to each call, from their front. A copy of
  * the struct goes on by itself.
  *
  * `none_before` and `behind_break` are what is known of the thematic breaks in the line, of which a bullet may be the
- * first byte. Keep them, or the bytes behind each bullet are read once more.
+ * first byte. Keep them, or the bytes after each bullet are read once more.
  *
  * Whatever the numbers are the calls are safe, and read none but the bytes that are passed. They answer MDS_BAD_STATE
  * where `place` is above the length, or `pending` or `phase` is above 3; then the struct is left as it was. Else a
- * call leaves a place that is not before the old one, and numbers that are not refused. Numbers that no call has left
- * there have an answer too, as from that place; only that of mds_line_list, or of MDS_LIST and what comes behind it in a
+ * call leaves an offset that is not before the old one, and numbers that are not refused. Numbers that no call has left
+ * there have an answer too, as from that offset; only that of mds_line_list, or of MDS_LIST and what comes after it in a
  * run, may then be a wrong one, where `none_before` and `behind_break` are not true of the line. */
 struct mds_line_start {
     size_t place;        /* how many bytes have been passed */
     size_t pending;      /* columns of the last tab that have not been taken: 3 at most */
-    size_t phase;        /* the column of the place modulo four, or 0 to 3 */
-    size_t none_before;  /* no thematic break begins at a place from the present one up to this one */
-    size_t behind_break; /* a thematic break begins just before this place, where it is not 0 */
+    size_t phase;        /* the column of the offset modulo four, or 0 to 3 */
+    size_t none_before;  /* no thematic break begins at an offset from the present one up to this one */
+    size_t behind_break; /* a thematic break begins just before this offset, where it is not 0 */
 };
 
 /* Columns, where the status is MDS_OK. */
@@ -323,7 +323,7 @@ struct mds_columns mds_line_upto(const void *bytes, size_t length, struct mds_li
  */
 uint32_t mds_line_all_space(const void *bytes, size_t length, struct mds_line_start *start);
 
-/* Whether LF, CR or the end of the bytes stands at the place; pending columns are looked past. MDS_OK, MDS_NOTHING or
+/* Whether LF, CR or the end of the bytes stands at the offset; pending columns are looked past. MDS_OK, MDS_NOTHING or
  * MDS_BAD_STATE. It reads one byte.
  *
  *     struct mds_line_start start = {0};
@@ -350,10 +350,10 @@ struct mds_line_item {
 };
 
 /* Passes a list item's marker and the columns that belong to it, at an indent of `indent` columns, SIZE_MAX - 16 at
- * most. MDS_OK; MDS_NOTHING where there is none, or where a thematic break begins, and the place stays;
+ * most. MDS_OK; MDS_NOTHING where there is none, or where a thematic break begins, and the offset stays;
  * MDS_TOO_LARGE; MDS_BAD_STATE. Pending columns are looked past, so take up to four columns first: where there are
  * four, no item begins there, as no block quote does. mds_scan_listitem finds two kinds more. It reads the marker,
- * the space behind it and a blank rest of the line; and of a bullet the line's bytes up to the first that stands in
+ * the space after it and a blank rest of the line; and of a bullet the line's bytes up to the first that stands in
  * no thematic break, once as long as the numbers are kept. (5.2)
  *
  *     struct mds_line_start start = {0};
@@ -364,7 +364,7 @@ struct mds_line_item mds_line_list(const void *bytes, size_t length, struct mds_
 
 /* Passes a definition's marker, `:` and the columns that belong to it, at an indent of `indent` columns, SIZE_MAX - 16
  * at most; the columns are the indent of what the definition holds. MDS_OK, MDS_NOTHING where there is none and the
- * place stays, MDS_TOO_LARGE, MDS_BAD_STATE. It reads six bytes. (An extension of pulldown-cmark)
+ * offset stays, MDS_TOO_LARGE, MDS_BAD_STATE. It reads six bytes. (An extension of pulldown-cmark)
  *
  *     struct mds_line_start start = {0};
  *     mds_line_definition(": a", 3, &start, 0).columns == 2
@@ -377,8 +377,8 @@ struct mds_task {
     bool checked;
 };
 
-/* Passes up to three columns of space and a task list item's box, `[ ]`, `[x]` or `[X]`, behind which white space
- * stands and is not taken. MDS_OK; MDS_NOTHING where there is none, and the place stays; MDS_BAD_STATE. It reads seven
+/* Passes up to three columns of space and a task list item's box, `[ ]`, `[x]` or `[X]`, after which white space
+ * stands and is not taken. MDS_OK; MDS_NOTHING where there is none, and the offset stays; MDS_BAD_STATE. It reads seven
  * bytes. (GitHub Flavored Markdown 0.29, 5.3)
  *
  *     struct mds_line_start start = {0};
@@ -402,7 +402,7 @@ struct mds_alert {
 };
 
 /* Passes the line of an alert, `[!NOTE]` or another of the names in any case, with the blank rest of its line and the
- * line ending. MDS_OK; MDS_NOTHING where there is none, and the place stays; MDS_BAD_STATE. It reads those bytes. (An
+ * line ending. MDS_OK; MDS_NOTHING where there is none, and the offset stays; MDS_BAD_STATE. It reads those bytes. (An
  * extension of GitHub)
  *
  *     struct mds_line_start start = {0};
@@ -412,7 +412,7 @@ struct mds_alert mds_line_alert(const void *bytes, size_t length, struct mds_lin
 
 /* ---- Runs of calls on a line start ---- */
 
-/* What a call of a run reads at the place that the calls before it have reached, column by column. */
+/* What a call of a run reads at the offset that the calls before it have reached, column by column. */
 enum mds_line_call_kind {
     MDS_SPACE = 0,     /* `number` columns of space, or fewer where there are fewer: found where there were as many */
     MDS_UPTO = 1,      /* at most `number` columns of space: how many */
@@ -459,9 +459,9 @@ struct mds_line_run mds_run_line(
     const void *bytes, size_t length, struct mds_line_start *start, const struct mds_line_call *calls, size_t call_count,
     struct mds_line_answer *answers, size_t capacity);
 
-/* What is left of the bytes from the line start on: pending columns as spaces, then the bytes from its place on, of which
+/* What is left of the bytes from the line start on: pending columns as spaces, then the bytes from its offset on, of which
  * the tabs before the first line ending are written out as spaces. So for the rest of a line give its bytes alone.
- * `taken` is how many bytes stand from the place on; four bytes for each of these, and one for each pending column, are
+ * `taken` is how many bytes stand from the offset on; four bytes for each of these, and one for each pending column, are
  * room enough. It goes through them twice. MDS_OK, MDS_TOO_SHORT or MDS_BAD_STATE. (2.2)
  *
  *     struct mds_line_start start = {0};
@@ -476,7 +476,7 @@ struct mds_text mds_line_rest(
 /* A thematic break. Where there is none `length` is MDS_NONE. */
 struct mds_break {
     size_t length;      /* bytes of its line, with the ending */
-    size_t none_before; /* of none: no thematic break begins at a place before this one; 0 of a break */
+    size_t none_before; /* of none: no thematic break begins at an offset before this one; 0 of a break */
 };
 
 /* The thematic break at the front. Of a line such as `* * * a` each bullet could begin one, and none does: who keeps
@@ -519,7 +519,7 @@ struct mds_fence {
  */
 struct mds_fence mds_scan_code_fence(const void *bytes, size_t length);
 
-/* The length of the closing code fence at the front, with the spaces and tabs behind it and without its line ending, of
+/* The length of the closing code fence at the front, with the spaces and tabs after it and without its line ending, of
  * a fence that was opened by `count` of the byte `fence`; or MDS_NONE. Of no bytes it is 0: the end closes a fence too.
  * (4.5)
  *
@@ -541,7 +541,7 @@ struct mds_fence mds_scan_metadata_block(const void *bytes, size_t length, bool 
  */
 size_t mds_scan_closing_metadata_block(const void *bytes, size_t length, uint8_t fence);
 
-/* Whether the line at the front can interrupt a paragraph, behind at most three columns of indent: a thematic break, an
+/* Whether the line at the front can interrupt a paragraph, after at most three columns of indent: a thematic break, an
  * ATX heading, an opening code fence, a block quote marker, a list item that is not blank and has a bullet or the number
  * 1, or an HTML block whose kind is not MDS_HTML_TAG_ALONE. Blank lines and setext heading underlines end a paragraph
  * too, and interrupt none. (4.8, and 4.1, 4.2, 4.5, 4.6, 5.1, 5.2)
@@ -550,22 +550,22 @@ size_t mds_scan_closing_metadata_block(const void *bytes, size_t length, uint8_t
  */
 bool mds_interrupts_paragraph(const void *bytes, size_t length);
 
-/* A link reference definition, where the status is MDS_OK: the places of its parts, as they are written there, and how many
- * bytes they have. It is MDS_NOTHING where there is none, and MDS_PAST_END where the place is past the end of the bytes.
+/* A link reference definition, where the status is MDS_OK: the offsets of its parts, as they are written there, and how many
+ * bytes they have. It is MDS_NOTHING where there is none, and MDS_PAST_END where the offset is past the end of the bytes.
  */
 struct mds_reference_definition {
     uint32_t status;
-    size_t end;                                   /* the place after its last line */
+    size_t end;                                   /* the offset after its last line */
     size_t label_start, label_length;             /* what stands between the brackets of its label */
     size_t destination_start, destination_length; /* its destination, without angle brackets */
     size_t title_start, title_length;             /* its title, without the bytes around it; MDS_NONE and 0 of none */
 };
 
-/* The link reference definition that begins at the place `start`. The bytes are the content of a paragraph: its lines
+/* The link reference definition that begins at the offset `start`. The bytes are the content of a paragraph: its lines
  * without the markers of containers and without indent. Of more definitions each begins where the one before it ends.
- * A title that something follows in its line is none: where it began in a line of its own, the definition ends before
+ * What something follows in its line is not a title: where it began in a line of its own, the definition ends before
  * that. Parentheses in the destination may stand in each other `max_next` + 1 deep. mds_scan_link_label reads the label
- * at `label_start`. No byte after the one that decides is read; where they are UTF-8 and the place is between two
+ * at `label_start`. No byte after the one that decides is read; where they are UTF-8 and the offset is between two
  * characters, so are both ends of each part. (4.7)
  *
  *     struct mds_reference_definition found = mds_scan_reference_definition("[a]: <b> 'c'\n", 13, 0, 31);
@@ -615,7 +615,7 @@ enum mds_block_kind {
 
 /* Extensions of CommonMark's blocks. Each is a bit; those that are asked for are given as their sum. */
 enum mds_block_extension {
-    MDS_FOOTNOTES = 1, /* `[^label]:` begins a footnote definition, as on GitHub: it goes on with blank lines, and behind four columns */
+    MDS_FOOTNOTES = 1, /* `[^label]:` begins a footnote definition, as on GitHub: it goes on with blank lines, and after four columns */
     MDS_DEFINITION_LISTS = 2 /* a paragraph is a term where `:` begins a definition of it, at once or after one blank line */
 };
 
@@ -628,8 +628,8 @@ struct mds_block {
     size_t count;        /* of fenced code how many bytes its fence has; of a table how many columns it has; see mds_block_line */
     size_t indent;       /* of a leaf block the columns of space in its first line after its containers, at most four */
     size_t line, lines;  /* of a leaf block how many lines of the page stand before it, and how many it has */
-    size_t start, bytes; /* of a leaf block the place of its first line, and how many bytes its lines have */
-    size_t place;        /* of a container that begins the place of its marker; of a leaf block that of what stands in
+    size_t start, bytes; /* of a leaf block the offset of its first line, and how many bytes its lines have */
+    size_t place;        /* of a container that begins the offset of its marker; of a leaf block that of what stands in
                           * its first line after its containers and `indent` */
 };
 
@@ -690,23 +690,23 @@ struct mds_open_blocks {
 struct mds_line_block {
     uint32_t status;
     size_t kept;  /* how many of those that were open its first line goes on with: the others end */
-    size_t depth; /* how many are open then, and need room: those behind `kept` begin */
+    size_t depth; /* how many are open then, and need room: those after `kept` begin */
 };
 
 /* The leaf block at the front of the bytes, which are the page after the block before, as far as it is read: for a page that
  * comes piece by piece, or is too long to keep. What a line is may be known by later ones alone. So as long as the input has not
- * ended, a block is told once whole lines show where it ends, and a last line that is not whole is not looked at: MDS_NOTHING
+ * ended, a block is returned once whole lines show where it ends, and a last line that is not whole is not looked at: MDS_NOTHING
  * says that more is needed, or, where the input has ended, that there are no bytes. The block has `block->bytes` bytes, after
- * which the next call reads; places in it are those in the bytes. Who asks again with each line reads a long block as often as
+ * which the next call reads; offsets in it are those in the bytes. Who asks again with each line reads a long block as often as
  * it has lines: ask again once there are twice as many bytes.
  *
  * `containers` is an array of the caller's, of which `open->depth` at the front are open, outermost first. Where the status is
  * MDS_OK those that are open after the block are written there, and their number to `open->depth`. They are as mds_block_content
- * takes them, with `kept`; those that begin have the place of their marker, and the others 0; and `count` is 1 of an item or a
+ * takes them, with `kept`; those that begin have the offset of their marker, and the others 0; and `count` is 1 of an item or a
  * definition of a term of which one line is read, that is blank after its marker. At the end of the page those that are open end.
  * With another status all is left as it was.
  *
- * All is as mds_scan_blocks tells it of the whole page, but that a paragraph which begins with link reference definitions is one
+ * All is as mds_scan_blocks has it of the whole page, but that a paragraph which begins with link reference definitions is one
  * block: they stand at the front of its content, where mds_scan_reference_definition reads them.
  *
  * MDS_TOO_SHORT where the array has no room for `depth` containers. MDS_BAD_KIND where an unknown bit is set, MDS_BAD_STATE where
@@ -795,11 +795,11 @@ struct mds_view {
 struct mds_inline {
     uint32_t kind;        /* of enum mds_inline_kind */
     uint32_t target;      /* of a link or an image that begins: of enum mds_link_target */
-    size_t start, length; /* its place, and how many bytes it has; of emphasis and strikethrough those of the delimiters that begin
+    size_t start, length; /* its offset, and how many bytes it has; of emphasis and strikethrough those of the delimiters that begin
                            * or end it, of a link or an image its left bracket, with the `!` of an image, or its right bracket
                            * and what follows there that belongs to it; of a wikilink that begins all before its text */
     size_t count;         /* of a code span how many backticks stand on each side of its content */
-    size_t end;           /* of a link or an image that begins the place after all of it */
+    size_t end;           /* of a link or an image that begins the offset after all of it */
     size_t destination_start, destination_length; /* of MDS_TARGET_INLINE its destination, without angle brackets; of
                                                    * MDS_TARGET_WIKI its target, whose bytes stand for themselves */
     size_t title_start, title_length;             /* of the former its title, without the bytes around it; MDS_NONE and 0 of none */
@@ -893,17 +893,17 @@ struct mds_text mds_safe_html(
 /* ---- Parts of inline text ---- */
 
 /* A part of the bytes, where the status is MDS_OK. It is MDS_NOTHING where there is none, and MDS_PAST_END where the
- * place is past the end of the bytes. The bytes need not be UTF-8, and are not tested: each of these calls reads from
- * its place on, and no byte behind the one that decides, but that mds_scan_code_span looks at many bytes at once. Where
- * they are UTF-8 and the place is between two characters, so are all places that are told. */
+ * offset is past the end of the bytes. The bytes need not be UTF-8, and are not tested: each of these calls reads from
+ * its offset on, and no byte after the one that decides, but that mds_scan_code_span looks at many bytes at once. Where
+ * they are UTF-8 and the offset is between two characters, so are all offsets that are answered. */
 struct mds_part {
     uint32_t status;
-    size_t end;    /* the place behind all that belongs to it */
-    size_t start;  /* the place of its own bytes */
+    size_t end;    /* the offset after all that belongs to it */
+    size_t start;  /* the offset of its own bytes */
     size_t length; /* how many they are */
 };
 
-/* The link destination that begins at the place `start`, with or without angle brackets; they are not among its own
+/* The link destination that begins at the offset `start`, with or without angle brackets; they are not among its own
  * bytes. Parentheses may stand in each other `max_next` + 1 deep. An empty destination without brackets is one too.
  * (6.3)
  *
@@ -912,7 +912,7 @@ struct mds_part {
  */
 struct mds_part mds_scan_link_dest(const void *bytes, size_t length, size_t start, size_t max_next);
 
-/* The link title that begins at the place `start`, in straight double quotes, straight single quotes or parentheses,
+/* The link title that begins at the offset `start`, in straight double quotes, straight single quotes or parentheses,
  * which are not among its own bytes. It may go on over lines, of which none is blank; what stands at the front of a line
  * in a container is not left out. (6.3)
  *
@@ -921,15 +921,15 @@ struct mds_part mds_scan_link_dest(const void *bytes, size_t length, size_t star
  */
 struct mds_part mds_scan_link_title(const void *bytes, size_t length, size_t start);
 
-/* The absolute URI of the autolink whose `<`, at which the call doesn't look, stands just before the place `start`; the
- * end is behind its `>`. (6.5)
+/* The absolute URI of the autolink whose `<`, at which the call doesn't look, stands just before the offset `start`; the
+ * end is after its `>`. (6.5)
  *
  *     struct mds_part part = mds_scan_autolink("<https://a.b>", 13, 1);
  *     part.end == 13 && part.start == 1 && part.length == 11
  */
 struct mds_part mds_scan_autolink(const void *bytes, size_t length, size_t start);
 
-/* The email address of the autolink whose `<`, at which the call doesn't look, stands just before the place `start`; the
+/* The email address of the autolink whose `<`, at which the call doesn't look, stands just before the offset `start`; the
  * end is after its `>`. (6.5)
  *
  *     struct mds_part part = mds_scan_email_autolink("<a@b.c>", 7, 1);
@@ -937,7 +937,7 @@ struct mds_part mds_scan_autolink(const void *bytes, size_t length, size_t start
  */
 struct mds_part mds_scan_email_autolink(const void *bytes, size_t length, size_t start);
 
-/* The code span that begins at the place `start`, as if no backtick stood before that. Its own bytes are its content, as
+/* The code span that begins at the offset `start`, as if no backtick stood before that. Its own bytes are its content, as
  * it is written, between its backtick strings. Where no later string is as long as the one that begins there, it is
  * MDS_NOTHING, and all bytes are read for that. So a caller that meets many strings notes in one pass where the last one
  * of each length begins, and asks only where that is still to come (examples/outline.c): then none is read in vain, and
@@ -948,8 +948,8 @@ struct mds_part mds_scan_email_autolink(const void *bytes, size_t length, size_t
  */
 struct mds_part mds_scan_code_span(const void *bytes, size_t length, size_t start);
 
-/* What stands before the first pipe of the `count` bytes from the place `start` on, or of as many as there are; the end
- * is behind the pipe. It may read all of these bytes. (An extension of pulldown-cmark)
+/* What stands before the first pipe of the `count` bytes from the offset `start` on, or of as many as there are; the end
+ * is after the pipe. It may read all of these bytes. (An extension of pulldown-cmark)
  *
  *     struct mds_part part = mds_scan_wikilink_pipe("[[a|b]]", 7, 2, 3);
  *     part.end == 4 && part.start == 2 && part.length == 1
@@ -957,7 +957,7 @@ struct mds_part mds_scan_code_span(const void *bytes, size_t length, size_t star
 struct mds_part mds_scan_wikilink_pipe(const void *bytes, size_t length, size_t start, size_t count);
 
 /* A run of one of the bytes `*` and `_`, where the status is MDS_OK. It is MDS_NOTHING where there is none, and
- * MDS_PAST_END where the place is past the end of the bytes. */
+ * MDS_PAST_END where the offset is past the end of the bytes. */
 struct mds_delimiter_run {
     uint32_t status;
     uint8_t byte;
@@ -980,22 +980,22 @@ struct mds_delimiter_run mds_scan_delimiter_run(const void *bytes, size_t length
 /* ---- Texts over lines ---- */
 
 /* What is left out of a text: of a tag or a label that goes on over the lines of a container, the container's markers
- * and its indent, which are no part of it (5.1, 5.2). At `place`, that of the first byte of a line, behind the line
- * ending, `length` bytes are left out. A table of skips is an array of them in order of their places, one for a whole
- * page. Each stands at a place of its own, leaves out ASCII alone, and ends in the page, and where the next one begins
+ * and its indent, which are no part of it (5.1, 5.2). At `place`, that of the first byte of a line, after the line
+ * ending, `length` bytes are left out. A table of skips is an array of them in order of their offsets, one for a whole
+ * page. Each stands at an offset of its own, leaves out ASCII alone, and ends in the page, and where the next one begins
  * or before; a length may be 0. No table (null and 0) is for a text outside of containers.
  *
  * At a line that no skip names nothing is left out, and a skip that stands elsewhere than at the front of a line of
  * the tag or label says nothing. mds_scan_html_tag_over_lines and mds_scan_link_label take the page from its front, its
- * table, and a place in the page. They search the table at each line that they come to, in as many steps as `skip_count`
- * has binary digits, and don't go through it. The page may also be given up to a place, as the end of a paragraph, with
+ * table, and an offset in the page. They search the table at each line that they come to, in as many steps as `skip_count`
+ * has binary digits, and don't go through it. The page may also be given up to an offset, as the end of a paragraph, with
  * the table as it is. */
 struct mds_skip {
     size_t place, length;
 };
 
 /* MDS_OK where the skips are a table of these bytes, and else MDS_BAD_SKIPS. Ask once for a page: it goes through the
- * whole table and all that it leaves out, and no other call does. What others tell over a table that is refused means
+ * whole table and all that it leaves out, and no other call does. What others answer over a table that is refused means
  * nothing; but they are safe and end, and what is said of `end`, of room and of what is written holds.
  *
  *     struct mds_skip skips[] = {{0, 2}, {4, 2}};
@@ -1005,7 +1005,7 @@ uint32_t mds_check_skips(const void *bytes, size_t length, const struct mds_skip
 
 /* ---- HTML ---- */
 
-/* Whether an HTML block that one of the names of start condition 6 opens begins here; the bytes are those behind the
+/* Whether an HTML block that one of the names of start condition 6 opens begins here; the bytes are those after the
  * `<`. (4.6)
  *
  *     mds_starts_html_block_type_6("div>", 4)
@@ -1030,7 +1030,7 @@ enum mds_html_kind {
     MDS_HTML_TAG_ALONE = 7    /* another tag alone in its line, to a blank line; it can't interrupt a paragraph */
 };
 
-/* The kind of the HTML block that begins at the front, behind the indent of its line: the lowest number of enum
+/* The kind of the HTML block that begins at the front, after the indent of its line: the lowest number of enum
  * mds_html_kind whose start condition is met, or 0. (4.6)
  *
  *     mds_scan_html_block_start("<!-- a", 6) == MDS_HTML_COMMENT
@@ -1039,7 +1039,7 @@ enum mds_html_kind {
 uint32_t mds_scan_html_block_start(const void *bytes, size_t length);
 
 /* Whether the line at the front ends an HTML block of this kind: MDS_OK or MDS_NOTHING; MDS_BAD_KIND where the number
- * is none of enum mds_html_kind. Of the kinds up to MDS_HTML_CDATA it is the block's last line, and may be its first
+ * is not one of enum mds_html_kind. Of the kinds up to MDS_HTML_CDATA it is the block's last line, and may be its first
  * too; of the others it is a blank line, and no part of the block. (4.6)
  *
  *     mds_ends_html_block("a -->", 5, MDS_HTML_COMMENT) == MDS_OK
@@ -1053,15 +1053,15 @@ uint32_t mds_ends_html_block(const void *bytes, size_t length, uint32_t kind);
  */
 size_t mds_scan_html_tag(const void *bytes, size_t length);
 
-/* A tag, where the status is MDS_OK; where it is MDS_TOO_SHORT the buffer is as it was, and `end` and `length` are told
- * all the same. It is MDS_NOTHING where there is none, and MDS_PAST_END where the place is past the end of the bytes. */
+/* A tag, where the status is MDS_OK; where it is MDS_TOO_SHORT the buffer is as it was, and `end` and `length` are set
+ * all the same. It is MDS_NOTHING where there is none, and MDS_PAST_END where the offset is past the end of the bytes. */
 struct mds_tag {
     uint32_t status;
-    size_t end;    /* the place behind it */
+    size_t end;    /* the offset after it */
     size_t length; /* bytes that its text has or needs in the buffer; 0 where it stands in the bytes as it is */
 };
 
-/* The open or closing tag whose `<` stands at the place `start`, over lines of which the skips are left out. A closing
+/* The open or closing tag whose `<` stands at the offset `start`, over lines of which the skips are left out. A closing
  * tag holds at most one line ending. Where bytes inside it are left out its text, without them, is written, and memory is
  * asked for: MDS_NO_MEMORY. Else its text is what stands from `start` to `end`, and no memory is asked for. `end` is the
  * length of the bytes at most, and `length` is `end - start` at most, so a buffer as long as the bytes is always enough.
@@ -1085,12 +1085,12 @@ struct mds_html_guard {
 /* An end, where the status is MDS_OK. It is MDS_NOTHING where there is none, or MDS_NO_OPENER. */
 struct mds_end {
     uint32_t status;
-    size_t end;    /* the place behind the closer */
+    size_t end;    /* the offset after the closer */
     size_t passed; /* how many bytes were passed over, whether or not there is one */
 };
 
 /* The end of the comment, CDATA section, declaration or processing instruction whose `<!` or `<?` ends at `place`,
- * under a guard. A guard that is all 0, or that calls with the same bytes at lower places have left, each at or behind
+ * under a guard. A guard that is all 0, or that calls with the same bytes at lower offsets have left, each at or after
  * the end that was found before it, misses nothing. k such calls for n bytes pass over 4n + 8k bytes at most, whatever
  * the bytes, and each n + 8 at most. MDS_NO_OPENER leaves the guard as it was. (6.6)
  *
@@ -1099,19 +1099,19 @@ struct mds_end {
  */
 struct mds_end mds_scan_inline_html(const void *bytes, size_t length, size_t place, struct mds_html_guard *guard);
 
-/* What a run found. `count` is at how many places it scanned before it stopped, or 0 where memory was refused. */
+/* What a run found. `count` is at how many offsets it scanned before it stopped, or 0 where memory was refused. */
 struct mds_html_run {
     uint32_t status;
     size_t count;
 };
 
-/* The ends of what begins at each of the places in turn, as mds_scan_inline_html finds them, MDS_NONE where nothing
- * does or where it isn't closed. The scans at k places of a text of n bytes pass over 4n + 8k bytes at most, whatever
- * the text. The run stops before the first place that is refused, for the first reason that holds: MDS_NO_OPENER,
+/* The ends of what begins at each of the offsets in turn, as mds_scan_inline_html finds them, MDS_NONE where nothing
+ * does or where it isn't closed. The scans at k offsets of a text of n bytes pass over 4n + 8k bytes at most, whatever
+ * the text. The run stops before the first offset that is refused, for the first reason that holds: MDS_NO_OPENER,
  * MDS_NOT_RISING, or MDS_INSIDE_FIND where it is below the last end; else the status is MDS_OK. In all these cases
- * the ends stand at the front of `ends`; where it has no room for them, for which as many as there are places is
- * enough, nothing is written, and the status is MDS_TOO_SHORT. Memory is asked for where the first place is not
- * refused, some for each place: MDS_NO_MEMORY. (6.6)
+ * the ends stand at the front of `ends`; where it has no room for them, for which as many as there are offsets is
+ * enough, nothing is written, and the status is MDS_TOO_SHORT. Memory is asked for where the first offset is not
+ * refused, some for each offset: MDS_NO_MEMORY. (6.6)
  *
  *     size_t places[] = {2, 7, 10}, ends[3];
  *     mds_run_inline_html("<!a> <? <!-- b -->", 18, places, 3, ends, 3).count == 3
@@ -1148,17 +1148,17 @@ struct mds_text mds_unescape(const void *text, size_t length, bool in_table, uin
  * the status is MDS_OK. */
 struct mds_label {
     uint32_t status;
-    size_t end;    /* the place behind the closing bracket */
+    size_t end;    /* the offset after the closing bracket */
     size_t length; /* bytes that it has or needs in the buffer */
-    size_t start;  /* the place in the input where its text stands as it is; MDS_NONE where it stands at none */
+    size_t start;  /* the offset in the input where its text stands as it is; MDS_NONE where it stands nowhere there */
 };
 
-/* The link label whose opening bracket, at which the call doesn't look, stands just before the place `start`: its words,
+/* The link label whose opening bracket, at which the call doesn't look, stands just before the offset `start`: its words,
  * joined by one space. Labels may go on over lines, of which the skips are left out. The label's own bytes must be UTF-8,
- * or it is none; those behind it may be any. In a cell of a table (`in_table`) a pipe loses the backslash just before it.
+ * or it is not a label; those after it may be any. In a cell of a table (`in_table`) a pipe loses the backslash just before it.
  * `end` is the length of the bytes at most, and `length` is `end - start` at most, so a buffer as long as the bytes is
  * always enough. Memory is asked for where `start` is MDS_NONE: MDS_NO_MEMORY. It reads, beside what is left out, no byte
- * behind the first bracket that no backslash escapes, and at most 1,001 that begin a character, as those from 0x80 to
+ * after the first bracket that no backslash escapes, and at most 1,001 that begin a character, as those from 0x80 to
  * 0xBF do not: a label's content has 999 at most. (6.3)
  *
  *     struct mds_label label = mds_scan_link_label("[a b]: /c", 9, 1, false, NULL, 0, NULL, 0);

@@ -1,7 +1,7 @@
 """Scanners of Markdown's lines, blocks and inline text, proved to answer what CommonMark 0.31.2 says.
 
-Each scanner reads a page, `bytes`, another buffer or a `str`, from the place `at` on, up to the place `end`, and copies none of
-it. It answers places of the same page: what stands alone is the place behind what was scanned. None says that nothing of the
+Each scanner reads a page, `bytes`, another buffer or a `str`, from the offset `at` on, up to the offset `end`, and copies none
+of it. It answers offsets of the same page: a number alone is the offset after what was scanned. None says that nothing of the
 kind stands there; an exception that the call refuses what it is given.
 """
 from ._pages import Page

@@ -1,4 +1,4 @@
-"""Reads the rows of packages/c/tests: which calls they make, of which bytes, and what is wanted of each. Rows of one call on one text
+"""Reads the rows of packages/c/tests: which calls they make, of which bytes, and what each must answer. Rows of one call on one text
 are in packages/rows.tsv, which rows_table.py reads; what only C can compute is counted, so that no row is left out unseen."""
 import ast
 import operator

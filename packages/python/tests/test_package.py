@@ -1,5 +1,5 @@
 """What no row of packages/c/tests says: bytes of each number, guards, what is refused before C is called, and that
-nothing lacks."""
+nothing is missing."""
 import doctest
 import html.entities
 import importlib

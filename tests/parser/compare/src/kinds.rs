@@ -15,7 +15,7 @@ pub fn kind_of(note: &Note) -> &'static str {
         "scan_task_list_marker" if note.before.starts_with("(None") && is_box_before_eol(input) => {
             "boxes at the end of a line"
         }
-        "scan_closing_code_fence" if finds_more && line(input).contains(&b'\t') => "tabs behind a fence",
+        "scan_closing_code_fence" if finds_more && line(input).contains(&b'\t') => "tabs after a fence",
         "scan_table_head" if note.before.ends_with("[])") && note.swapped == "(0, [])" => "tables without a column",
         "scan_table_head" if !line(input).contains(&b'|') && note.swapped == "(0, [])" => {
             "delimiter rows without a pipe"
