@@ -79,7 +79,7 @@ def in_a_table_page(pattern):
 
 
 def hyphens(page):
-    """The lines of thematic breaks of hyphens directly behind definitions, which are text for cmark, with the paragraph behind them."""
+    """The lines of thematic breaks of hyphens directly after definitions, which are text for cmark, with the paragraph after them."""
     lines, end = set(), 0
     for block in page.ours:
         is_break = block.kind == "break" and block.first - 1 in page.defined and b"-" in page.lines[block.first - 1]
@@ -137,8 +137,8 @@ def begins_blank(page):
 
 
 KINDS = {
-    "hyphens": Kind("have hyphens behind link reference definitions", "4.1", has_hyphens),
-    "loose": Kind("have a blank line behind a thematic break in an item", "5.3", parts_at_a_list(True, "break")),
+    "hyphens": Kind("have hyphens after link reference definitions", "4.1", has_hyphens),
+    "loose": Kind("have a blank line after a thematic break in an item", "5.3", parts_at_a_list(True, "break")),
     "tight": Kind("have a blank line of HTML at the end of an item", "5.3", parts_at_a_list(False, "html")),
     "table": Kind("have a table in an item of a tight list", "5.3", parts_at_a_list(False, "table")),
     "declaration": Kind("begin a declaration with a small letter", "4.6, condition 4", begins(rb"<![a-z]")),

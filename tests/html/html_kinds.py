@@ -168,7 +168,7 @@ KINDS = {
     "comment": Kind("have a comment with two hyphens in it, or <!--> or <!--->", "6.6", has_comment),
     "value": Kind("have a tab after an unquoted value in a tag, which ends the value for cmark alone", "6.6, which has it end there", has(TABBED_VALUE)),
     "close": Kind("have a CDATA section that ends in ]]]>, or an instruction that ends in ??>, which cmark overlooks", "6.6", has(ENDS_IN_TWO)),
-    "control": Kind("have a control character in a destination that is not in <>, which then is none", "6.3", has(CONTROL)),
+    "control": Kind("have a control character in a destination that is not in <>, which then is not one", "6.3", has(CONTROL)),
     "autolink": Kind("have a reference in an autolink, which cmark resolves", "2.5, 6.5", has(AUTOLINK)),
     "info": Kind("have a reference to white space in an info string, which for cmark is part of the first word", "4.5", has(INFO)),
     "parentheses": Kind("have parentheses that are not balanced in a destination, which cmark-gfm takes", "6.3", has_parentheses),
@@ -179,9 +179,9 @@ KINDS = {
     "escape": Kind("have an escaped & in a destination, title or info string, which cmark resolves first", "2.4", has(rb"\\&")),
     "table": Kind("have a table for one of them", "GFM 4.10", has_table),
     "task": Kind("have a task whose marker is text for cmark-gfm, or ends its line", "GFM 5.3", has_task),
-    "label": Kind("have a label of white space, which is none", "6.3", has_label),
+    "label": Kind("have a label of white space, which is not a label", "6.3", has_label),
     "begin": Kind("have an item that begins with two blank lines, which ends at the second", "5.2", has(TWO_BLANKS)),
-    "title": Kind("have a title whose last quotation mark is escaped, which then is none", "6.3", has(ESCAPED_QUOTE)),
+    "title": Kind("have a title whose last quotation mark is escaped, which then is not one", "6.3", has(ESCAPED_QUOTE)),
     "tag": Kind("have a tag alone in a lazy line, which ends the paragraph for cmark-gfm", "5.1", has_tag),
 }
 ALL = {name: kind for name, (kind, _) in CHANGES.items()} | KINDS

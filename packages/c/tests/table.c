@@ -9,12 +9,16 @@
 
 enum { LONGEST = 1000 };
 
-/* A row: its text, and of its other arguments up to two numbers or a second text. */
+/* A call that makes a text. */
+typedef struct mds_text making(const uint8_t *text, size_t length, uint8_t *buffer, size_t capacity);
+
+/* A row: its text; of its other arguments up to two numbers or a second text; of an answer that is a text how many bytes are taken, and
+ * the text. */
 struct row {
     int line;
     const char *call, *wanted;
-    uint8_t text[LONGEST], other[LONGEST];
-    size_t length, other_length, numbers[2];
+    uint8_t text[LONGEST], other[LONGEST], made[LONGEST];
+    size_t length, other_length, made_length, taken, numbers[2];
 };
 
 static struct row row;
@@ -100,8 +104,9 @@ static bool answers_part(const uint8_t *text, size_t length) {
 }
 
 static void add_definition(struct mds_reference_definition it) {
-    size_t all = it.end | it.label_start | it.label_length | it.destination_start | it.destination_length | it.title_start | it.title_length;
-    if (!is_ok(it.status, all))
+    size_t starts = it.label_start | it.destination_start | it.title_start;
+    size_t lengths = it.label_length | it.destination_length | it.title_length;
+    if (!is_ok(it.status, it.end | starts | lengths))
         return;
     add("end", it.end), add("label_start", it.label_start), add("label_length", it.label_length);
     add("destination_start", it.destination_start), add("destination_length", it.destination_length);
@@ -126,6 +131,18 @@ static void add_break(struct mds_break found) {
     add("length", found.length), add("none_before", found.none_before);
 }
 
+/* The end under a guard that is all 0. */
+static void add_end(const uint8_t *text, size_t length, size_t place) {
+    struct mds_html_guard guard = {0, 0, 0, 0};
+    struct mds_end found = mds_scan_inline_html(text, length, place, &guard);
+    if (is_ok(found.status, found.end))
+        add("end", found.end);
+}
+
+static void add_status(uint32_t status) {
+    snprintf(answer, sizeof(answer), "%s", mds_status_name(status));
+}
+
 static void add_underline(struct mds_underline underline) {
     add("length", underline.length), add("level", underline.level);
 }
@@ -133,6 +150,7 @@ static void add_underline(struct mds_underline underline) {
 /* All others. */
 static bool answers_fields(const uint8_t *text, size_t length) {
     size_t one = row.numbers[0], two = row.numbers[1];
+    const uint8_t *other = given(OTHER_BYTES, row.other, row.other_length);
     if (is("scan_code_fence")) add_fence(mds_scan_code_fence(text, length));
     else if (is("scan_metadata_block")) add_fence(mds_scan_metadata_block(text, length, one, two));
     else if (is("scan_hrule")) add_break(mds_scan_hrule(text, length));
@@ -141,18 +159,83 @@ static bool answers_fields(const uint8_t *text, size_t length) {
     else if (is("calc_indent")) add_indent(mds_calc_indent(text, length, one));
     else if (is("scan_reference_definition")) add_definition(mds_scan_reference_definition(text, length, one, two));
     else if (is("scan_delimiter_run")) add_run(mds_scan_delimiter_run(text, length, one));
-    else if (is("ends_html_block")) snprintf(answer, sizeof(answer), "%s", mds_status_name(mds_ends_html_block(text, length, (uint32_t)one)));
+    else if (is("scan_inline_html")) add_end(text, length, one);
+    else if (is("ends_html_block")) add_status(mds_ends_html_block(text, length, (uint32_t)one));
+    else if (is("labels_match")) add_status(mds_labels_match(text, length, other, row.other_length));
     else return false;
     return true;
 }
 
-static void check(const uint8_t *text) {
+static struct mds_text entity(const uint8_t *text, size_t length, uint8_t *buffer, size_t capacity) {
+    return mds_scan_entity(text, length, buffer, capacity);
+}
+
+static struct mds_text table_head(const uint8_t *text, size_t length, uint8_t *buffer, size_t capacity) {
+    return mds_scan_table_head(text, length, buffer, capacity);
+}
+
+static struct mds_text unescaped(const uint8_t *text, size_t length, uint8_t *buffer, size_t capacity) {
+    return mds_unescape(text, length, row.numbers[0], buffer, capacity);
+}
+
+/* One that stands in the input needs no buffer, which skips.c checks; of a text the length is asked for so. */
+static struct mds_text label(const uint8_t *text, size_t length, uint8_t *buffer, size_t capacity) {
+    struct mds_label found = mds_scan_link_label(text, length, 0, row.numbers[0], NULL, 0, buffer, capacity);
+    bool stands = capacity == 0 && found.status == MDS_OK && found.start != MDS_NONE;
+    return (struct mds_text){stands && found.length ? MDS_TOO_SHORT : found.status, found.end, found.length};
+}
+
+static struct mds_text key(const uint8_t *text, size_t length, uint8_t *buffer, size_t capacity) {
+    return mds_label_key(text, length, buffer, capacity);
+}
+
+static making *making_of(void) {
+    return is("scan_entity") ? entity : is("scan_table_head") ? table_head : is("unescape") ? unescaped
+        : is("scan_link_label") ? label : is("label_key") ? key : NULL;
+}
+
+/* The text is made in a buffer that has room for it, in one with more room, and in none that is shorter. */
+static void check_making(making *call, const uint8_t *text) {
+    for (size_t capacity = 0; capacity < row.made_length + 3; capacity++) {
+        uint8_t *buffer = writable(BUFFER, capacity);
+        struct mds_text found = call(text, row.length, buffer, capacity);
+        size_t written = capacity < row.made_length ? 0 : row.made_length;
+        same(row.line, "status", found.status, capacity < row.made_length ? MDS_TOO_SHORT : MDS_OK);
+        same(row.line, "taken", found.taken, row.taken);
+        same(row.line, "length", found.length, row.made_length);
+        same(row.line, "the text is there", written == 0 || !memcmp(buffer, row.made, written), true);
+        same(row.line, "the rest is left", is_left(BUFFER, written), true);
+    }
+    struct mds_text found = call(text, row.length, NULL, 0);
+    same(row.line, "length without a buffer", found.length, row.made_length);
+    same(row.line, "status without a buffer", found.status, row.made_length ? MDS_TOO_SHORT : MDS_OK);
+}
+
+/* A text that is refused leaves the buffer. */
+static void check_refusal(making *call, const uint8_t *text) {
+    struct mds_text found = call(text, row.length, writable(BUFFER, 9), 9);
+    same(row.line, row.wanted, strcmp(mds_status_name(found.status), row.wanted), 0);
+    same(row.line, "taken and length", found.taken | found.length, 0);
+    same(row.line, "the buffer is left", is_left(BUFFER, 0), true);
+}
+
+static void check_answer(const uint8_t *text) {
     *answer = 0;
     if (!answers_number(text, row.length) && !answers_part(text, row.length) && !answers_fields(text, row.length))
         stop("no such call");
     if (strcmp(answer, row.wanted))
         fprintf(stderr, "packages/rows.tsv, line %d: %s answers %s and not %s\n", row.line, row.call, answer, row.wanted);
     same(row.line, row.call, strcmp(answer, row.wanted) == 0, true);
+}
+
+static void check(const uint8_t *text) {
+    making *call = making_of();
+    if (!call)
+        check_answer(text);
+    else if (strncmp(row.wanted, "MDS_", 4) == 0)
+        check_refusal(call, text);
+    else
+        check_making(call, text);
 }
 
 /* The bytes of a text as the file has it, up to a byte that ends it. */
@@ -189,10 +272,20 @@ static size_t number_of(const char *word) {
     return number;
 }
 
-/* The other arguments: numbers, or the second text of the two calls that take one. */
+/* An answer that is a text. */
+static void read_made(void) {
+    const char *text = strstr(row.wanted, " text=");
+    if (!making_of() || strncmp(row.wanted, "MDS_", 4) == 0)
+        return;
+    if (!text || sscanf(row.wanted, "taken=%zu", &row.taken) != 1)
+        stop("the answer is not a text");
+    read_text(text + 6, 0, row.made, &row.made_length);
+}
+
+/* The other arguments: numbers, or the second text of the three calls that take one. */
 static void read_arguments(const char *from) {
     row.other_length = row.numbers[0] = row.numbers[1] = 0;
-    if (is("scan_while") || is("scan_rev_while")) {
+    if (is("scan_while") || is("scan_rev_while") || is("labels_match")) {
         if (strcmp(from, "-"))
             read_text(from, 0, row.other, &row.other_length);
         return;
@@ -208,6 +301,7 @@ static void read_arguments(const char *from) {
 
 static void check_row(char *line) {
     char *columns[4] = {line};
+    row.made_length = row.taken = 0;
     for (int i = 1; i < 4; i++) {
         char *tab = strchr(columns[i - 1], '\t');
         if (!tab)
@@ -217,6 +311,7 @@ static void check_row(char *line) {
     row.call = columns[0], row.wanted = columns[3];
     read_text(columns[1], 0, row.text, &row.length);
     read_arguments(columns[2]);
+    read_made();
     for (int edge = 0; edge < 2; edge++) {
         at_front = edge;
         check(given(BYTES, row.text, row.length));

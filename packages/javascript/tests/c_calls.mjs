@@ -194,7 +194,13 @@ function firstEnd(d, place) {
 const matches = ([status, found]) => (status === c.OK && !found ? c.NOTHING : status);
 const alignments = (found) => Buffer.from(found.alignments.map((it) => ["none", "left", "center", "right"].indexOf(it)));
 
-export const labelsMatch = (one, other) => matches(told(() => scanners.labelsMatch(one, other)));
+const labelsMatch = (one, other) => matches(told(() => scanners.labelsMatch(one, other)));
+
+function labelKey(label) {
+    const [status, found] = told(() => scanners.labelKey(label));
+    if (status !== c.OK) return { status, taken: 0, text: "" };
+    return { status, taken: label.length, text: bytesOf(found).toString("hex") };
+}
 
 export const CALLS = {
     mds_scan_ch: ends("scanCh"),
@@ -232,13 +238,18 @@ export const CALLS = {
     mds_calc_indent: indent,
     mds_scan_hrule: hrule,
     mds_scan_setext_heading: underline,
-    mds_scan_table_head: text((d) => d.text.scanTableHead(d.at, d.end), alignments),
     mds_scan_html_block_start: (d) => d.text.scanHtmlBlockStart(d.at, d.end) ?? 0,
     mds_ends_html_block: htmlEnd,
-    mds_scan_entity: text((d) => d.text.scanEntity(d.at, d.end)),
-    unescape: text((d) => d.text.unescape(d.at, d.end), bytesOf),
-    unescape_cell: text((d) => d.text.unescape(d.at, d.end, { inTable: true }), bytesOf),
-    label: (d) => label(d, [], false),
-    label_in_cell: (d) => label(d, [], true),
-    first_end: firstEnd,
+};
+
+/** The calls of packages/rows.tsv, by their names without `mds_`; each takes a text in one of its ways, and the bytes of C. */
+export const TABLE_CALLS = {
+    ...Object.fromEntries(Object.entries(CALLS).map(([name, call]) => [name.replace("mds_", ""), call])),
+    scan_table_head: text((d) => d.text.scanTableHead(d.at, d.end), alignments),
+    scan_entity: text((d) => d.text.scanEntity(d.at, d.end)),
+    scan_inline_html: firstEnd,
+    unescape: (d, inTable) => text(() => d.text.unescape(d.at, d.end, { inTable }), bytesOf)(d),
+    scan_link_label: (d, inTable) => label(d, [], inTable),
+    labels_match: (d, other) => labelsMatch(bytesOf(d.text.slice(d.at, d.end)), other),
+    label_key: (d) => labelKey(bytesOf(d.text.slice(d.at, d.end))),
 };

@@ -7,10 +7,10 @@ import { execFileSync } from "node:child_process";
 import { test } from "node:test";
 import * as c from "../lib/c.mjs";
 import { LineRows } from "./line_rows.mjs";
-import { bytesOf, CALLS, checkSkips, label, labelsMatch, NONE, plain, scanners, tag, told, ways } from "./c_calls.mjs";
+import { CALLS, checkSkips, label, NONE, plain, scanners, tag, told, ways } from "./c_calls.mjs";
 import { hold } from "./totals.mjs";
 
-const FILES = ["line_starts.c", "rows.c", "runs.c", "skips.c"];
+const FILES = ["line_starts.c", "runs.c", "skips.c"];
 const TAGS_AND_LABELS = /^(CELL|(NO_)?(TAG|LABEL)(_AT)?)$/;
 
 /** What stands in a row of rows.py: bytes, large numbers, calls and variables. */
@@ -41,7 +41,6 @@ class Rows {
     }
 
     found(call) {
-        if (call.call === "mds_labels_match") return labelsMatch(...call.given);
         if (call.call.startsWith("mds_line_")) return this.lines.found(call);
         const [data, ...given] = call.given;
         return this.alike(ways(data, given).map((it) => CALLS[call.call](it, ...given)), call.call);
@@ -49,7 +48,7 @@ class Rows {
 
     isKnown(call) {
         if (this.lines.isKnown(call)) return true;
-        return Buffer.isBuffer(call.given[0]) && (call.call in CALLS || call.call === "mds_labels_match");
+        return Buffer.isBuffer(call.given[0]) && call.call in CALLS;
     }
 
     /** What a call, a field of one or of a variable stands for, or undefined of what only C has. */
@@ -70,11 +69,6 @@ class Rows {
         const found = this.value(call);
         const isNamed = wanted && typeof wanted === "object";
         if (found !== undefined && typeof found !== "object" && !isNamed) this.same(row, Number(found), Number(wanted));
-    }
-
-    checkEnd(row, call, status, end) {
-        const found = this.found(call);
-        this.same(row, [found.status, found.end], [status, end]);
     }
 
     checkText(row, found, status, taken, text) {
@@ -99,12 +93,6 @@ class Rows {
         this.same(row, true, true);
     }
 
-    checkMade(row, call, data, ...wanted) {
-        if (!(call.name in CALLS)) return;
-        const all = row.macro === "MAKES" ? [c.OK, ...wanted] : [wanted[0], 0, ""];
-        this.checkText(row, this.found({ call: call.name, given: [data] }), ...all);
-    }
-
     checkHtmlRun(row, data, places, status, ends) {
         const behind = Buffer.concat([data, Buffer.from("-->]")]);
         for (const [bytes, end] of [[data, data.length], [behind, data.length]]) {
@@ -120,11 +108,8 @@ class Rows {
         if (macro === "let") this.let(...given);
         else if (macro === "SAME") this.checkSame(row, ...given);
         else if (this.lines.checks(row)) this.lines.check(row);
-        else if (macro === "END") this.checkEnd(row, ...given);
-        else if (macro === "MAKES" || macro === "REFUSES") this.checkMade(row, ...given);
         else if (TAGS_AND_LABELS.test(macro)) this.checkOver(row, ...given);
         else if (macro === "WRONG") this.checkWrong(row, ...given);
-        else if (macro === "KEY") this.same(row, bytesOf(scanners.labelKey(given[0])), given[1]);
         else if (macro === "HTML_RUN") this.checkHtmlRun(row, ...given);
     }
 }

@@ -8,8 +8,10 @@ const LARGEST = 2n ** 64n - 1n;
 const ESCAPES = { n: "\n", r: "\r", t: "\t", "\\": "\\" };
 const WORDS = { max: LARGEST, true: true, false: false };
 /** The calls whose one argument is a second text. */
-const TAKE_TEXTS = ["scan_while", "scan_rev_while"];
-const STATUSES = ["OK", "NOTHING", "NOT_UTF8", "PAST_END", "TOO_LARGE", "BAD_KIND"];
+const TAKE_TEXTS = ["scan_while", "scan_rev_while", "labels_match"];
+/** The calls whose answer is a status. */
+const ANSWER_STATUSES = ["ends_html_block", "labels_match"];
+const STATUSES = ["OK", "NOTHING", "NOT_UTF8", "PAST_END", "TOO_LARGE", "EMPTY", "NO_OPENER", "BAD_KIND"];
 const NAMES = Object.fromEntries(STATUSES.map((it) => [c[it], `MDS_${it}`]));
 
 /** The bytes of a text as the file has it. */
@@ -48,12 +50,21 @@ function printedNumber(number) {
     return found === LARGEST ? "none" : String(found);
 }
 
-/** An answer as the file has it: a number, the fields of a struct, or the name of a status. */
-export function printed(call, answer) {
-    if (call === "ends_html_block") return NAMES[answer];
+/** The answer of a row: of a text how many bytes are taken and its digits, any other as the file has it. */
+export function expected({ answer }) {
+    const found = /^taken=(\d+) text=(.*)$/.exec(answer);
+    return found ? [Number(found[1]), readText(found[2]).toString("hex")] : answer;
+}
+
+/** What a call has answered, in the same form. */
+export function answered({ call }, answer) {
+    if (ANSWER_STATUSES.includes(call)) return NAMES[answer];
     if (typeof answer !== "object") return printedNumber(answer);
-    const { status = c.OK, ...fields } = answer;
-    if (status === c.OK) return Object.entries(fields).map(([name, it]) => `${name}=${printedNumber(it)}`).join(" ");
-    assert.ok(Object.values(fields).every((it) => Number(it) === 0), NAMES[status]);
-    return NAMES[status];
+    const { status = c.OK, text, ...fields } = answer;
+    if (status !== c.OK) {
+        assert.ok(!text && Object.values(fields).every((it) => Number(it) === 0), NAMES[status]);
+        return NAMES[status];
+    }
+    if (text !== undefined) return [Number(fields.taken), text];
+    return Object.entries(fields).map(([name, it]) => `${name}=${printedNumber(it)}`).join(" ");
 }

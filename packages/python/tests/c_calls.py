@@ -208,6 +208,17 @@ def first_end(d, place):
     return {"status": status, "end": front.length(found) if status == _c.OK else 0}
 
 
+def labels_match(one, other):
+    status, found = told(mds.labels_match, one, other)
+    return {True: _c.OK, False: _c.NOTHING}.get(found, status)
+
+
+def label_key(data):
+    status, found = told(mds.label_key, data)
+    ok = status == _c.OK
+    return {"status": status, "taken": len(data) if ok else 0, "text": found if ok else b""}
+
+
 CALLS = {
     **{f"mds_{it}": ends(it) for it in (
         "scan_ch", "scan_ch_repeat", "scan_while", "scan_whitespace_in_line", "scan_eol", "scan_line", "scan_nextline",
@@ -225,13 +236,17 @@ CALLS = {
     "mds_calc_indent": indent,
     "mds_scan_hrule": hrule,
     "mds_scan_setext_heading": underline,
-    "mds_scan_table_head": text("scan_table_head", of=lambda found: bytes(found.alignments)),
     "mds_scan_html_block_start": html_start,
     "mds_ends_html_block": html_end,
-    "mds_scan_entity": text("scan_entity"),
-    "unescape": text("unescape", of=lambda found: found),
-    "unescape_cell": text("unescape", of=lambda found: found, in_table=True),
-    "label": lambda d: label(d, [], False),
-    "label_in_cell": lambda d: label(d, [], True),
-    "first_end": first_end,
+}
+# The calls of packages/rows.tsv, by their names without `mds_`.
+TABLE_CALLS = {
+    **{name.removeprefix("mds_"): call for name, call in CALLS.items()},
+    "scan_entity": text("scan_entity"),
+    "scan_table_head": text("scan_table_head", of=lambda found: bytes(found.alignments)),
+    "scan_inline_html": first_end,
+    "unescape": lambda d, in_table: text("unescape", of=lambda found: found, in_table=in_table)(d),
+    "scan_link_label": lambda d, in_table: label(d, [], in_table),
+    "labels_match": lambda d, other: labels_match(d.raw, other),
+    "label_key": lambda d: label_key(d.raw),
 }

@@ -134,7 +134,7 @@ def called(name, given, end, text):
         return tuple(found) if name == "SKIP" else found
     if name == "NONE_OF":
         return []
-    if name.startswith("mds_") or name in ("first_end", "unescape", "unescape_cell", "label", "label_in_cell"):
+    if name.startswith("mds_"):
         return Call(name, arguments(given), text[end:].removeprefix("."))
     raise NotUnderstood(text)
 

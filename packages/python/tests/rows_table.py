@@ -8,7 +8,9 @@ LARGEST = 2**64 - 1
 WORDS = {"max": LARGEST, "true": True, "false": False}
 ESCAPES = {"n": "\n", "r": "\r", "t": "\t", "\\": "\\"}
 # The calls whose one argument is a second text.
-TAKE_TEXTS = ("scan_while", "scan_rev_while")
+TAKE_TEXTS = ("scan_while", "scan_rev_while", "labels_match")
+# The calls whose answer is a status.
+STATUSES = ("ends_html_block", "labels_match")
 
 Row = namedtuple("Row", "line call text arguments answer")
 
@@ -36,13 +38,24 @@ def rows():
     return found
 
 
-def printed(answer, statuses):
-    """An answer of a call as the file has it: a number, the fields of a struct, or the name of a status."""
+def expected(row):
+    """The answer of a row: a text as how many bytes are taken and its bytes, any other as the file has it."""
+    if found := re.fullmatch(r"taken=(\d+) text=(.*)", row.answer):
+        return int(found[1]), read_text(found[2])
+    return row.answer
+
+
+def answered(row, answer, statuses):
+    """What a call has answered, in the same form."""
+    if row.call in STATUSES:
+        return statuses[answer]
     if not isinstance(answer, dict):
         return "none" if answer == LARGEST else str(int(answer))
-    fields = dict(answer)
+    fields = {name: value for name, value in answer.items() if name != "start" or "text" not in answer}
     status = statuses[fields.pop("status", 0)]
     if status != "MDS_OK":
         assert not any(fields.values()), answer
         return status
-    return " ".join(f"{name}={printed(value, statuses)}" for name, value in fields.items())
+    if "text" in fields:
+        return fields["taken"], fields["text"]
+    return " ".join(f"{name}={'none' if value == LARGEST else int(value)}" for name, value in fields.items())

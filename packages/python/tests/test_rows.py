@@ -9,7 +9,7 @@ from pathlib import Path
 import c_rows
 import markdown_scanners as mds
 import rows_table
-from c_calls import BEHIND, CALLS, FORMS, Data, as_bytes, check_skips, label, tag, told
+from c_calls import BEHIND, CALLS, FORMS, TABLE_CALLS, Data, as_bytes, check_skips, label, tag, told
 from c_rows import SIZE_MAX as NONE
 from c_rows import Call, Name
 from markdown_scanners import _c
@@ -17,8 +17,8 @@ from markdown_scanners import _c
 sys.path.append(str(Path(__file__).resolve().parents[3] / "docs"))
 import totals_file
 
-FILES = ["line_starts.c", "rows.c", "runs.c", "skips.c"]
-STATUSES = ["OK", "NOTHING", "NOT_UTF8", "PAST_END", "TOO_LARGE", "BAD_KIND"]
+FILES = ["line_starts.c", "runs.c", "skips.c"]
+STATUSES = ["OK", "NOTHING", "NOT_UTF8", "PAST_END", "TOO_LARGE", "EMPTY", "NO_OPENER", "BAD_KIND"]
 # The calls that are methods of a line start.
 LINE_CALLS = {f"mds_line_{it}" for it in (
     "space", "upto", "all_space", "eol", "quote", "list", "definition", "task", "alert")}
@@ -42,9 +42,8 @@ class Table(unittest.TestCase):
         rows, names = rows_table.rows(), statuses()
         for row in rows:
             for form in FORMS:
-                found = CALLS[f"mds_{row.call}"](Data(row.text, form), *row.arguments)
-                answer = names[found] if row.call == "ends_html_block" else rows_table.printed(found, names)
-                self.assertEqual(answer, row.answer, f"packages/rows.tsv, line {row.line}, {form}")
+                found = TABLE_CALLS[row.call](Data(row.text, form), *row.arguments)
+                self.assertEqual(rows_table.answered(row, found, names), rows_table.expected(row), f"packages/rows.tsv, line {row.line}, {form}")
         hold(self, "rows.tsv", len(rows))
 
 
@@ -85,8 +84,6 @@ class Rows(unittest.TestCase):
 
     def found(self, call):
         """What a call comes to, in all forms."""
-        if call.name == "mds_labels_match":
-            return {True: _c.OK, False: _c.NOTHING}.get((it := told(mds.labels_match, *call.given))[1], it[0])
         if call.name.startswith("mds_line_"):
             return self.line_call(call)
         return self.alike(call.name, [CALLS[call.name](Data(call.given[0], it), *call.given[1:]) for it in FORMS])
@@ -121,7 +118,7 @@ class Rows(unittest.TestCase):
     def is_known(self, call):
         """Whether the package has the call, and the bytes are not C's to compute."""
         of_line = call.name in LINE_CALLS and isinstance(self.variables.get("start"), list)
-        return of_line or isinstance(call.given[0], bytes) and (call.name in CALLS or call.name == "mds_labels_match")
+        return of_line or isinstance(call.given[0], bytes) and call.name in CALLS
 
     def let(self, row, name, value):
         if isinstance(value, list):
@@ -132,10 +129,6 @@ class Rows(unittest.TestCase):
             self.variables[name] = [it.on(it.data.raw) for it in self.variables[value.name]]
         elif isinstance(value, Call) and value.name in CALLS and isinstance(value.given[0], bytes):
             self.variables[name] = self.found(value)
-
-    def check_end(self, row, call, status, end):
-        found = self.found(call)
-        self.same(row, (found["status"], found["end"]), (status, end))
 
     def check_text(self, row, found, status, taken, text):
         self.same(row, (found["status"], found["taken"], found["text"]), (status, taken, text))
@@ -236,17 +229,10 @@ class Rows(unittest.TestCase):
                 self.same(row, found, given[1])
         elif macro in ("AT", "ITEM", "COLUMNS", "NO_ITEM"):
             self.check_start(row, *given)
-        elif macro == "END":
-            self.check_end(row, *given)
-        elif macro in ("MAKES", "REFUSES") and given[0].name in CALLS:
-            wanted = (_c.OK, *given[2:]) if macro == "MAKES" else (given[2], 0, b"")
-            self.check_text(row, self.found(Call(given[0].name, [given[1]])), *wanted)
         elif macro in ("CELL", *[no + it + at for no in ("", "NO_") for it in ("TAG", "LABEL") for at in ("", "_AT")]):
             self.check_over(row, *given)
         elif macro == "WRONG":
             self.check_wrong(row, *given)
-        elif macro == "KEY":
-            self.same(row, mds.label_key(given[0]), given[1])
         elif macro.startswith("FRONT_"):
             self.check_front(row, *given)
         elif macro == "LINE_RUN":
