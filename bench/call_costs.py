@@ -188,9 +188,9 @@ def report(scratch, inputs, calls, env):
     answers = sides(scratch, "check", inputs, calls, env)
     others = dict(SIDES[name] for name in SIDES if name in env)
     wanted = [key for key in answers if not key[0].endswith("(x1)") and ("c" not in others or "c" in answers[key][1])]
-    lacking = sorted(set(calls) - {call for _, call in wanted}) or ([] if wanted else ["any call"])
-    if lacking:
-        stop(f"there is nothing to measure of {' '.join(lacking)}")
+    missing = sorted(set(calls) - {call for _, call in wanted}) or ([] if wanted else ["any call"])
+    if missing:
+        stop(f"there is nothing to measure of {' '.join(missing)}")
     def pick(mode, **more):
         return {key: it for key, (_, it) in sides(scratch, mode, inputs, calls, {**env, **more}).items()}
 

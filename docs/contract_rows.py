@@ -19,10 +19,10 @@ def rows_of(text):
             rows.append([crate, line[2:], number])
         elif rows and line.startswith("  ") and line.strip():
             rows[-1][1] += " " + line.strip()
-    return [(crate, *parted(text, number)) for crate, text, number in rows]
+    return [(crate, *head_and_rest(text, number)) for crate, text, number in rows]
 
 
-def parted(text, number):
+def head_and_rest(text, number):
     """The names of the head of a row, which ends at the first colon, the rest of the row, and its name."""
     found = re.match(r"((?:`[^`]*`|[^:`])*): (.*)", text)
     head, rest = found.groups() if found else (text, "")

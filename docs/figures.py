@@ -34,7 +34,7 @@ def number(path, pattern):
     return int(source(path, pattern).replace("_", ""))
 
 
-def shown(figure):
+def printed(figure):
     """A figure as pages write it."""
     return f"{figure:,}" if isinstance(figure, int) else figure
 
@@ -132,7 +132,7 @@ def pattern_of(words):
 def faults_of(page, words, figures, text):
     """What is wrong with a row, and the text of the page with its figures."""
     found = list(pattern_of(words).finditer(text))
-    wanted = [shown(it) for it in figures]
+    wanted = [printed(it) for it in figures]
     if len(found) != 1:
         return f"{page}: {len(found)} places have the words: {words}", text
     if list(found[0].groups()) == wanted:

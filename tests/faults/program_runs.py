@@ -146,7 +146,7 @@ def files_of(crate):
     return [TOP / "crates" / crate / "out" / f"{crate}{end}" for end in ENDS]
 
 
-def lacking(crate):
+def why_missing(crate):
     """Why a build of the crate's program can't be run, or None: it isn't there, or is older than what it is made of."""
     newest = max(sources_of(crate), key=lambda it: it.stat().st_mtime)
     for it in files_of(crate):

@@ -36,6 +36,6 @@ def html_of(program, page):
     return ran.stdout
 
 
-def lacking(*programs):
+def missing_of(*programs):
     """Those of the programs that are not there."""
     return [program[0] for program in programs if not shutil.which(program[0])]

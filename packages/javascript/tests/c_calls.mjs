@@ -83,7 +83,7 @@ export function ways(data, numbers = []) {
 }
 
 /** The status that C would answer, and the answer or the refusal. */
-export function told(call) {
+export function outcomeOf(call) {
     try {
         const found = call();
         return [found === null ? c.NOTHING : c.OK, found];
@@ -105,7 +105,7 @@ function listItem(d) {
 }
 
 function indent(d, limit) {
-    const [status, found] = told(() => d.text.calcIndent(d.at, d.end, { limit }));
+    const [status, found] = outcomeOf(() => d.text.calcIndent(d.at, d.end, { limit }));
     const isOk = status === c.OK;
     return { status, place: isOk ? d.place(found.place) : 0, columns: isOk ? found.columns : 0 };
 }
@@ -126,13 +126,13 @@ const fence = (call) => (d, ...given) => {
 };
 
 const part = (call) => (d, start, ...more) => {
-    const [status, found] = told(() => call(d, d.placeIn(start), ...more));
+    const [status, found] = outcomeOf(() => call(d, d.placeIn(start), ...more));
     if (status !== c.OK) return { status, end: 0, start: 0, length: 0 };
     return { status, end: d.place(found.end), start: d.place(found.start), length: bytesOf(d.text.slice(found.start, found.stop)).length };
 };
 
 function definition(d, start, maxNext) {
-    const [status, found] = told(() => d.text.scanReferenceDefinition(d.placeIn(start), d.end, { maxNext }));
+    const [status, found] = outcomeOf(() => d.text.scanReferenceDefinition(d.placeIn(start), d.end, { maxNext }));
     const made = { status, end: status === c.OK ? d.place(found.end) : 0 };
     for (const it of ["label", "destination", "title"]) {
         const span = status === c.OK ? found[it] : { start: d.at, stop: d.at };
@@ -144,14 +144,14 @@ function definition(d, start, maxNext) {
 
 function delimiterRun(d, place) {
     const at = d.placeIn(place);
-    const [status, found] = told(() => d.text.scanDelimiterRun(at, d.end, { begin: d.at }));
+    const [status, found] = outcomeOf(() => d.text.scanDelimiterRun(at, d.end, { begin: d.at }));
     if (status !== c.OK) return { status, byte: 0, count: 0, can_open: false, can_close: false };
     return { status, byte: code(found.character), count: found.end - at, can_open: found.canOpen, can_close: found.canClose };
 }
 
 /** A text that is made, as struct mds_text tells it. */
 const text = (call, textOf = (found) => bytesOf(found.text)) => (d) => {
-    const [status, found] = told(() => call(d));
+    const [status, found] = outcomeOf(() => call(d));
     if (status !== c.OK) return { status, taken: 0, text: "" };
     return { status, taken: d.place(found.end ?? d.end), text: textOf(found).toString("hex") };
 };
@@ -164,17 +164,17 @@ function tableOf(d, skips) {
 }
 
 export function checkSkips(data, skips) {
-    return told(() => scanners.text(data).skips(skips))[0];
+    return outcomeOf(() => scanners.text(data).skips(skips))[0];
 }
 
 export function tag(d, skips, start = 0) {
-    const [status, found] = told(() => d.text.scanHtmlTagOverLines(d.placeIn(start), d.end, { skips: tableOf(d, skips) }));
+    const [status, found] = outcomeOf(() => d.text.scanHtmlTagOverLines(d.placeIn(start), d.end, { skips: tableOf(d, skips) }));
     const isOk = status === c.OK;
     return { status, taken: isOk ? d.place(found.end) : 0, text: isOk && found.text !== null ? bytesOf(found.text).toString("hex") : "" };
 }
 
 export function label(d, skips, inTable, start = 0) {
-    const [status, found] = told(() => d.text.scanLinkLabel(d.placeIn(start), d.end, { inTable, skips: tableOf(d, skips) }));
+    const [status, found] = outcomeOf(() => d.text.scanLinkLabel(d.placeIn(start), d.end, { inTable, skips: tableOf(d, skips) }));
     if (status !== c.OK) return { status, taken: 0, text: "", start: 0 };
     return { status, taken: d.place(found.end), text: bytesOf(found.text).toString("hex"), start: d.length(found.start) };
 }
@@ -187,17 +187,17 @@ function htmlEnd(d, kind) {
 /** A guard is for a text from its front. */
 function firstEnd(d, place) {
     const whole = scanners.text(d.text.slice(d.at, d.end));
-    const [status, found] = told(() => whole.htmlScanGuard().scan(place));
+    const [status, found] = outcomeOf(() => whole.htmlScanGuard().scan(place));
     return { status, end: status === c.OK ? found : 0 };
 }
 
 const matches = ([status, found]) => (status === c.OK && !found ? c.NOTHING : status);
 const alignments = (found) => Buffer.from(found.alignments.map((it) => ["none", "left", "center", "right"].indexOf(it)));
 
-const labelsMatch = (one, other) => matches(told(() => scanners.labelsMatch(one, other)));
+const labelsMatch = (one, other) => matches(outcomeOf(() => scanners.labelsMatch(one, other)));
 
 function labelKey(label) {
-    const [status, found] = told(() => scanners.labelKey(label));
+    const [status, found] = outcomeOf(() => scanners.labelKey(label));
     if (status !== c.OK) return { status, taken: 0, text: "" };
     return { status, taken: label.length, text: bytesOf(found).toString("hex") };
 }

@@ -4,7 +4,7 @@
  */
 import assert from "node:assert/strict";
 import * as c from "../lib/c.mjs";
-import { bytesOf, plain, told, ways } from "./c_calls.mjs";
+import { bytesOf, plain, outcomeOf, ways } from "./c_calls.mjs";
 
 const CALLS = {
     mds_line_space: "space",
@@ -34,7 +34,7 @@ const BEHIND = {
 
 /** A call of a line start, as C answers it. */
 function call(start, name, given) {
-    const [status, found] = told(() => start[CALLS[name]](...given));
+    const [status, found] = outcomeOf(() => start[CALLS[name]](...given));
     const isOk = status === c.OK;
     const marker = isOk && name === "mds_line_list" ? found : { delimiter: "\0", start: 0, indent: 0 };
     if (name === "mds_line_list") return { status, ...marker, delimiter: marker.delimiter.charCodeAt(0) };
@@ -143,10 +143,10 @@ export class LineRows {
     /** The first so many calls in one run, and the others in a second one. */
     #checkParts(row, d, named, first, wanted) {
         const start = d.text.lineStart(d.at, d.end);
-        let [status, run] = told(() => start.run(named.slice(0, first)));
+        let [status, run] = outcomeOf(() => start.run(named.slice(0, first)));
         let answers = run.run ?? run;
         if (status === c.OK) {
-            [status, run] = told(() => start.run(named.slice(first)));
+            [status, run] = outcomeOf(() => start.run(named.slice(first)));
             answers = [...answers, ...(run.run ?? run)];
         }
         const made = answers.map((it, index) => answer(wanted.calls[index][0], it));

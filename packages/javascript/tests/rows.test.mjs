@@ -7,7 +7,7 @@ import { execFileSync } from "node:child_process";
 import { test } from "node:test";
 import * as c from "../lib/c.mjs";
 import { LineRows } from "./line_rows.mjs";
-import { CALLS, checkSkips, label, NONE, plain, scanners, tag, told, ways } from "./c_calls.mjs";
+import { CALLS, checkSkips, label, NONE, plain, scanners, tag, outcomeOf, ways } from "./c_calls.mjs";
 import { hold } from "./totals.mjs";
 
 const FILES = ["line_starts.c", "runs.c", "skips.c"];
@@ -96,7 +96,7 @@ class Rows {
     checkHtmlRun(row, data, places, status, ends) {
         const behind = Buffer.concat([data, Buffer.from("-->]")]);
         for (const [bytes, end] of [[data, data.length], [behind, data.length]]) {
-            const [found, run] = told(() => scanners.text(bytes).runInlineHtml(places, end));
+            const [found, run] = outcomeOf(() => scanners.text(bytes).runInlineHtml(places, end));
             const all = (run.run ?? run).map((it) => it ?? NONE);
             assert.deepEqual(plain([found, all]), plain([status, ends]), `${row.file}, line ${row.line}`);
         }

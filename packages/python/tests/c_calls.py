@@ -51,7 +51,7 @@ def as_bytes(text):
     return text.encode() if isinstance(text, str) else text
 
 
-def told(call, *given, **more):
+def outcome_of(call, *given, **more):
     """The status that C would answer, and the answer or the refusal."""
     try:
         found = call(*given, **more)
@@ -95,7 +95,7 @@ def item(d):
 
 
 def indent(d, limit):
-    status, found = told(mds.calc_indent, d.data, d.at, d.end, limit=limit)
+    status, found = outcome_of(mds.calc_indent, d.data, d.at, d.end, limit=limit)
     ok = status == _c.OK
     return {"status": status, "place": d.length(found.place) if ok else 0, "columns": found.columns if ok else 0}
 
@@ -123,7 +123,7 @@ def part(name):
         d = d.beside(start)
         if name == "scan_wikilink_pipe":
             given = [d.count(start, it) for it in given]
-        status, found = told(getattr(mds, name), d.data, d.place(start), d.end, **named(name, given))
+        status, found = outcome_of(getattr(mds, name), d.data, d.place(start), d.end, **named(name, given))
         ok = status == _c.OK
         return {"status": status, "end": d.length(found.end) if ok else 0, "start": d.length(found.start) if ok else 0,
                 "length": d.between(found.start, found.stop) if ok else 0}
@@ -134,7 +134,7 @@ def part(name):
 def definition(d, start, *given):
     d = d.beside(start)
     name = "scan_reference_definition"
-    status, found = told(getattr(mds, name), d.data, d.place(start), d.end, **named(name, given))
+    status, found = outcome_of(getattr(mds, name), d.data, d.place(start), d.end, **named(name, given))
     made = {"status": status, "end": d.length(found.end) if status == _c.OK else 0}
     for part in ("label", "destination", "title"):
         span = getattr(found, part) if status == _c.OK else mds.Span(d.at, d.at)
@@ -145,7 +145,7 @@ def definition(d, start, *given):
 
 def delimiter_run(d, place):
     d = d.beside(place)
-    status, found = told(mds.scan_delimiter_run, d.data, d.place(place), d.end, begin=d.at)
+    status, found = outcome_of(mds.scan_delimiter_run, d.data, d.place(place), d.end, begin=d.at)
     if status != _c.OK:
         return {"status": status, "byte": 0, "count": 0, "can_open": False, "can_close": False}
     return {"status": status, "byte": found.byte, "count": d.between(d.place(place), found.end), "can_open": found.can_open,
@@ -155,7 +155,7 @@ def delimiter_run(d, place):
 def text(name, of=lambda found: found.text, **given):
     """A text that is made, as struct mds_text has it."""
     def made(d):
-        status, found = told(getattr(mds, name), d.data, d.at, d.end, **given)
+        status, found = outcome_of(getattr(mds, name), d.data, d.at, d.end, **given)
         ok = status == _c.OK
         taken = d.length(getattr(found, "end", len(d.data) if d.end is None else d.end)) if ok else 0
         return {"status": status, "taken": taken, "text": as_bytes(of(found)) if ok else b""}
@@ -171,19 +171,19 @@ def over(call, d, start, skips, **given):
 
 
 def check_skips(data, skips):
-    return told(mds.Skips, data, skips)[0]
+    return outcome_of(mds.Skips, data, skips)[0]
 
 
 def tag(d, skips, start=0):
     d = d.beside(start, *itertools.chain(*[(place, place + length) for place, length in skips]))
-    status, found = told(over, mds.scan_html_tag_over_lines, d, start, skips)
+    status, found = outcome_of(over, mds.scan_html_tag_over_lines, d, start, skips)
     ok = status == _c.OK
     return {"status": status, "taken": d.length(found.end) if ok else 0, "text": as_bytes(found.text or b"") if ok else b""}
 
 
 def label(d, skips, in_table, start=0):
     d = d.beside(start, *itertools.chain(*[(place, place + length) for place, length in skips]))
-    status, found = told(over, mds.scan_link_label, d, start, skips, in_table=in_table)
+    status, found = outcome_of(over, mds.scan_link_label, d, start, skips, in_table=in_table)
     ok = status == _c.OK
     return {"status": status, "taken": d.length(found.end) if ok else 0, "text": as_bytes(found.text) if ok else b"",
             "start": d.length(found.start) if ok else 0}
@@ -204,17 +204,17 @@ def html_end(d, kind):
 def first_end(d, place):
     front = Data(d.raw, "str") if isinstance(d.data, str) else Data(d.raw, "alone")
     front.data, front.at = front.data[front.at : front.end], 0  # a guard is for a text from its front
-    status, found = told(mds.HtmlScanGuard(front.data).scan, front.place(place))
+    status, found = outcome_of(mds.HtmlScanGuard(front.data).scan, front.place(place))
     return {"status": status, "end": front.length(found) if status == _c.OK else 0}
 
 
 def labels_match(one, other):
-    status, found = told(mds.labels_match, one, other)
+    status, found = outcome_of(mds.labels_match, one, other)
     return {True: _c.OK, False: _c.NOTHING}.get(found, status)
 
 
 def label_key(data):
-    status, found = told(mds.label_key, data)
+    status, found = outcome_of(mds.label_key, data)
     ok = status == _c.OK
     return {"status": status, "taken": len(data) if ok else 0, "text": found if ok else b""}
 

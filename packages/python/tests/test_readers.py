@@ -6,7 +6,7 @@ from markdown_scanners import BlockKind, BlockReader, FootnoteDefinition, TermDe
 from test_blocks import rows
 
 
-def told(block):
+def fields_of(block):
     """What a block is, where it stands, and its content."""
     places = block.line, block.lines, block.start, block.stop, block.place, block.indent
     return block.kind, places, block.containers, block.kept, block.number, block.fence, block.columns, block.content()
@@ -35,7 +35,7 @@ class Readers(unittest.TestCase):
                 found = list(read_blocks(page[at : at + size] for at in range(0, len(page), size)))
                 self.assertEqual(together(found), together(whole), page)
                 if b"]:" not in page:
-                    self.assertEqual([told(it) for it in found], [told(it) for it in whole], page)
+                    self.assertEqual([fields_of(it) for it in found], [fields_of(it) for it in whole], page)
 
     def test_when_blocks_are_told(self):
         reader = BlockReader()

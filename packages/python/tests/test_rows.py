@@ -9,7 +9,7 @@ from pathlib import Path
 import c_rows
 import markdown_scanners as mds
 import rows_table
-from c_calls import BEHIND, CALLS, FORMS, TABLE_CALLS, Data, as_bytes, check_skips, label, tag, told
+from c_calls import BEHIND, CALLS, FORMS, TABLE_CALLS, Data, as_bytes, check_skips, label, tag, outcome_of
 from c_rows import SIZE_MAX as NONE
 from c_rows import Call, Name
 from markdown_scanners import _c
@@ -64,7 +64,7 @@ class Lines:
     def call(self, name, given):
         names = {"list": "list_item", "all_space": "all_space"}
         name = name.removeprefix("mds_line_")
-        status, found = told(getattr(self.start, names.get(name, name)), *given)
+        status, found = outcome_of(getattr(self.start, names.get(name, name)), *given)
         ok = status == _c.OK
         if name == "list":
             return {"status": status, "delimiter": found.delimiter if ok else 0, "start": found.start if ok else 0,
@@ -175,9 +175,9 @@ class Rows(unittest.TestCase):
         for form, first in itertools.product(FORMS, range(len(calls) + 1)):
             d = Data(data, form)
             start = mds.LineStart(d.data, d.at, d.end)
-            found, run = told(mds.run_line, start, calls[:first])
+            found, run = outcome_of(mds.run_line, start, calls[:first])
             if found == _c.OK:
-                found, more = told(mds.run_line, start, calls[first:])
+                found, more = outcome_of(mds.run_line, start, calls[first:])
                 run += getattr(more, "run", more)
             run = getattr(run, "run", run)
             self.assertEqual((found, d.length(start.place), as_bytes(mds.line_rest(start))), (status, place, rest), str(row))
@@ -203,7 +203,7 @@ class Rows(unittest.TestCase):
 
     def check_html_run(self, row, data, places, status, ends):
         for bytes_given, end in ((data, None), (data + BEHIND, len(data))):
-            found, run = told(mds.run_inline_html, bytes_given, places, end=end)
+            found, run = outcome_of(mds.run_inline_html, bytes_given, places, end=end)
             run = getattr(run, "run", run)
             self.assertEqual((found, [NONE if it is None else it for it in run]), (status, ends), str(row))
         self.same(row, True, True)
