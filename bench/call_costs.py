@@ -177,7 +177,7 @@ def counted(rows, others, least):
     """A line for each side: how many rows are below 1, or below 0.9 for made texts; and how many are slow."""
     for index, name in enumerate(others.values()):
         ratios = [it[0][index] for it in rows if it[0][index] is not None]
-        below = sum(it < least for it in ratios)
+        below = sum(ratio < least for ratio in ratios)
         slow = sum(is_slow(it[1][index]) for it in rows)
         yield f"Beside {name}: {below} of {len(ratios)} rows below {least:.2f}; {slow} below {SLOW:.2f} by time."
 

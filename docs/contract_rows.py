@@ -31,7 +31,7 @@ def head_and_rest(text, number):
 
 def calls_named(crate, names):
     """The public calls that a head names: a short name is of the type that was named last, or a function."""
-    known = {it.name: it for it in public_items(crate) if it.kind != "type"}
+    known = {item.name: item for item in public_items(crate) if item.kind != "type"}
     found, missing, of_type = [], [], ""
     for name in names:
         full = name if name in known else f"{of_type}::{name}"
@@ -53,7 +53,7 @@ def allowed_names(crate, calls, names):
     allowed = {it for known in crates() for item in public_items(known) for it in (item.name, item.short)}
     for item in [*calls, *private]:
         allowed |= {item.short, *item.clauses, *re.findall(r"[^\W\d][\w'-]*", item.contract)}
-    return allowed | {it for it in names if is_lemma(it)} | set(crates())
+    return allowed | {name for name in names if is_lemma(name)} | set(crates())
 
 
 def faults_of_row(crate, row):
@@ -61,12 +61,12 @@ def faults_of_row(crate, row):
     heads, text, title = row
     calls, missing = calls_named(crate, heads)
     yield from [f"{title}: there is no call {it}" for it in missing]
-    names = [it for it in re.findall(r"`([^`]+)`", text) if NAME.match(it)]
-    general = [] if heads else [it for it in public_items(crate) if it.kind != "type"]
+    names = [found_text for found_text in re.findall(r"`([^`]+)`", text) if NAME.match(found_text)]
+    general = [] if heads else [item for item in public_items(crate) if item.kind != "type"]
     allowed = allowed_names(crate, calls or general, names)
     if heads and not calls and not missing:
         allowed |= set(definitions())
-    stale = [it for it in names if it not in allowed]
+    stale = [name for name in names if name not in allowed]
     if stale:
         yield f"{title}: not in the contract: {', '.join(stale)}"
 
@@ -79,13 +79,13 @@ def faults_of_lemmas(text, rows):
         yield "no section of lemmas was found"
     for crate in sections:
         for line in re.findall(r"\{([^}]*)\}", text_of(f"crates/{crate}/proofs/ForCallers.antt")):
-            yield from [f"no row names the lemma {it.strip()}" for it in line.split(",") if it.strip() not in heads]
+            yield from [f"no row names the lemma {part.strip()}" for part in line.split(",") if part.strip() not in heads]
 
 
 def faults_of_answers(text):
     """What is wrong in the table of what makes an answer the only one."""
     rows = re.findall(r"(?m)^\| `([\w:]+)` \| `(\w+)`, `(\w+)` \|$", text)
-    calls = {it.name: it for it in public_items("markdown_scanners_tree") if it.kind == "fn"}
+    calls = {item.name: item for item in public_items("markdown_scanners_tree") if item.kind == "fn"}
     named = {call for call, _, _ in rows}
     for call, clause, lemma in rows:
         if call not in calls or clause not in calls[call].clauses or not is_lemma(lemma):

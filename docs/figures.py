@@ -24,7 +24,7 @@ def totals(path):
 
 def source(path, pattern):
     """What stands in a source at the group of a pattern, which fits there in one way."""
-    found = {it[1] for it in re.finditer(pattern, text_of(path))}
+    found = {match[1] for match in re.finditer(pattern, text_of(path))}
     if len(found) != 1:
         raise SystemExit(f"docs/figures.py: {path} has {len(found)} numbers by {pattern}")
     return found.pop()
@@ -149,7 +149,7 @@ def unknown_of(text, known):
     for words in known:
         text = pattern_of(words).sub("", text)
     text = GIVEN.sub("", re.sub(r"`[^`]*`|\]\([^)]*\)", "", text))
-    return [f"README.md: a figure of which docs/figures.py says nothing: {it[0].strip()}" for it in re.finditer(r".*\d.*", text)]
+    return [f"README.md: a figure of which docs/figures.py says nothing: {match[0].strip()}" for match in re.finditer(r".*\d.*", text)]
 
 
 def faults(writes):

@@ -57,7 +57,7 @@ def fits(path, module):
     """Whether the path rule puts a file of specs/ or proofs/ where a module has its own."""
     inside = path.split("/", 1)[1].removesuffix(".antt")
     folder, _, name = module.rpartition("/")
-    camel = "".join(it.capitalize() for it in name.split("_"))
+    camel = "".join(part.capitalize() for part in name.split("_"))
     return inside.startswith(module + "/") or inside in (module, f"{folder}/{camel}".strip("/"))
 
 
@@ -68,13 +68,13 @@ def only_lists(crate, path):
 
 def tokens_of(section):
     """The files and folders of a crate that its section names, with how often."""
-    return Counter(it for it in named(section) if it.startswith(tuple(f"{part}/" for part in PARTS)))
+    return Counter(name for name in named(section) if name.startswith(tuple(f"{part}/" for part in PARTS)))
 
 
 def files_of(crate, section):
     """The files of a crate, each with how often its section names it and whether the path rule puts it somewhere."""
     tokens = tokens_of(section)
-    modules = modules_of(section) + [it[4:-3] for it in tokens if it.startswith("src/") and it.endswith(".rt")]
+    modules = modules_of(section) + [token[4:-3] for token in tokens if token.startswith("src/") and token.endswith(".rt")]
     of_rule = [it for it in modules if it not in ("lib", "scanners")]
     for part, suffix in PARTS.items():
         for path in [it.removeprefix(f"crates/{crate}/") for it in files_below(f"crates/{crate}/{part}", suffix)]:
@@ -87,16 +87,16 @@ def files_of(crate, section):
 def files_of_folder(name, section):
     """The files of a folder of scripts that its section has to name, and those that it names."""
     tokens = [it for line in paragraphs_of(section) if line.startswith("- ") for it in named(line.split(": ")[0])]
-    files = [it.relative_to(TOP / name).as_posix() for it in sorted((TOP / name).rglob("*")) if it.is_file()]
-    folders = [it for it in tokens if it.endswith("/") and (TOP / name / it).is_dir()]
-    kept = [it for it in files if not it.endswith(UNLISTED) and not it.startswith("target/")]
+    files = [path.relative_to(TOP / name).as_posix() for path in sorted((TOP / name).rglob("*")) if path.is_file()]
+    folders = [token for token in tokens if token.endswith("/") and (TOP / name / token).is_dir()]
+    kept = [file for file in files if not file.endswith(UNLISTED) and not file.startswith("target/")]
     wanted = [it for it in kept if not any(it.startswith(at) for at in folders)]
     return [it for it in wanted if name != "docs" or not it.endswith(".md")] + folders, tokens
 
 
 def calls_and_types(crate):
     """The calls, and the types, that a section of the crate has to name."""
-    items = [it for it in public_items(crate) if crate != USES or it.kind == "fn" and not it.trait]
+    items = [item for item in public_items(crate) if crate != USES or item.kind == "fn" and not item.trait]
     return [it for it in items if it.kind not in OF_TYPES], [it for it in items if it.kind in OF_TYPES]
 
 
@@ -110,4 +110,4 @@ def counted(ours, sections):
 
 def crates_of(sections):
     """The crates that have sections."""
-    return [it for it in crates() if it in sections]
+    return [crate for crate in crates() if crate in sections]

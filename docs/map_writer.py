@@ -136,7 +136,7 @@ def with_module(crate, section, path):
         title, head, rest = parts[at].split("\n\n", 2)
         names, mark, rule = joined(head).partition(": ")
         parts[at] = "\n".join([title, "", wrapped(f"{names}, `{module}`{mark}{rule}", ""), rest])
-    elif len(parts) > 1 and any(it.module == module for it in public_items(crate)):
+    elif len(parts) > 1 and any(item.module == module for item in public_items(crate)):
         title = described(f"crates/{crate}/{path}").removeprefix(": ") or module
         at = next((at for at, part in enumerate(parts) if part.startswith(SHARED)), len(parts))
         parts.insert(at, f"### {title[0].upper()}{title[1:]}\n\n`{module}`:\n\n")
@@ -164,7 +164,7 @@ def without_file(section, name):
 
 
 def with_files(crate, section):
-    for name in [it for it in tokens_of(section) if not (TOP / "crates" / crate / it).exists()]:
+    for name in [token for token in tokens_of(section) if not (TOP / "crates" / crate / token).exists()]:
         section = without_file(section, name)
     while missing := next((path for path, count, by_rule in files_of(crate, section) if not count and not by_rule), None):
         is_module = missing.startswith("src/")
@@ -188,13 +188,13 @@ def of_crate(crate, section):
         return section
     parts = parts_of(section)
     for label, items in zip(("Calls", "Types"), calls_and_types(crate)):
-        parts = with_names(parts, label, [(it.name, it.module) for it in items])
+        parts = with_names(parts, label, [(item.name, item.module) for item in items])
     return "".join(parts)
 
 
 def of_folder(name, section):
     wanted, tokens = files_of_folder(name, section)
-    for it in [it for it in tokens if it not in wanted]:
+    for it in [token for token in tokens if token not in wanted]:
         section = without_file(section, it)
     for it in [it for it in wanted if it not in tokens]:
         section = with_file(section, it, f"{name}/{it}")

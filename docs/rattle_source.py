@@ -57,7 +57,7 @@ def text_of(path):
 
 @cache
 def files_below(folder, suffix):
-    return [it.relative_to(TOP).as_posix() for it in sorted((TOP / folder).rglob("*" + suffix)) if it.is_file()]
+    return [path.relative_to(TOP).as_posix() for path in sorted((TOP / folder).rglob("*" + suffix)) if path.is_file()]
 
 
 def without_generics(text):
@@ -188,7 +188,7 @@ def named_apart(found):
 
 def public_items(crate):
     """What a crate offers: calls, types, traits and impls, without tests and what lies in a trait."""
-    traits = {it.name for it in items_of(crate) if it.kind == "trait"}
+    traits = {item.name for item in items_of(crate) if item.kind == "trait"}
     types = {it.name for it in items_of(crate) if it.kind in ("type", "trait") and it.public}
     return [
         it
@@ -215,9 +215,9 @@ def lemmas_imported(path):
     """The lemmas that a proof file takes of our crates, each with where it is defined; of a whole module that it names, the file."""
     for crate, module, words in PROOF_IMPORT.findall(text_of(path)):
         own = f"crates/{crate}/proofs/{module.replace('.', '/')}.antt"
-        for word in [it.split(" as ")[0].strip() for it in words.split(",")]:
+        for word in [part.split(" as ")[0].strip() for part in words.split(",")]:
             places = [it for it in definitions().get(word, []) if it[0].startswith(f"crates/{crate}/proofs/")]
-            yield from [(*it, word) for it in [it for it in places if it[0] == own] or places]
+            yield from [(*it, word) for it in [place for place in places if place[0] == own] or places]
         if not words and (TOP / own).is_file():
             yield own, 1, ""
 
@@ -226,7 +226,7 @@ def words_of(item, ours):
     """The words of our specs that a contract names."""
     words, aliases = imports_of(item.path)
     text = re.sub(r"ghost use [^;]*;", "", item.contract)
-    found = [it[0] for it in re.finditer(r"(?<![.\w])[^\W\d][\w'-]*", text) if words.get(it[0], [""])[0] in ours]
+    found = [match[0] for match in re.finditer(r"(?<![.\w])[^\W\d][\w'-]*", text) if words.get(match[0], [""])[0] in ours]
     for it in re.finditer(r"(?<![.\w])(\w+)\.([\w'-]+)", text):
         if aliases.get(it[1], [""])[0] in ours:
             found.append(it[2])
@@ -278,7 +278,7 @@ class NoFunction(Exception):
 
 def without_ensures(text, place):
     """The source without the `ensures` of the function that stands at the place, and that function's name."""
-    heads = [it.start() for it in re.finditer(r"^(pub )?(extern \"C\" )?fn ", text, flags=re.M) if it.start() <= place]
+    heads = [match.start() for match in re.finditer(r"^(pub )?(extern \"C\" )?fn ", text, flags=re.M) if match.start() <= place]
     if not heads:
         raise NoFunction
     start = max(heads)

@@ -64,14 +64,14 @@ def tokens_of(item):
 
 
 def private_items(crate):
-    found = [it for it in items_of(crate) if it.kind in ("fn", "const")]
+    found = [item for item in items_of(crate) if item.kind in ("fn", "const")]
     return [it for it in found if not it.public and not it.test and not it.trait]
 
 
 def private_part(item):
     """The call, and what is private and only it uses; then what is private and others use as well."""
     own, others = [item], private_items(item.crate)
-    users = {it: callers_of(it) for it in others}
+    users = {other: callers_of(other) for other in others}
     while more := [it for it in others if it not in own and users[it] and all(by in own for by in users[it])]:
         own += more
     shared = []
@@ -102,7 +102,7 @@ def edits_in(items):
         for source, old in pairs:
             text = text_of(source) if (TOP / source).is_file() else ""
             line = text[: text.find(old)].count("\n") + 1 if old in text else 0
-            if any(it.path == source and it.line <= line <= it.end for it in items):
+            if any(item.path == source and item.line <= line <= item.end for item in items):
                 yield path
                 break
 
@@ -144,7 +144,7 @@ def naming_word(word, parts):
 def contracts_with(word):
     """The functions and impls whose contract names a word."""
     ours = set(crates())
-    return [it for it in all_items() if word in it.contract and not it.test and word in words_of(it, ours)]
+    return [item for item in all_items() if word in item.contract and not item.test and word in words_of(item, ours)]
 
 
 def lemmas_of(item):
@@ -164,7 +164,7 @@ def lemmas_of_proofs(item):
 
 def items_with_clause(name):
     """The functions and traits that have a clause of this name."""
-    return [it for it in all_items() if name in it.clauses and name not in ("requires", "ensures") and not it.test]
+    return [item for item in all_items() if name in item.clauses and name not in ("requires", "ensures") and not item.test]
 
 
 def implementers(trait):
@@ -181,6 +181,6 @@ def definition_of(word, path):
     words, aliases = imports_of(path)
     places = [it for it in definitions().get(word, []) if "/specs/" in it[0]]
     for crate, module in [words[word]] if word in words else aliases.values():
-        if found := [it for it in places if it[0] == f"crates/{crate}/specs/{module}.antt"]:
+        if found := [place for place in places if place[0] == f"crates/{crate}/specs/{module}.antt"]:
             return found
     return places or definitions().get(word, [])

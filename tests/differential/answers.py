@@ -126,7 +126,7 @@ def table_head(text):
         return 0, []
     cells = found[2].split(b"|")[:-1] + [found[3]] * bool(found[3].strip(b" "))
     names = {(0, 0): "None", (1, 0): "Left", (0, 1): "Right", (1, 1): "Center"}
-    bare = [it.replace(b" ", b"") for it in cells]
+    bare = [cell.replace(b" ", b"") for cell in cells]
     return found.end(), [names[it[:1] == b":", b":" in it[1:]] for it in bare]
 
 
@@ -328,7 +328,7 @@ def label(text, skips):
     if not content:
         return None
     close = content.end(1)
-    runs = [it.span() for it in re.finditer(rb"[ \t\n\x0b\x0c\r]+", content[1])]
+    runs = [match.span() for match in re.finditer(rb"[ \t\n\x0b\x0c\r]+", content[1])]
     has_blank_line = any(sum(ends for _, _, ends in bytes_kept[slice(*run)]) > 1 for run in runs)
     words = content[1].split()
     if has_blank_line or not words or len(content[1].decode(errors="replace")) > 999:

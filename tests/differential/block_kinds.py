@@ -92,7 +92,7 @@ def hyphens(page):
 def has_hyphens(page):
     """That a page has such breaks, and all blocks of other lines agree; the lines of definitions before them are cmark's too."""
     passed = hyphens(page)
-    others = [[it for it in blocks if it.first not in passed | page.defined and it.kind != "list"] for blocks in (page.ours, page.theirs)]
+    others = [[block for block in blocks if block.first not in passed | page.defined and block.kind != "list"] for blocks in (page.ours, page.theirs)]
     return bool(passed) and agree(*others)
 
 
@@ -111,13 +111,13 @@ def parts_at_a_list(is_tight, kind):
 
 def is_column(first, lines):
     """Whether the table that begins at this line has no pipe in its delimiter row, and so one column."""
-    return not any(b"|" in it for it in lines[first : first + 1])
+    return not any(b"|" in line for line in lines[first : first + 1])
 
 
 def has_only_columns(ours, document, lines):
     """Whether cmark-gfm alone finds tables, and all of them are of one column without a pipe."""
     tables = [] if has_later_header(document) else tables_of(document)
-    return bool(tables) and all(is_column(lines_in(it)[0], lines) for it in tables) and all(it.kind != "table" for it in ours)
+    return bool(tables) and all(is_column(lines_in(table)[0], lines) for table in tables) and all(it.kind != "table" for it in ours)
 
 
 def has_a_column(page):
@@ -128,7 +128,7 @@ def has_a_column(page):
 def has_other_white_space(page):
     """That cmark-gfm finds a table whose header or delimiter row has a form feed or a vertical tab."""
     rows = [b"".join(page.lines[it.first - 1 : it.first + 1]) for it in page.theirs if it.kind == "table"]
-    return any(re.search(rb"[\v\f]", it) for it in rows)
+    return any(re.search(rb"[\v\f]", row) for row in rows)
 
 
 def begins_blank(page):

@@ -35,7 +35,7 @@ ODD = [
 ]
 # Lines that cmark-gfm reads by CommonMark 0.29: <textarea> begins no block by condition 1 there, and a tag alone ends a lazy paragraph.
 BY_OLDER_RULES = re.compile(rb"<b|</(?:b|pre|style|h7)|<textarea")
-WITH_ROWS = [it for it in LINES if not BY_OLDER_RULES.match(it)] + 3 * ROWS
+WITH_ROWS = [line for line in LINES if not BY_OLDER_RULES.match(line)] + 3 * ROWS
 WITH_ODD = LINES + ODD
 WITH_TASKS = LINES + 4 * TASKS
 
@@ -80,7 +80,7 @@ def markdown_in(place):
     if not place.is_dir():
         return [place]
     paths = (Path(folder, name) for folder, _, names in os.walk(place) for name in names if MARKDOWN.fullmatch(name))
-    return sorted({it.resolve() for it in paths if it.is_file()})
+    return sorted({path.resolve() for path in paths if path.is_file()})
 
 
 def text_of(path):

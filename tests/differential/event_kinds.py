@@ -352,4 +352,4 @@ def kind_of_events(parting):
 def kinds_of_places(page, pair):
     """The ways in which the places of a pair are known to differ, `agree` where they are the same, or None."""
     places = [Place(page, pair, False, pair.our.start, pair.their.start), Place(page, pair, True, pair.our.end, pair.their.end)]
-    return ["agree" if it.our == it.their else next((name for name, kind in PLACE_KINDS.items() if kind.fits(it)), None) for it in places]
+    return ["agree" if place.our == place.their else next((name for name, kind in PLACE_KINDS.items() if kind.fits(place)), None) for place in places]

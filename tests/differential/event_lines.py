@@ -28,7 +28,7 @@ def bytes_of(quoted):
 
 def event_of(line):
     start, end, words, texts = LINE.fullmatch(line).groups()
-    return Event(int(start), int(end), words.decode(), tuple(bytes_of(it) for it in QUOTED.findall(texts)))
+    return Event(int(start), int(end), words.decode(), tuple(bytes_of(found_text) for found_text in QUOTED.findall(texts)))
 
 
 def renamed(event):
@@ -43,25 +43,25 @@ def renamed(event):
 def joined(events):
     """The same, with neighbours of text, and of HTML, as one event each. Empty texts are left out."""
     found = []
-    for it in events:
-        if it.words in ("text", "html"):
-            if it.texts == (b"",):
+    for event in events:
+        if event.words in ("text", "html"):
+            if event.texts == (b"",):
                 continue
-            if found and found[-1].words == it.words:
+            if found and found[-1].words == event.words:
                 last = found.pop()
-                it = Event(last.start, it.end, it.words, (last.texts[0] + it.texts[0],))
-        found.append(it)
+                event = Event(last.start, event.end, event.words, (last.texts[0] + event.texts[0],))
+        found.append(event)
     return found
 
 
 def with_tasks(events):
     """The same with each marker of a task in its paragraph, before which 0.9.2 has it."""
     found = []
-    for it in events:
-        if found and found[-1].words in TASKS and it.words == "start paragraph":
-            found.insert(-1, it)
+    for event in events:
+        if found and found[-1].words in TASKS and event.words == "start paragraph":
+            found.insert(-1, event)
         else:
-            found.append(it)
+            found.append(event)
     return found
 
 

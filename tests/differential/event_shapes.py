@@ -125,7 +125,7 @@ def is_same(page, before, our, after, their):
     if kind in ("code", "html"):
         return without_runs(ours) == without_runs(theirs)
     if FENCE_AFTER_TAB.search(page):
-        return [it.lstrip(b" ") for it in ours.split(b"\n")] == [it.lstrip(b" ") for it in theirs.split(b"\n")]
+        return [part.lstrip(b" ") for part in ours.split(b"\n")] == [it.lstrip(b" ") for it in theirs.split(b"\n")]
     return False
 
 

@@ -27,7 +27,7 @@ def has_symbol(text):
 def has_runs(text):
     """That there are three delimiter runs of `_` or more, not all as long, of what isn't escaped."""
     runs = re.findall(rb"_+", re.sub(rb"\\[!-/:-@[-`{-~]", b"\\\\", text))
-    return len(runs) > 2 and len({len(it) for it in runs}) > 1
+    return len(runs) > 2 and len({len(run) for run in runs}) > 1
 
 
 KINDS = {

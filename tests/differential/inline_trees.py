@@ -51,7 +51,7 @@ def label_of(text):
 def target_of(how, texts):
     """Where a link leads: its destination and its title, or its label."""
     if how == b"inline":
-        destination, *title = [in_attribute(unescaped(it)) for it in texts]
+        destination, *title = [in_attribute(unescaped(text)) for text in texts]
         return destination, *(title or [b""])
     (label,) = texts
     return (label_of(label[1:-1] if how == b"full" else label),)
@@ -96,7 +96,7 @@ def our_blocks(page):
             found[-1][-1] = None
         elif line.startswith(b"  "):
             _, _, kind, texts = INLINE.fullmatch(line).groups()
-            found[-1][-1] += our_said(kind, [bytes_of(it) for it in QUOTED.findall(texts)])
+            found[-1][-1] += our_said(kind, [bytes_of(found_text) for found_text in QUOTED.findall(texts)])
         else:
             first, last, kind, _ = BLOCK.fullmatch(line).groups()
             found.append(["paragraph" if kind == b"paragraph" else "heading", int(first), int(last), []])
@@ -130,7 +130,7 @@ def their_blocks(page):
 
 def meets(block, others):
     """Whether a block has a line of one of the others."""
-    return any(it.first <= block.last and block.first <= it.last for it in others)
+    return any(other.first <= block.last and block.first <= other.last for other in others)
 
 
 def in_pairs(ours, theirs):

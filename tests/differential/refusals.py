@@ -61,7 +61,7 @@ def values():
     yield "table_clone", copy(Value("Table", [Value("None"), Value("Center")]))
     yield from in_both("link", link)
     yield from in_both("image", image)
-    yield "event_clone", sum([copy_of(it) for it in events()], [])
+    yield "event_clone", sum([copy_of(event) for event in events()], [])
     yield "event_into_static", sum([into_static(it) for it in events()], [])
     yield from in_both("start", start)
 
@@ -89,7 +89,7 @@ def row():
     """A delimiter row of eighteen columns."""
     length, columns = answers.table_head(b"|-|:-|-:|:-:|-|:-|-:|:-:|-|:-|-:|:-:|-|:-|-:|:-:|-|:-|\n")
     assert len(columns) == 18
-    return call("18 columns", (length, [Value(it) for it in columns]))
+    return call("18 columns", (length, [Value(column) for column in columns]))
 
 
 def unescaped(text):

@@ -52,7 +52,7 @@ def calls_in_code(folder):
 @cache
 def functions_of(crate):
     """The functions of a crate's sources, by what the prover's names have of them: the type or module, and the name."""
-    return {key_of(it): it for it in items_of(crate) if it.kind == "fn"}
+    return {key_of(item): item for item in items_of(crate) if item.kind == "fn"}
 
 
 def key_of(item):

@@ -39,7 +39,7 @@ def changed_lines(edit):
 def item_at(crate, path, number):
     """The function or constant that holds a line."""
     named = f"crates/{crate}/{path}"
-    return next((it for it in items_of(crate) if it.kind in ("fn", "const") and it.path == named and it.line <= number <= it.end), None)
+    return next((item for item in items_of(crate) if item.kind in ("fn", "const") and item.path == named and item.line <= number <= item.end), None)
 
 
 def changed_by(item, after, calls):

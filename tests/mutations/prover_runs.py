@@ -84,7 +84,7 @@ def refused_together(prover, crate, group, kept):
 
 def refused_in_groups(checks, crate, groups, kept):
     """The edits of these groups that are refused in checks of the groups."""
-    name_of = lambda group: f"{crate.name}, {', '.join(sorted(it.stem for it in edits_in(group)))}"
+    name_of = lambda group: f"{crate.name}, {', '.join(sorted(edit.stem for edit in edits_in(group)))}"
     found = [checks.begin(name_of(it), lambda it=it: refused_together(checks.prover, crate, it, kept)) for it in groups]
     return set().union(*(it.result() for it in found))
 
@@ -109,7 +109,7 @@ def tried(checks, crate, edits):
     refused, alone = tried_over(checks, crate, edits, calls, kept)
     checks.as_it_stands(crate, kept)
     print(f"{crate.name}: {len(refused)} tried in groups, {len(alone)} alone", flush=True)
-    return [(True, "") if it in refused else alone[it] for it in edits]
+    return [(True, "") if edit in refused else alone[edit] for edit in edits]
 
 
 def prove_all(edits, lanes):

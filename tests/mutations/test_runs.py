@@ -37,7 +37,7 @@ TESTS = {
 def stale_tests():
     """Crates of TESTS that crates.txt has not, and tests that are not made of their crate."""
     for crate, tests in TESTS.items():
-        names = {it.split()[1] for it in tests}
+        names = {test.split()[1] for test in tests}
         unknown = {crate, *names} - set(crates())
         yield from [f"there is no crate {it}" for it in sorted(unknown)]
         yield from [f"{it} is not made of {crate}" for it in sorted(names - unknown) if crate not in made_of(it)]

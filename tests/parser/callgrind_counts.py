@@ -25,9 +25,9 @@ def counts(compare, scratch, files):
         old.unlink()
     words = ["valgrind", "--tool=callgrind", f"--callgrind-out-file={scratch}/callgrind.out", "--toggle-collect=measured_*",
              "--dump-after=measured_original", "--dump-after=measured_swapped", compare, "instructions", *files]
-    subprocess.run([str(it) for it in words], check=True, capture_output=True)
+    subprocess.run([str(word) for word in words], check=True, capture_output=True)
     parts = sorted(scratch.glob("callgrind.out.*"), key=lambda it: int(it.suffix[1:]))
-    found = [int(re.search(r"(?m)^(?:summary|totals): (\d+)", it.read_text())[1]) for it in parts]
+    found = [int(re.search(r"(?m)^(?:summary|totals): (\d+)", part.read_text())[1]) for part in parts]
     if len(found) != 2 * len(files):
         raise RuntimeError(f"callgrind made {len(found)} parts for {len(files)} files")
     return list(zip(found[0::2], found[1::2]))

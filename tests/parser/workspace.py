@@ -194,7 +194,7 @@ def make_workspace(scratch):
     make_beside(scratch, ours)
     shutil.copytree(HERE / "compare", scratch / "compare")
     shutil.copytree(REGISTRY / "tendril-0.4.0", scratch / "tendril", ignore=shutil.ignore_patterns(".cargo*"))
-    packed = [it for it in (scratch / "tendril/src").glob("*.rs") if "repr(packed)" in it.read_text()]
+    packed = [path for path in (scratch / "tendril/src").glob("*.rs") if "repr(packed)" in path.read_text()]
     for file in packed: # a reference into it is an error of the compiler by now
         file.write_text(file.read_text().replace("repr(packed)", "repr(C)"))
     return names
