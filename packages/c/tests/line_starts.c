@@ -36,20 +36,6 @@ static void columns_are(int line, struct mds_columns columns, uint32_t status, s
 
 #define COLUMNS(columns, status, count) columns_are(__LINE__, columns, status, count)
 
-static void task_is(int line, struct mds_task task, uint32_t status, bool checked) {
-    same(line, "status", task.status, status);
-    same(line, "checked", task.checked, checked);
-}
-
-#define TASK(task, status, checked) task_is(__LINE__, task, status, checked)
-
-static void alert_is(int line, struct mds_alert alert, uint32_t status, uint32_t kind) {
-    same(line, "status", alert.status, status);
-    same(line, "kind", alert.kind, kind);
-}
-
-#define ALERT(alert, status, kind) alert_is(__LINE__, alert, status, kind)
-
 #define FRONT_OF(literal) const uint8_t *bytes = given(BYTES, literal, sizeof(literal) - 1); \
     const size_t length = sizeof(literal) - 1; \
     struct mds_line_start start = {0}
@@ -91,34 +77,8 @@ static void tabs(void) {
     }
 }
 
-/* One call at the front of a line. */
-#define FRONT_ITEM(literal, delimiter, number, indent, place, pending, phase) \
-    do { FRONT_OF(literal); ITEM(mds_line_list(bytes, length, &start, 0), delimiter, number, indent); AT(place, pending, phase); } while (0)
-#define FRONT_NO_ITEM(literal) \
-    do { FRONT_OF(literal); NO_ITEM(mds_line_list(bytes, length, &start, 0), MDS_NOTHING); AT(0, 0, 0); } while (0)
-#define FRONT_DEFINITION(literal, status, columns, place, pending, phase) \
-    do { FRONT_OF(literal); COLUMNS(mds_line_definition(bytes, length, &start, 0), status, columns); AT(place, pending, phase); } while (0)
-#define FRONT_TASK(literal, status, checked, place) \
-    do { FRONT_OF(literal); TASK(mds_line_task(bytes, length, &start), status, checked); AT(place, 0, (place) % 4); } while (0)
-#define FRONT_ALERT(literal, status, kind, place) \
-    do { FRONT_OF(literal); ALERT(mds_line_alert(bytes, length, &start), status, kind); AT(place, 0, (place) % 4); } while (0)
-
-/* Section 5.2: which markers there are, and how much space belongs to them. */
+/* One item in another. (5.2) The rows of calls at the front of a line are in packages/rows.tsv. */
 static void items(void) {
-    FRONT_ITEM("- one", '-', 0, 2, 2, 0, 2);
-    FRONT_ITEM("+\n", '+', 0, 2, 1, 0, 1);
-    FRONT_ITEM("*", '*', 0, 2, 1, 0, 1);
-    FRONT_ITEM("-    one", '-', 0, 5, 5, 0, 1);
-    FRONT_ITEM("-     one", '-', 0, 2, 2, 0, 2);
-    FRONT_ITEM("-   \n", '-', 0, 2, 2, 0, 2);
-    FRONT_ITEM("10) foo", ')', 10, 4, 4, 0, 0);
-    FRONT_ITEM("003. ok", '.', 3, 5, 5, 0, 1);
-    FRONT_ITEM("123456789. ok", '.', 123456789, 11, 11, 0, 3);
-    FRONT_NO_ITEM("1234567890. not ok");
-    FRONT_NO_ITEM("-one");
-    FRONT_NO_ITEM("2.two");
-    FRONT_NO_ITEM("-1. not ok");
-    FRONT_NO_ITEM("");
     FRONT_OF("- - foo");
     ITEM(mds_line_list(bytes, length, &start, 0), '-', 0, 2), AT(2, 0, 2);
     ITEM(mds_line_list(bytes, length, &start, 2), '-', 0, 4), AT(4, 0, 0);
@@ -135,22 +95,6 @@ static void breaks(void) {
 }
 
 static void others(void) {
-    FRONT_DEFINITION(":   a", MDS_OK, 4, 4, 0, 0);
-    FRONT_DEFINITION(":\ta", MDS_OK, 4, 2, 0, 0);
-    FRONT_DEFINITION(":     a", MDS_OK, 2, 2, 0, 2);
-    FRONT_DEFINITION("a", MDS_NOTHING, 0, 0, 0, 0);
-    FRONT_TASK("[ ] foo", MDS_OK, false, 3);
-    FRONT_TASK("  [x] bar", MDS_OK, true, 5);
-    FRONT_TASK("[X]\t", MDS_OK, true, 3);
-    FRONT_TASK("[x]a", MDS_NOTHING, false, 0);
-    FRONT_TASK("    [x] a", MDS_NOTHING, false, 0);
-    FRONT_ALERT("[!NOTE]\nx", MDS_OK, MDS_ALERT_NOTE, 8);
-    FRONT_ALERT("[!tip]  \r\n", MDS_OK, MDS_ALERT_TIP, 10);
-    FRONT_ALERT("[!Important]", MDS_OK, MDS_ALERT_IMPORTANT, 12);
-    FRONT_ALERT("[!WARNING]", MDS_OK, MDS_ALERT_WARNING, 10);
-    FRONT_ALERT("[!CAUTION]", MDS_OK, MDS_ALERT_CAUTION, 10);
-    FRONT_ALERT("[!NOTE] a", MDS_NOTHING, 0, 0);
-    FRONT_ALERT("[!NOTES]", MDS_NOTHING, 0, 0);
     struct mds_line_start start = {0};
     SAME(mds_line_eol(OF("\r"), &start), MDS_OK), SAME(mds_line_eol(OF("\n"), &start), MDS_OK);
     SAME(mds_line_eol(NULL, 0, &start), MDS_OK), SAME(mds_line_eol(OF(" "), &start), MDS_NOTHING);

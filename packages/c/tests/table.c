@@ -139,6 +139,51 @@ static void add_end(const uint8_t *text, size_t length, size_t place) {
         add("end", found.end);
 }
 
+static struct mds_line_start start;
+
+/* Where the line start has come to; after a call that finds nothing it is at the front. */
+static void add_state(bool is_found) {
+    if (is_found)
+        add("place", start.place), add("pending", start.pending), add("phase", start.phase);
+    else
+        same(row.line, "the line start", start.place | start.pending | start.phase, 0);
+}
+
+static void add_line_item(struct mds_line_item item) {
+    bool is_found = is_ok(item.status, item.delimiter | item.start | item.indent);
+    if (is_found)
+        add("delimiter", item.delimiter), add("start", item.start), add("indent", item.indent);
+    add_state(is_found);
+}
+
+/* An answer of one number, of a call at the front of a line. */
+static void add_found(const char *name, uint32_t status, size_t number) {
+    bool is_found = is_ok(status, number);
+    if (is_found)
+        add(name, number);
+    add_state(is_found);
+}
+
+/* The calls at the front of a line. */
+static bool answers_line(const uint8_t *text, size_t length) {
+    start = (struct mds_line_start){0};
+    if (is("line_list")) {
+        add_line_item(mds_line_list(text, length, &start, row.numbers[0]));
+    } else if (is("line_definition")) {
+        struct mds_columns found = mds_line_definition(text, length, &start, row.numbers[0]);
+        add_found("columns", found.status, found.columns);
+    } else if (is("line_task")) {
+        struct mds_task found = mds_line_task(text, length, &start);
+        add_found("checked", found.status, found.checked);
+    } else if (is("line_alert")) {
+        struct mds_alert found = mds_line_alert(text, length, &start);
+        add_found("kind", found.status, found.kind);
+    } else {
+        return false;
+    }
+    return true;
+}
+
 static void add_status(uint32_t status) {
     snprintf(answer, sizeof(answer), "%s", mds_status_name(status));
 }
@@ -221,7 +266,8 @@ static void check_refusal(making *call, const uint8_t *text) {
 
 static void check_answer(const uint8_t *text) {
     *answer = 0;
-    if (!answers_number(text, row.length) && !answers_part(text, row.length) && !answers_fields(text, row.length))
+    bool is_known = answers_number(text, row.length) || answers_part(text, row.length) || answers_line(text, row.length);
+    if (!is_known && !answers_fields(text, row.length))
         stop("no such call");
     if (strcmp(answer, row.wanted))
         fprintf(stderr, "packages/rows.tsv, line %d: %s answers %s and not %s\n", row.line, row.call, answer, row.wanted);

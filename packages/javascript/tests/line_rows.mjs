@@ -19,13 +19,6 @@ const CALLS = {
 };
 const ALERTS = [null, "note", "tip", "important", "warning", "caution"];
 const RUN_CALLS = ["space", "upto", "eol", "quote", "list", "definition"];
-/** Of a row of one call at the front of a line: the call, what it is given, and the fields that are wanted. */
-const FRONTS = {
-    ITEM: ["mds_line_list", [0], ["delimiter", "start", "indent"]],
-    DEFINITION: ["mds_line_definition", [0], ["status", "columns"]],
-    TASK: ["mds_line_task", [], ["status", "checked"]],
-    ALERT: ["mds_line_alert", [], ["status", "kind"]],
-};
 const BEHIND = {
     ITEM: ["delimiter", "start", "indent"],
     COLUMNS: ["status", "columns"],
@@ -42,6 +35,13 @@ function call(start, name, given) {
     if (name === "mds_line_task") return { status, checked: isOk && found };
     if (name === "mds_line_alert") return { status, kind: isOk ? ALERTS.indexOf(found) : 0 };
     return found === true || found === undefined ? c.OK : found === false ? c.NOTHING : status;
+}
+
+/** A call at the front of a line, and where the line start has come to. */
+export function atFront(d, name, given) {
+    const start = d.text.lineStart(d.at, d.end);
+    const { status, ...fields } = call(start, name, given);
+    return { status, ...fields, place: d.place(start.place), pending: start.pending };
 }
 
 /** A line start with these numbers. */
@@ -97,7 +97,7 @@ export class LineRows {
     }
 
     checks({ macro, given }) {
-        return ["FRONT_OF", "AT", "ITEM", "COLUMNS", "LINE_RUN", "LINE_REST"].includes(macro) || macro.startsWith("FRONT_") ||
+        return ["FRONT_OF", "AT", "ITEM", "COLUMNS", "LINE_RUN", "LINE_REST"].includes(macro) ||
             (macro === "NO_ITEM" && given.length === 2);
     }
 
@@ -106,7 +106,6 @@ export class LineRows {
         if (macro === "FRONT_OF") this.#starts.start = this.#front(given[0]);
         else if (macro === "LINE_RUN") this.#checkRun(row, ...given);
         else if (macro === "LINE_REST") this.#checkRest(row, ...given);
-        else if (macro.startsWith("FRONT_")) this.#checkFront(row, ...given);
         else if (macro === "AT") this.#rows.same(row, this.#place(), given.slice(0, 2));
         else this.#checkBehind(row, ...given);
     }
@@ -115,17 +114,6 @@ export class LineRows {
     #checkBehind(row, made, ...wanted) {
         const found = this.#rows.found(made);
         this.#rows.same(row, BEHIND[row.macro].map((it) => found[it]), wanted);
-    }
-
-    /** One call at the front of a line. */
-    #checkFront(row, data, ...wanted) {
-        const [name, given, fields] = FRONTS[row.macro.replace(/^FRONT_(NO_)?/, "")];
-        this.#starts.start = this.#front(data);
-        const found = this.found({ call: name, given: [null, null, ...given] });
-        const place = this.#place()[0];
-        if (row.macro === "FRONT_NO_ITEM") return this.#rows.same(row, [found.status, place], [c.NOTHING, 0]);
-        const all = wanted.length > fields.length ? [...fields.map((it) => found[it]), place] : fields.map((it) => found[it]);
-        return this.#rows.same(row, all, wanted.slice(0, fields.length + 1));
     }
 
     #checkRun(row, data, calls, status, place, rest, answers) {

@@ -239,6 +239,22 @@ CALLS = {
     "mds_scan_html_block_start": html_start,
     "mds_ends_html_block": html_end,
 }
+
+
+def at_front(method, *fields):
+    """A call at the front of a line, and where the line start has come to."""
+    def called(d, *given):
+        start = mds.LineStart(d.data, d.at, d.end)
+        status, found = outcome_of(getattr(start, method), *given)
+        state = {"place": d.length(start.place), "pending": start.pending, "phase": start._numbers.phase}
+        if status != _c.OK:
+            return {"status": status, **state}
+        values = [getattr(found, name) for name in fields] if len(fields) > 1 else [found]
+        return {"status": status, **dict(zip(fields, values)), **state}
+
+    return called
+
+
 # The calls of packages/rows.tsv, by their names without `mds_`.
 TABLE_CALLS = {
     **{name.removeprefix("mds_"): call for name, call in CALLS.items()},
@@ -249,4 +265,8 @@ TABLE_CALLS = {
     "scan_link_label": lambda d, in_table: label(d, [], in_table),
     "labels_match": lambda d, other: labels_match(d.raw, other),
     "label_key": lambda d: label_key(d.raw),
+    "line_list": at_front("list_item", "delimiter", "start", "indent"),
+    "line_definition": at_front("definition", "columns"),
+    "line_task": at_front("task", "checked"),
+    "line_alert": at_front("alert", "kind"),
 }

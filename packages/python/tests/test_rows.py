@@ -149,20 +149,6 @@ class Rows(unittest.TestCase):
             self.assertEqual(check_skips(data, skips), _c.BAD_SKIPS, str(row))
         self.same(row, True, True)
 
-    def check_front(self, row, data, *wanted):
-        """One call at the front of a line."""
-        kind = row.macro.removeprefix("FRONT_").removeprefix("NO_").lower()
-        self.variables["start"] = [Lines(data, it) for it in FORMS]
-        calls = {"item": ("mds_line_list", [0]), "definition": ("mds_line_definition", [0]), "task": ("mds_line_task", []),
-                 "alert": ("mds_line_alert", [])}
-        found = self.line_call(Call(calls[kind][0], [Name("bytes"), Name("start"), *calls[kind][1]]))
-        fields = {"item": ("delimiter", "start", "indent"), "definition": ("status", "columns"), "task": ("status", "checked"),
-                  "alert": ("status", "kind")}[kind]
-        if row.macro == "FRONT_NO_ITEM":
-            return self.same(row, (found["status"], self.place()), (_c.NOTHING, 0))
-        place = wanted[len(fields)] if len(wanted) > len(fields) else None
-        self.same(row, ([found[it] for it in fields], self.place()), (list(wanted[: len(fields)]), place))
-
     def place(self):
         found = [(it.data.length(it.start.place), it.start.pending) for it in self.variables["start"]]
         return self.alike("place", found)[0]
@@ -233,8 +219,6 @@ class Rows(unittest.TestCase):
             self.check_over(row, *given)
         elif macro == "WRONG":
             self.check_wrong(row, *given)
-        elif macro.startswith("FRONT_"):
-            self.check_front(row, *given)
         elif macro == "LINE_RUN":
             self.check_line_run(row, *given)
         elif macro == "LINE_REST":

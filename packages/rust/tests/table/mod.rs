@@ -15,6 +15,13 @@ const KINDS: [HtmlBlockKind; 7] = [
     HtmlBlockKind::TagAlone,
 ];
 
+const ALERTS: [BlockQuoteKind; 5] = [
+    BlockQuoteKind::Note,
+    BlockQuoteKind::Tip,
+    BlockQuoteKind::Important,
+    BlockQuoteKind::Warning,
+    BlockQuoteKind::Caution,
+];
 const ALIGNMENTS: [Alignment; 4] = [Alignment::None, Alignment::Left, Alignment::Center, Alignment::Right];
 
 /// A row: its call, its text, and of its other arguments up to two numbers or a second text.
@@ -171,8 +178,28 @@ fn found(row: &Row) -> Option<String> {
             Some(format!("end={end}"))
         }
         "scan_reference_definition" => definition(data, start, row.two),
+        "line_list" | "line_definition" | "line_task" | "line_alert" => at_front(row),
         call => panic!("no such call: {call}"),
     }
+}
+
+/// A call at the front of a line, and how many bytes it has passed.
+fn at_front(row: &Row) -> Option<String> {
+    let mut start = LineStart::new(&row.text);
+    let fields = match &row.call[..] {
+        "line_list" => start
+            .scan_list_marker_with_indent(row.one)
+            .map(|(byte, number, indent)| format!("delimiter={byte} start={number} indent={indent}")),
+        "line_definition" => {
+            let columns = start.scan_definition_list_definition_marker_with_indent(row.one);
+            columns.map(|columns| format!("columns={columns}"))
+        }
+        "line_task" => start.scan_task_list_marker().map(|checked| format!("checked={}", usize::from(checked))),
+        _ => start
+            .scan_blockquote_tag()
+            .map(|kind| format!("kind={}", 1 + ALERTS.iter().position(|it| *it == kind).unwrap())),
+    };
+    fields.map(|fields| format!("{fields} place={}", start.bytes_scanned()))
 }
 
 fn definition(data: &[u8], start: usize, max_next: usize) -> Option<String> {
@@ -253,8 +280,9 @@ fn check(row: &Row) {
         return assert_eq!(made, wanted_text(&row.answer), "{title}");
     }
     let answer = number(row).or_else(|| fields(row)).or_else(|| found(row));
-    let wanted = (!row.answer.starts_with("MDS_")).then_some(&row.answer);
-    assert_eq!(answer.as_ref(), wanted, "{title}");
+    // a line start's columns are its own
+    let wanted = row.answer.split(" pending=").next().filter(|it| !it.starts_with("MDS_"));
+    assert_eq!(answer.as_deref(), wanted, "{title}");
 }
 
 #[test]
