@@ -7,7 +7,7 @@ pub use Rattle.markdown_events.proofs.page.leaf_events.BalanceLemmas.{leaf_event
 pub use Rattle.markdown_events.proofs.page.leaf_events.OneLeaf.{one_list_of_leaf_events}
 pub use Rattle.markdown_events.proofs.page.leaf_events.PagePlaces.{LeavesStandIn, StandsIn, page_leaves_stand}
 pub use Rattle.markdown_events.proofs.page.OnePage.{one_list_of_page_events}
-pub use Rattle.markdown_events.proofs.page.PageBalance.{page_events_balance, page_events_nest}
-pub use Rattle.markdown_events.proofs.page.PageCuts.{page_events_at_boundaries}
-pub use Rattle.markdown_events.proofs.page.PageRanges.{page_events_within}
+pub use Rattle.markdown_events.proofs.page.PageBalance.{page_events_balance, page_events_nest, page_events_with_balance, page_events_with_nest}
+pub use Rattle.markdown_events.proofs.page.PageCuts.{page_events_at_boundaries, page_events_with_at_boundaries}
+pub use Rattle.markdown_events.proofs.page.PageRanges.{page_events_with_within, page_events_within}
 pub use Rattle.markdown_events.proofs.page.task_events.TaskLaws.{block_events_balance, one_list_of_block_events}

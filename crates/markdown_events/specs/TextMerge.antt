@@ -3,8 +3,7 @@ use Rattle.std.specs.Prelude.{ℕ, Bool, true, false, ◌≡◌, ◌⊎◌, ◌+
 use Rattle.std.specs.Prelude.{Result, Ok, Err, IsTrue, ⊤}
 use Rattle.std.specs.declared.alloc.AllocError.{AllocError}
 use Rattle.std.specs.declared.ops.Range.{Range}
-use Rattle.markdown_values.specs.strings.Text.{cow_text}
-use Rattle.markdown_values.specs.values.Events.{event_view, text}
+use Rattle.markdown_values.specs.values.Events.{text}
 use Rattle.markdown_values.specs.declared.values.events.Event.{Event}
 use Rattle.markdown_events.specs.InlineEvents.{RangedEvent, seen_event}
 use Rattle.markdown_events.specs.Targets.{Targets}
@@ -108,26 +107,34 @@ pub record Takes (old : MergeLeft) (event : RangedEvent) (new : MergeLeft) : Typ
 
 -- ---- as items of an iterator
 
--- how far merged events are given, and whether memory was refused, after which no item comes
+-- how far merged events are given, and whether no item comes any more: after an error, and after None
 pub record MergeIterated : Type 0 where
   pub left : MergeLeft
   pub is_stopped : Bool
 
--- The next item: an event with its range, which goes before those that are given from there; an error, after which no item comes; or
--- None, after an error or where no event is left.
+-- after an item more may come, and the link reference definitions are the same
+pub record MergeGoesOn (old new : MergeIterated) : Type 0 where
+  pub is_not_stopped : new.is_stopped ≡ false
+  pub same_definitions : new.left.left.known ≡ old.left.left.known
+
+-- no item comes any more, and the link reference definitions are the same
+pub record MergeStops (old new : MergeIterated) : Type 0 where
+  pub is_stopped : new.is_stopped ≡ true
+  pub same_definitions : new.left.left.known ≡ old.left.left.known
+
+-- The next item: an event with its range, which goes before those that are given from there; or an error or None, after which no item
+-- comes. None is given where no event is left, or where none came any more.
 abbrev pub GivesNextMerged : MergeIterated → Option (Result (Event × Range ℕ) AllocError) → MergeIterated → Type 0
-GivesNextMerged old None new = IsTrue old.is_stopped ⊎ GivesMerged old.left []
+GivesNextMerged old None new = (IsTrue old.is_stopped ⊎ GivesMerged old.left []) × MergeStops old new
 GivesNextMerged old (Some (Ok event)) new =
-    (events : List RangedEvent) → GivesMerged new.left events → GivesMerged old.left (seen_event event ∷ events)
-GivesNextMerged old (Some (Err refused)) new = IsTrue new.is_stopped
+    MergeGoesOn old new × ((events : List RangedEvent) → GivesMerged new.left events → GivesMerged old.left (seen_event event ∷ events))
+GivesNextMerged old (Some (Err refused)) new = MergeStops old new
 
 -- the same without the range
 abbrev pub GivesNextMergedEvent : MergeIterated → Option (Result Event AllocError) → MergeIterated → Type 0
-GivesNextMergedEvent old None new = IsTrue old.is_stopped ⊎ GivesMerged old.left []
-GivesNextMergedEvent old (Some (Ok event)) new =
-    (range : Range ℕ) × ((events : List RangedEvent) → GivesMerged new.left events
-    → GivesMerged old.left ((event_view cow_text event, range) ∷ events))
-GivesNextMergedEvent old (Some (Err refused)) new = IsTrue new.is_stopped
+GivesNextMergedEvent old None new = GivesNextMerged old None new
+GivesNextMergedEvent old (Some (Ok event)) new = (range : Range ℕ) × GivesNextMerged old (Some (Ok (event, range))) new
+GivesNextMergedEvent old (Some (Err refused)) new = GivesNextMerged old (Some (Err refused)) new
 
 abbrev pub merged_items_left : MergeIterated → ℕ
 merged_items_left e = left_unless e.is_stopped (merged_left e.left)

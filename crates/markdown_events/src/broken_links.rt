@@ -1,10 +1,9 @@
 //! The events of a page whose labels lead where its caller says, where the page doesn't define them.
-ghost use Rattle.std.specs.Prelude.{◌≡◌, false, List, IfErr, IfOk};
+ghost use Rattle.std.specs.Prelude.{◌≡◌, false, IfErr, IfOk};
 ghost use Rattle.std.specs.Iterator.{at_most};
-ghost use Rattle.markdown_events.specs.EventLaws.{AreBalanced, AreWithin};
-ghost use Rattle.markdown_events.specs.InlineEvents.{RangedEvent};
+ghost use Rattle.markdown_events.specs.EventLaws.{AreAtBoundaries, AreBalanced, AreWithin};
 ghost use Rattle.markdown_events.specs.Nesting.{AreNested, without_ranges};
-ghost use Rattle.markdown_events.specs.page.Given.{GivesWith};
+ghost use Rattle.markdown_events.specs.page.Given.{GivesOnlyWith};
 ghost use Rattle.markdown_events.specs.page.Iterated.{GivesNextEventWith, GivesNextWith, items_left};
 ghost use Rattle.markdown_events.specs.page.PageEvents.{AreDefinitionsOf, ArePageEventsWith};
 ghost use Rattle.markdown_events.specs.page.Settings.{Explains, asked_by, not_built};
@@ -51,16 +50,16 @@ impl<'a, B: Definitions<'a> + Drop> BrokenLinkParser<'a, B> {
         options: Options,
         broken: B,
     ) -> Result<BrokenLinkParser<'a, B>, NewError>
-        ensures page { IfOk result (λ parser. (events : List RangedEvent)
-            → GivesWith (B.targets broken) parser.events.left events
-            → ArePageEventsWith text.now (asked_by options) (B.targets broken) events) }
-        ensures balanced { IfOk result (λ parser. (events : List RangedEvent)
-            → GivesWith (B.targets broken) parser.events.left events → AreBalanced events) }
-        ensures nested { IfOk result (λ parser. (events : List RangedEvent)
-            → GivesWith (B.targets broken) parser.events.left events
-            → AreNested (without_ranges events)) }
-        ensures within { IfOk result (λ parser. (events : List RangedEvent)
-            → GivesWith (B.targets broken) parser.events.left events → AreWithin text.now events) }
+        ensures page { IfOk result (λ parser. GivesOnlyWith (B.targets broken)
+            (ArePageEventsWith text.now (asked_by options) (B.targets broken)) parser.events.left) }
+        ensures balanced { IfOk result (λ parser.
+            GivesOnlyWith (B.targets broken) AreBalanced parser.events.left) }
+        ensures nested { IfOk result (λ parser. GivesOnlyWith (B.targets broken)
+            (λ events. AreNested (without_ranges events)) parser.events.left) }
+        ensures within { IfOk result (λ parser.
+            GivesOnlyWith (B.targets broken) (AreWithin text.now) parser.events.left) }
+        ensures boundaries { IfOk result (λ parser.
+            GivesOnlyWith (B.targets broken) (AreAtBoundaries text.now) parser.events.left) }
         ensures definitions { IfOk result (λ parser.
             AreDefinitionsOf text.now (asked_by options) parser.events.left.known) }
         ensures broken { IfOk result (λ parser. parser.broken ≡ broken) }

@@ -4,7 +4,7 @@ ghost use Rattle.markdown_events.specs.EventLaws.{AreAtBoundaries, AreBalanced, 
 ghost use Rattle.markdown_events.specs.InlineEvents.{RangedEvent, seen_event};
 ghost use Rattle.markdown_events.specs.Nesting.{AreNested, without_ranges};
 ghost use Rattle.markdown_blocks.specs.events.Events.{seen_event as seen_block, seen_leaf};
-ghost use Rattle.markdown_events.specs.page.Given.{Gives, GivesWith, IsDone, events_left, left_with, setting_with};
+ghost use Rattle.markdown_events.specs.page.Given.{AlwaysGivesOnly, Gives, GivesOnly, GivesOnlyWith, GivesWith, IsDone, events_left, left_with, setting_with};
 ghost use Rattle.markdown_events.specs.page.OpenElements.{begun, end_events, ended, next_span, passed, place_in, start_events};
 ghost use Rattle.markdown_events.specs.page.PageEvents.{AreDefinitionsOf, ArePageEvents, ArePageEventsWith, commonmark};
 ghost use Rattle.markdown_events.specs.Targets.{Targets};
@@ -120,24 +120,20 @@ impl<'a> EventReader<'a> {
     ///
     /// `AllocError` where that memory is refused.
     pub fn new(alloc: Global, text: &'a str) -> Result<EventReader<'a>, AllocError>
-        ensures page { IfOk result (λ reader. (events : List RangedEvent) → Gives reader events
-            → ArePageEvents text.now commonmark events) }
-        ensures balanced { IfOk result (λ reader. (events : List RangedEvent) → Gives reader events
-            → AreBalanced events) }
-        ensures nested { IfOk result (λ reader. (events : List RangedEvent) → Gives reader events
-            → AreNested (without_ranges events)) }
-        ensures within { IfOk result (λ reader. (events : List RangedEvent) → Gives reader events
-            → AreWithin text.now events) }
-        ensures boundaries { IfOk result (λ reader. (events : List RangedEvent) → Gives reader events
-            → AreAtBoundaries text.now events) }
+        ensures page { IfOk result (GivesOnly (ArePageEvents text.now commonmark)) }
+        ensures balanced { IfOk result (GivesOnly AreBalanced) }
+        ensures nested { IfOk result (GivesOnly (λ events. AreNested (without_ranges events))) }
+        ensures within { IfOk result (GivesOnly (AreWithin text.now)) }
+        ensures boundaries { IfOk result (GivesOnly (AreAtBoundaries text.now)) }
         ensures definitions { IfOk result (λ reader.
             AreDefinitionsOf text.now commonmark reader.known) }
-        ensures broken { IfOk result (λ reader. (more : Targets) (events : List RangedEvent)
-            → GivesWith more reader events → ArePageEventsWith text.now commonmark more events) }
-        ensures broken_balanced { IfOk result (λ reader. (more : Targets) (events : List RangedEvent)
-            → GivesWith more reader events → AreBalanced events) }
-        ensures broken_within { IfOk result (λ reader. (more : Targets) (events : List RangedEvent)
-            → GivesWith more reader events → AreWithin text.now events) }
+        ensures broken { IfOk result (λ reader. (more : Targets)
+            → GivesOnlyWith more (ArePageEventsWith text.now commonmark more) reader) }
+        ensures broken_balanced { IfOk result (AlwaysGivesOnly AreBalanced) }
+        ensures broken_nested { IfOk result (AlwaysGivesOnly (λ events.
+            AreNested (without_ranges events))) }
+        ensures broken_within { IfOk result (AlwaysGivesOnly (AreWithin text.now)) }
+        ensures broken_boundaries { IfOk result (AlwaysGivesOnly (AreAtBoundaries text.now)) }
     {
         EventReader::with_setting(alloc, text, PageSetting::commonmark())
     }
@@ -153,25 +149,20 @@ impl<'a> EventReader<'a> {
         text: &'a str,
         options: Options,
     ) -> Result<EventReader<'a>, NewError>
-        ensures page { IfOk result (λ reader. (events : List RangedEvent) → Gives reader events
-            → ArePageEvents text.now (asked_by options) events) }
-        ensures balanced { IfOk result (λ reader. (events : List RangedEvent) → Gives reader events
-            → AreBalanced events) }
-        ensures nested { IfOk result (λ reader. (events : List RangedEvent) → Gives reader events
-            → AreNested (without_ranges events)) }
-        ensures within { IfOk result (λ reader. (events : List RangedEvent) → Gives reader events
-            → AreWithin text.now events) }
-        ensures boundaries { IfOk result (λ reader. (events : List RangedEvent) → Gives reader events
-            → AreAtBoundaries text.now events) }
+        ensures page { IfOk result (GivesOnly (ArePageEvents text.now (asked_by options))) }
+        ensures balanced { IfOk result (GivesOnly AreBalanced) }
+        ensures nested { IfOk result (GivesOnly (λ events. AreNested (without_ranges events))) }
+        ensures within { IfOk result (GivesOnly (AreWithin text.now)) }
+        ensures boundaries { IfOk result (GivesOnly (AreAtBoundaries text.now)) }
         ensures definitions { IfOk result (λ reader.
             AreDefinitionsOf text.now (asked_by options) reader.known) }
-        ensures broken { IfOk result (λ reader. (more : Targets) (events : List RangedEvent)
-            → GivesWith more reader events
-            → ArePageEventsWith text.now (asked_by options) more events) }
-        ensures broken_balanced { IfOk result (λ reader. (more : Targets) (events : List RangedEvent)
-            → GivesWith more reader events → AreBalanced events) }
-        ensures broken_within { IfOk result (λ reader. (more : Targets) (events : List RangedEvent)
-            → GivesWith more reader events → AreWithin text.now events) }
+        ensures broken { IfOk result (λ reader. (more : Targets)
+            → GivesOnlyWith more (ArePageEventsWith text.now (asked_by options) more) reader) }
+        ensures broken_balanced { IfOk result (AlwaysGivesOnly AreBalanced) }
+        ensures broken_nested { IfOk result (AlwaysGivesOnly (λ events.
+            AreNested (without_ranges events))) }
+        ensures broken_within { IfOk result (AlwaysGivesOnly (AreWithin text.now)) }
+        ensures broken_boundaries { IfOk result (AlwaysGivesOnly (AreAtBoundaries text.now)) }
         ensures built { IfOk result (λ _. not_built options ≡ 0) }
         ensures refused { IfErr result (Explains options) }
     {
@@ -192,24 +183,20 @@ impl<'a> EventReader<'a> {
         page: &'a str,
         setting: PageSetting,
     ) -> Result<EventReader<'a>, AllocError>
-        ensures page { IfOk result (λ reader. (events : List RangedEvent) → Gives reader events
-            → ArePageEvents page.now setting events) }
-        ensures balanced { IfOk result (λ reader. (events : List RangedEvent) → Gives reader events
-            → AreBalanced events) }
-        ensures nested { IfOk result (λ reader. (events : List RangedEvent) → Gives reader events
-            → AreNested (without_ranges events)) }
-        ensures within { IfOk result (λ reader. (events : List RangedEvent) → Gives reader events
-            → AreWithin page.now events) }
-        ensures boundaries { IfOk result (λ reader. (events : List RangedEvent) → Gives reader events
-            → AreAtBoundaries page.now events) }
+        ensures page { IfOk result (GivesOnly (ArePageEvents page.now setting)) }
+        ensures balanced { IfOk result (GivesOnly AreBalanced) }
+        ensures nested { IfOk result (GivesOnly (λ events. AreNested (without_ranges events))) }
+        ensures within { IfOk result (GivesOnly (AreWithin page.now)) }
+        ensures boundaries { IfOk result (GivesOnly (AreAtBoundaries page.now)) }
         ensures definitions { IfOk result (λ reader.
             AreDefinitionsOf page.now setting reader.known) }
-        ensures broken { IfOk result (λ reader. (more : Targets) (events : List RangedEvent)
-            → GivesWith more reader events → ArePageEventsWith page.now setting more events) }
-        ensures broken_balanced { IfOk result (λ reader. (more : Targets) (events : List RangedEvent)
-            → GivesWith more reader events → AreBalanced events) }
-        ensures broken_within { IfOk result (λ reader. (more : Targets) (events : List RangedEvent)
-            → GivesWith more reader events → AreWithin page.now events) }
+        ensures broken { IfOk result (λ reader. (more : Targets)
+            → GivesOnlyWith more (ArePageEventsWith page.now setting more) reader) }
+        ensures broken_balanced { IfOk result (AlwaysGivesOnly AreBalanced) }
+        ensures broken_nested { IfOk result (AlwaysGivesOnly (λ events.
+            AreNested (without_ranges events))) }
+        ensures broken_within { IfOk result (AlwaysGivesOnly (AreWithin page.now)) }
+        ensures broken_boundaries { IfOk result (AlwaysGivesOnly (AreAtBoundaries page.now)) }
     {
         let asked = setting.blocks();
         let (mut blocks, definitions) = read_page(alloc, page, asked)?;

@@ -1,11 +1,10 @@
 //! The events of a page as iterators.
-ghost use Rattle.std.specs.Prelude.{◌≡◌, ◌<◌, false, List, IfErr, IfOk, IfSome};
+ghost use Rattle.std.specs.Prelude.{◌≡◌, ◌<◌, false, IfErr, IfOk, IfSome};
 ghost use Rattle.std.specs.Iterator.{at_most};
 ghost use Rattle.markdown_events.specs.EventLaws.{AreAtBoundaries, AreBalanced, AreWithin};
-ghost use Rattle.markdown_events.specs.InlineEvents.{RangedEvent};
 ghost use Rattle.markdown_events.specs.Nesting.{AreNested, without_ranges};
 ghost use Rattle.markdown_events.specs.Targets.{Targets};
-ghost use Rattle.markdown_events.specs.page.Given.{Gives, GivesWith};
+ghost use Rattle.markdown_events.specs.page.Given.{AlwaysGivesOnly, GivesOnly, GivesOnlyWith};
 ghost use Rattle.markdown_events.specs.page.Iterated.{GivesNext, GivesNextEvent, GivesNextEventWith, GivesNextWith, Iterated, items_left};
 ghost use Rattle.markdown_events.specs.page.PageEvents.{AreDefinitionsOf, ArePageEvents, ArePageEventsWith, commonmark};
 ghost use Rattle.markdown_events.specs.page.Settings.{Explains, asked_by, not_built};
@@ -18,7 +17,7 @@ use std::marker::Model;
 use std::ops::Range;
 
 /// The events of a page, from the first to the last. Memory that is refused is the last item: who
-/// would ask for the same event again takes an `EventReader`.
+/// would ask for the same event again takes an `EventReader`. After None each further call gives None.
 #[derive(Drop)]
 pub struct Parser<'a> {
     events: OffsetIter<'a>,
@@ -50,20 +49,25 @@ impl<'a> Parser<'a> {
     ///
     /// `AllocError` where the memory is refused that `EventReader::new` asks for.
     pub fn new(alloc: Global, text: &'a str) -> Result<Parser<'a>, AllocError>
-        ensures page { IfOk result (λ parser. (events : List RangedEvent)
-            → Gives parser.left events → ArePageEvents text.now commonmark events) }
-        ensures balanced { IfOk result (λ parser. (events : List RangedEvent)
-            → Gives parser.left events → AreBalanced events) }
-        ensures nested { IfOk result (λ parser. (events : List RangedEvent)
-            → Gives parser.left events → AreNested (without_ranges events)) }
-        ensures within { IfOk result (λ parser. (events : List RangedEvent)
-            → Gives parser.left events → AreWithin text.now events) }
-        ensures boundaries { IfOk result (λ parser. (events : List RangedEvent)
-            → Gives parser.left events → AreAtBoundaries text.now events) }
+        ensures page { IfOk result (λ parser.
+            GivesOnly (ArePageEvents text.now commonmark) parser.left) }
+        ensures balanced { IfOk result (λ parser. GivesOnly AreBalanced parser.left) }
+        ensures nested { IfOk result (λ parser.
+            GivesOnly (λ events. AreNested (without_ranges events)) parser.left) }
+        ensures within { IfOk result (λ parser. GivesOnly (AreWithin text.now) parser.left) }
+        ensures boundaries { IfOk result (λ parser.
+            GivesOnly (AreAtBoundaries text.now) parser.left) }
         ensures definitions { IfOk result (λ parser.
             AreDefinitionsOf text.now commonmark parser.left.known) }
-        ensures broken { IfOk result (λ parser. (more : Targets) (events : List RangedEvent)
-            → GivesWith more parser.left events → ArePageEventsWith text.now commonmark more events) }
+        ensures broken { IfOk result (λ parser. (more : Targets)
+            → GivesOnlyWith more (ArePageEventsWith text.now commonmark more) parser.left) }
+        ensures broken_balanced { IfOk result (λ parser. AlwaysGivesOnly AreBalanced parser.left) }
+        ensures broken_nested { IfOk result (λ parser.
+            AlwaysGivesOnly (λ events. AreNested (without_ranges events)) parser.left) }
+        ensures broken_within { IfOk result (λ parser.
+            AlwaysGivesOnly (AreWithin text.now) parser.left) }
+        ensures broken_boundaries { IfOk result (λ parser.
+            AlwaysGivesOnly (AreAtBoundaries text.now) parser.left) }
         ensures goes { IfOk result (λ parser. parser.is_stopped ≡ false) }
     {
         Ok(Parser::of_reader(EventReader::new(alloc, text)?))
@@ -76,21 +80,25 @@ impl<'a> Parser<'a> {
     /// `NotBuilt` with those of the options that are not built, where one is, and `Refused` where the
     /// memory is refused that `EventReader::new` asks for.
     pub fn new_ext(alloc: Global, text: &'a str, options: Options) -> Result<Parser<'a>, NewError>
-        ensures page { IfOk result (λ parser. (events : List RangedEvent)
-            → Gives parser.left events → ArePageEvents text.now (asked_by options) events) }
-        ensures balanced { IfOk result (λ parser. (events : List RangedEvent)
-            → Gives parser.left events → AreBalanced events) }
-        ensures nested { IfOk result (λ parser. (events : List RangedEvent)
-            → Gives parser.left events → AreNested (without_ranges events)) }
-        ensures within { IfOk result (λ parser. (events : List RangedEvent)
-            → Gives parser.left events → AreWithin text.now events) }
-        ensures boundaries { IfOk result (λ parser. (events : List RangedEvent)
-            → Gives parser.left events → AreAtBoundaries text.now events) }
+        ensures page { IfOk result (λ parser.
+            GivesOnly (ArePageEvents text.now (asked_by options)) parser.left) }
+        ensures balanced { IfOk result (λ parser. GivesOnly AreBalanced parser.left) }
+        ensures nested { IfOk result (λ parser.
+            GivesOnly (λ events. AreNested (without_ranges events)) parser.left) }
+        ensures within { IfOk result (λ parser. GivesOnly (AreWithin text.now) parser.left) }
+        ensures boundaries { IfOk result (λ parser.
+            GivesOnly (AreAtBoundaries text.now) parser.left) }
         ensures definitions { IfOk result (λ parser.
             AreDefinitionsOf text.now (asked_by options) parser.left.known) }
-        ensures broken { IfOk result (λ parser. (more : Targets) (events : List RangedEvent)
-            → GivesWith more parser.left events
-            → ArePageEventsWith text.now (asked_by options) more events) }
+        ensures broken { IfOk result (λ parser. (more : Targets)
+            → GivesOnlyWith more (ArePageEventsWith text.now (asked_by options) more) parser.left) }
+        ensures broken_balanced { IfOk result (λ parser. AlwaysGivesOnly AreBalanced parser.left) }
+        ensures broken_nested { IfOk result (λ parser.
+            AlwaysGivesOnly (λ events. AreNested (without_ranges events)) parser.left) }
+        ensures broken_within { IfOk result (λ parser.
+            AlwaysGivesOnly (AreWithin text.now) parser.left) }
+        ensures broken_boundaries { IfOk result (λ parser.
+            AlwaysGivesOnly (AreAtBoundaries text.now) parser.left) }
         ensures goes { IfOk result (λ parser. parser.is_stopped ≡ false) }
         ensures built { IfOk result (λ _. not_built options ≡ 0) }
         ensures refused { IfErr result (Explains options) }
@@ -150,7 +158,7 @@ impl<'a> OffsetIter<'a> {
         self.reader.reference_definitions()
     }
 
-    // Whether memory was refused, after which no item comes.
+    // Whether no item comes any more: after an error, and after None.
     pub(crate) fn is_stopped(&self) -> bool
         ensures { result ≡ self.now.is_stopped }
     {
@@ -182,7 +190,10 @@ impl<'a> OffsetIter<'a> {
         }
         match self.reader.take_ready() {
             Some(event) => Some(Ok(event)),
-            None => None,
+            None => {
+                self.is_stopped = true;
+                None
+            }
         }
     }
 }

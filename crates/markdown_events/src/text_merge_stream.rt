@@ -16,7 +16,7 @@ use std::ops::Range;
 
 /// The events of a page, of which no text follows another: texts that follow each other are one text.
 /// Memory that is refused is the last item: who would ask for the same event again takes a
-/// `TextMergeReader`.
+/// `TextMergeReader`. After None each further call gives None.
 #[derive(Drop)]
 pub struct TextMergeStream<'a> {
     events: TextMergeWithOffset<'a>,
@@ -130,7 +130,10 @@ impl<'a> Iterator for TextMergeWithOffset<'a> {
         }
         match self.reader.next() {
             Ok(Some(event)) => Some(Ok(event)),
-            Ok(None) => None,
+            Ok(None) => {
+                self.is_stopped = true;
+                None
+            }
             Err(refused) => {
                 self.is_stopped = true;
                 Some(Err(refused))

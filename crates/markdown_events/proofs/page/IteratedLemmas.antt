@@ -9,14 +9,13 @@ use Rattle.markdown_events.proofs.page.ParserLemmas.{given_with, given_without}
 
 pub next_without : (old : Iterated) (item : Option (Result (Event × Range ℕ) AllocError)) (new : Iterated) → GivesNextWith nowhere old item new
     → GivesNext old item new
-next_without old None new (inl stopped) = inl stopped
-next_without old None new (inr none) = inr (given_without _ _ none)
-next_without old (Some (Ok event)) new gives = λ events g. given_without _ _ (gives events (given_with _ _ g))
-next_without old (Some (Err refused)) new stopped = stopped
+next_without old None new (inl stopped, stops) = (inl stopped, stops)
+next_without old None new (inr none, stops) = (inr (given_without _ _ none), stops)
+next_without old (Some (Ok event)) new (goes, gives) = (goes, λ events g. given_without _ _ (gives events (given_with _ _ g)))
+next_without old (Some (Err refused)) new stops = stops
 
 pub next_event_without : (old : Iterated) (item : Option (Result Event AllocError)) (new : Iterated) → GivesNextEventWith nowhere old item new
     → GivesNextEvent old item new
-next_event_without old None new (inl stopped) = inl stopped
-next_event_without old None new (inr none) = inr (given_without _ _ none)
-next_event_without old (Some (Ok event)) new (range, gives) = (range, λ events g. given_without _ _ (gives events (given_with _ _ g)))
-next_event_without old (Some (Err refused)) new stopped = stopped
+next_event_without old None new gives = next_without old None new gives
+next_event_without old (Some (Ok event)) new (range, gives) = (range, next_without old (Some (Ok (event, range))) new gives)
+next_event_without old (Some (Err refused)) new stops = stops

@@ -3,7 +3,7 @@ use Rattle.std.proofs.Common.{ℕ, suc, List, [], ◌∷◌, ◌++◌, length, O
 use Rattle.std.specs.Str.{IsUtf8}
 use Rattle.markdown_blocks.specs.containers.Containers.{settled}
 use Rattle.markdown_blocks.specs.declared.containers.Container.{Container}
-use Rattle.markdown_blocks.specs.events.Events.{Event, block_end, ends, leaf}
+use Rattle.markdown_blocks.specs.events.Events.{Event, IsEventsOf, block_end, ends, leaf}
 use Rattle.markdown_blocks.specs.first_blocks.Waiting.{waiting_behind}
 use Rattle.markdown_blocks.specs.laws.Characters.{AreCutOut}
 use Rattle.markdown_blocks.specs.laws.FirstTexts.{FirstsBeginPlain}
@@ -13,8 +13,9 @@ use Rattle.markdown_blocks.specs.lists.Lists.{Nodes, nothing, leaf_then, contain
 use Rattle.markdown_blocks.proofs.ForCallers.{page_contents_stand, page_cut_out, page_firsts_begin_plain}
 use Rattle.markdown_events.specs.EventLaws.{AreAtBoundaries}
 use Rattle.markdown_events.specs.InlineEvents.{RangedEvent}
+use Rattle.markdown_events.specs.Targets.{Targets, or_else}
 use Rattle.markdown_events.specs.declared.event_reader.PageSetting.{PageSetting}
-use Rattle.markdown_events.specs.page.PageEvents.{ArePageEvents, block_setting, blocks_of, outermost}
+use Rattle.markdown_events.specs.page.PageEvents.{AreNodeEvents, ArePageEvents, ArePageEventsWith, block_setting, blocks_of, outermost}
 use Rattle.markdown_events.specs.page.TaskEvents.{BlockSetting}
 use Rattle.markdown_events.proofs.page.NodeCuts.{NodesAt, nodes_at}
 use Rattle.markdown_events.proofs.page.task_events.TaskCuts.{block_at}
@@ -42,14 +43,28 @@ module _ (page : List ℕ) (setting : BlockSetting) where
       let more = cut_nodes later outer (length outer) (passed_after (suc place) inner) None rest stand.1 held.1.0 held.1.1.1 in
       ((cut.0, held.0, more.0), more.1)
 
--- Each range begins and ends at a character boundary of the page.
-pub page_events_at_boundaries : (page : List ℕ) (setting : PageSetting) (events : List RangedEvent) → IsUtf8 page → ArePageEvents page setting events
-    → AreAtBoundaries page events
-page_events_at_boundaries page setting events utf8 are =
-    let read_with = block_setting setting (λ label. first_of label are.named) in
-    let asked = blocks_of setting in
-    let all = sym (append-nil (flatten are.nodes)) in
-    let at = cut_nodes page read_with are.nodes [] 0 0 None [] (page_contents_stand asked page are.nodes are.are_blocks)
-    (subst (AreCutOut page) all (page_cut_out asked page (flatten are.nodes) are.are_blocks utf8))
-    (subst (FirstsBeginPlain None) all (page_firsts_begin_plain asked page (flatten are.nodes) are.are_blocks)) in
-    nodes_at page read_with utf8 are.nodes outermost None None events at.0 tt are.are_events
+-- ---- the page
+
+module _ (page : List ℕ) (setting : PageSetting) (utf8 : IsUtf8 page) where
+  -- wherever labels lead
+  tree_at_boundaries : (targets : Targets) (nodes : Nodes) (events : List RangedEvent) → IsEventsOf (blocks_of setting) page (flatten nodes)
+      → AreNodeEvents page (block_setting setting targets) outermost None None nodes events → AreAtBoundaries page events
+  tree_at_boundaries targets nodes events are_blocks are_events =
+      let read_with = block_setting setting targets in
+      let asked = blocks_of setting in
+      let all = sym (append-nil (flatten nodes)) in
+      let at = cut_nodes page read_with nodes [] 0 0 None [] (page_contents_stand asked page nodes are_blocks)
+      (subst (AreCutOut page) all (page_cut_out asked page (flatten nodes) are_blocks utf8))
+      (subst (FirstsBeginPlain None) all (page_firsts_begin_plain asked page (flatten nodes) are_blocks)) in
+      nodes_at page read_with utf8 nodes outermost None None events at.0 tt are_events
+
+  -- Each range begins and ends at a character boundary of the page.
+  pub page_events_at_boundaries : (events : List RangedEvent) → ArePageEvents page setting events → AreAtBoundaries page events
+  page_events_at_boundaries events are =
+      tree_at_boundaries (λ label. first_of label are.named) are.nodes events are.are_blocks are.are_events
+
+  -- also where labels that the page does not define lead as these say
+  pub page_events_with_at_boundaries : (more : Targets) (events : List RangedEvent) → ArePageEventsWith page setting more events
+      → AreAtBoundaries page events
+  page_events_with_at_boundaries more events are =
+      tree_at_boundaries (or_else (λ label. first_of label are.named) more) are.nodes events are.are_blocks are.are_events

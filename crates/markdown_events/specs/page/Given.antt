@@ -60,6 +60,18 @@ pub record GivesWith (more : Targets) (left : PageLeft) (events : List RangedEve
   pub are_later : AreEventsFrom left.page (setting_with more left) left.elements left.blocks rest
   pub given : events ≡ left.ready ++ rest
 
+-- this holds of whatever events are given from here
+abbrev pub GivesOnly : (List RangedEvent → Type 0) → PageLeft → Type 0
+GivesOnly Holds left = (events : List RangedEvent) → Gives left events → Holds events
+
+-- also where labels that the page does not define lead as these say
+abbrev pub GivesOnlyWith : Targets → (List RangedEvent → Type 0) → PageLeft → Type 0
+GivesOnlyWith more Holds left = (events : List RangedEvent) → GivesWith more left events → Holds events
+
+-- and wherever they lead
+abbrev pub AlwaysGivesOnly : (List RangedEvent → Type 0) → PageLeft → Type 0
+AlwaysGivesOnly Holds left = (more : Targets) → GivesOnlyWith more Holds left
+
 -- a number that each event lowers: a block has fewer than 2 ^ 64 events
 abbrev pub events_left : PageLeft → ℕ
 events_left left = 2 ^ 64 * length left.blocks + length left.ready

@@ -4,8 +4,8 @@ use Rattle.markdown_events.specs.InlineEvents.{seen_event}
 use Rattle.markdown_events.specs.Targets.{nowhere}
 use Rattle.markdown_events.specs.page.OpenElements.{none_open}
 use Rattle.markdown_events.specs.page.PageEvents.{ArePageEvents, ArePageEventsWith}
-use Rattle.markdown_events.proofs.page.PageBalance.{page_events_balance, page_events_nest, page_events_with_balance}
-use Rattle.markdown_events.proofs.page.PageCuts.{page_events_at_boundaries}
+use Rattle.markdown_events.proofs.page.PageBalance.{page_events_balance, page_events_nest, page_events_with_balance, page_events_with_nest}
+use Rattle.markdown_events.proofs.page.PageCuts.{page_events_at_boundaries, page_events_with_at_boundaries}
 use Rattle.markdown_events.proofs.page.PageRanges.{page_events_with_within, page_events_within}
 use Rattle.markdown_events.proofs.page.ParserLemmas.{given_with, page_events, page_events_with, reverse_twice}
 use Rattle.markdown_events.proofs.event_reader.EventReader.with_setting.Goals as goal
@@ -46,7 +46,7 @@ returns-clause-within c = λ events g. page_events_within c.args.page.now c.args
 
 pub returns-clause-boundaries : goal.returns-clause-boundaries
 returns-clause-boundaries c = λ events g.
-    page_events_at_boundaries c.args.page.now c.args.setting events c.utf8.page (returns-clause-page c events g)
+    page_events_at_boundaries c.args.page.now c.args.setting c.utf8.page events (returns-clause-page c events g)
 
 pub returns-clause-definitions : goal.returns-clause-definitions
 returns-clause-definitions c =
@@ -76,3 +76,11 @@ returns-clause-broken_balanced c = λ more events g.
 pub returns-clause-broken_within : goal.returns-clause-broken_within
 returns-clause-broken_within c = λ more events g.
     page_events_with_within c.args.page.now c.args.setting more events (returns-clause-broken c more events g)
+
+pub returns-clause-broken_nested : goal.returns-clause-broken_nested
+returns-clause-broken_nested c = λ more events g.
+    page_events_with_nest c.args.page.now c.args.setting more events (returns-clause-broken c more events g)
+
+pub returns-clause-broken_boundaries : goal.returns-clause-broken_boundaries
+returns-clause-broken_boundaries c = λ more events g.
+    page_events_with_at_boundaries c.args.page.now c.args.setting c.utf8.page more events (returns-clause-broken c more events g)

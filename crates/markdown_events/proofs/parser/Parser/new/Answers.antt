@@ -1,0 +1,17 @@
+use Rattle.std.proofs.Common.{subst, sym}
+use Rattle.markdown_events.specs.EventLaws.{AreAtBoundaries, AreBalanced, AreWithin}
+use Rattle.markdown_events.specs.Nesting.{AreNested, without_ranges}
+use Rattle.markdown_events.specs.page.Given.{AlwaysGivesOnly}
+use Rattle.markdown_events.proofs.parser.Parser.new.Goals as goal
+
+pub returns-clause-broken_balanced : goal.returns-clause-broken_balanced
+returns-clause-broken_balanced c = subst (AlwaysGivesOnly AreBalanced) (sym c.of_reader.ensures.left) c.in_ok-new.ensures.broken_balanced
+
+pub returns-clause-broken_nested : goal.returns-clause-broken_nested
+returns-clause-broken_nested c = subst (AlwaysGivesOnly (λ events. AreNested (without_ranges events))) (sym c.of_reader.ensures.left) c.in_ok-new.ensures.broken_nested
+
+pub returns-clause-broken_within : goal.returns-clause-broken_within
+returns-clause-broken_within c = subst (AlwaysGivesOnly (AreWithin c.args.text.now)) (sym c.of_reader.ensures.left) c.in_ok-new.ensures.broken_within
+
+pub returns-clause-broken_boundaries : goal.returns-clause-broken_boundaries
+returns-clause-broken_boundaries c = subst (AlwaysGivesOnly (AreAtBoundaries c.args.text.now)) (sym c.of_reader.ensures.left) c.in_ok-new.ensures.broken_boundaries
