@@ -1,1 +1,2 @@
+pub mod AddressParts
 pub mod EscapeLemmas

@@ -1,5 +1,6 @@
 pub mod Addresses
 pub mod Blocks
+pub mod ByteSets
 pub mod Content
 pub mod EscapeLaws
 pub mod Escapes

@@ -4,6 +4,7 @@
 
 pub mod addresses;
 mod blocks;
+mod byte_sets;
 pub mod escapes;
 pub mod html;
 mod inlines;
