@@ -15,3 +15,4 @@ pub mod SafeEvents
 pub mod SafeLemmas
 pub mod SafePages
 mod SafeRows
+pub mod WholePages

@@ -6,7 +6,8 @@ use Rattle.markdown_scanners_tree.specs.Ascii.{greater_than_sign, line_feed}
 
 -- What is written so far. The links and images that are open, the innermost first: an image by its title, which is written after what
 -- it holds. Of the table that is open, or was last: how its columns are aligned, how the cells are that its row does not have yet,
--- whether that is its head, and whether it has other rows.
+-- whether that is its head, and whether it has other rows. And whether the writer is spent: memory was refused, and no event is taken
+-- any more.
 pub record HtmlState : Type 0 where
   pub output : List ℕ
   pub links : List (Option (List ℕ))
@@ -14,10 +15,15 @@ pub record HtmlState : Type 0 where
   pub cells : List Alignment
   pub is_head : Bool
   pub has_body : Bool
+  pub is_spent : Bool
 
 -- before the first event
 abbrev pub nothing_written : HtmlState
-nothing_written = record { output = []; links = []; columns = []; cells = []; is_head = false; has_body = false }
+nothing_written = record { output = []; links = []; columns = []; cells = []; is_head = false; has_body = false; is_spent = false }
+
+-- after memory was refused: what was written is given back
+abbrev pub spent : HtmlState
+spent = record nothing_written { is_spent = true }
 
 -- with more written
 abbrev pub written : List ℕ → HtmlState → HtmlState

@@ -2,7 +2,7 @@
 ghost use Rattle.std.specs.Prelude.{◌≡◌, IfErr, IfOk, string_bytes};
 ghost use Rattle.markdown_events.specs.page.PageEvents.{commonmark};
 ghost use Rattle.markdown_events.specs.page.Settings.{Explains, asked_by, not_built};
-ghost use Rattle.markdown_html.specs.PageHtml.{IsHtmlFrom, IsHtmlOf};
+ghost use Rattle.markdown_html.specs.PageHtml.{HoldsPage, IsHtmlFrom, IsHtmlOf};
 ghost use Rattle.markdown_html.specs.SafeSetting.{IsSafeWith};
 ghost use Rattle.markdown_html.specs.Settings.{seen_setting};
 
@@ -27,6 +27,8 @@ pub fn html_of_page<A: AllowedAddresses>(
         (seen_setting A.allows setting.now) (string_bytes html)) }
     ensures safe { IfOk result (λ html. IsSafeWith
         (seen_setting A.allows setting.now) (string_bytes html)) }
+    ensures reads { IfOk result (λ html.
+        HoldsPage page.now commonmark setting.now.raw (string_bytes html)) }
 {
     let text = with_replacements(alloc, page)?;
     html_of_reader(alloc, EventReader::new(alloc, text.as_str())?, setting)
@@ -48,6 +50,8 @@ pub fn html_of_page_ext<A: AllowedAddresses>(
         (seen_setting A.allows setting.now) (string_bytes html)) }
     ensures safe { IfOk result (λ html. IsSafeWith
         (seen_setting A.allows setting.now) (string_bytes html)) }
+    ensures reads { IfOk result (λ html.
+        HoldsPage page.now (asked_by options) setting.now.raw (string_bytes html)) }
     ensures built { IfOk result (λ _. not_built options ≡ 0) }
     ensures refused { IfErr result (Explains options) }
 {

@@ -1,5 +1,5 @@
 //! The HTML of events that are given one after another.
-ghost use Rattle.std.specs.Prelude.{◌≡◌, [], ◌∷◌, List, ℕ, OnOk, Option, codes, string_bytes};
+ghost use Rattle.std.specs.Prelude.{◌≡◌, [], ◌∷◌, List, ℕ, OnErr, OnOk, Option, codes, false, string_bytes};
 ghost use Rattle.markdown_values.specs.strings.Text.{cow_text};
 ghost use Rattle.markdown_values.specs.values.Events.{event_view};
 ghost use Rattle.markdown_values.specs.values.Tags.{tag_view};
@@ -8,7 +8,7 @@ ghost use Rattle.markdown_html.specs.Escapes.{escaped};
 ghost use Rattle.markdown_html.specs.Html.{after_event, ended, started, with_event, with_text_of};
 ghost use Rattle.markdown_html.specs.Inlines.{code_element, raw_html, raw_text};
 ghost use Rattle.markdown_html.specs.Settings.{seen_setting};
-ghost use Rattle.markdown_html.specs.States.{ended_line, is_begun, is_in_image, last_byte, nothing_written, on_line, written};
+ghost use Rattle.markdown_html.specs.States.{ended_line, is_begun, is_in_image, last_byte, nothing_written, on_line, spent, written};
 
 use crate::escapes::push_escaped;
 use crate::setting::{AllowedAddresses, HtmlSetting, RawHtml};
@@ -29,6 +29,8 @@ pub struct HtmlWriter<'a> {
     pub(crate) cell: usize,
     pub(crate) is_head: bool,
     pub(crate) has_body: bool,
+    // Whether memory was refused.
+    is_spent: bool,
 }
 
 impl<'a> Model for HtmlWriter<'a> {
@@ -45,6 +47,7 @@ impl<'a> Model for HtmlWriter<'a> {
       cells = drop w.cell w.columns.items;
       is_head = w.is_head;
       has_body = w.has_body;
+      is_spent = w.is_spent;
     } };
 }
 
@@ -61,10 +64,11 @@ impl<'a> HtmlWriter<'a> {
             cell: 0,
             is_head: false,
             has_body: false,
+            is_spent: false,
         }
     }
 
-    /// What is written.
+    /// What is written, and nothing where a call of `push` was refused.
     pub fn into_string(self) -> String
         ensures { string_bytes result ≡ self.entry.output }
     {
@@ -75,20 +79,52 @@ impl<'a> HtmlWriter<'a> {
     ///
     /// # Errors
     ///
-    /// `AllocError` where memory is refused; a part of the event may be written then, and what is
-    /// written from there on is not the page's.
+    /// `AllocError` where memory is refused. The writer is spent then: what it had written is given
+    /// back, and it refuses each later event. Another one writes the events again, from the first on.
     pub fn push<A: AllowedAddresses>(
         &mut self,
         setting: &HtmlSetting<A>,
         event: Event<'a>,
     ) -> Result<(), AllocError>
-        ensures { OnOk result (self.new ≡ after_event (seen_setting A.allows setting.now)
+        ensures html { OnOk result (self.new ≡ after_event (seen_setting A.allows setting.now)
             (event_view cow_text event.entry) self.old) }
+        ensures unspent { OnOk result (self.old.is_spent ≡ false) }
+        ensures refused { OnErr result (self.new ≡ spent) }
     {
+        match self.push_unless_spent(setting, event) {
+            Ok(()) => Ok(()),
+            Err(refused) => {
+                self.spend();
+                Err(refused)
+            }
+        }
+    }
+
+    // Adds an event, and leaves a part of it where memory is refused.
+    fn push_unless_spent<A: AllowedAddresses>(
+        &mut self,
+        setting: &HtmlSetting<A>,
+        event: Event<'a>,
+    ) -> Result<(), AllocError>
+        ensures html { OnOk result (self.new ≡ after_event (seen_setting A.allows setting.now)
+            (event_view cow_text event.entry) self.old) }
+        ensures unspent { OnOk result (self.old.is_spent ≡ false) }
+    {
+        if self.is_spent {
+            return Err(AllocError);
+        }
         if self.is_in_image() {
             return self.push_in_image(setting, event);
         }
         self.push_outside_images(setting, event)
+    }
+
+    // Gives back what is written, after which no event is taken.
+    fn spend(&mut self)
+        ensures { self.new ≡ spent }
+    {
+        *self = HtmlWriter::new(self.alloc);
+        self.is_spent = true;
     }
 
     /// Whether an image is open.

@@ -10,6 +10,6 @@ use Rattle.markdown_html.proofs.html.html_of_list.Goals as goal
 pub loop-event-preserved : goal.loop-event-preserved
 loop-event-preserved g c =
     let setting : Setting = seen_setting g.A.AllowedAddresses.allows c.args.setting.now in
-    c.in_ok-push.ensures
+    c.in_ok-push.ensures.html
     ∙ ap (after_event setting (event_view cow_text c.in-Some.event)) c.loop-event.invariant
     ∙ sym (after_one_more setting c.loop-event.yielded c.in-Some.event nothing_written)

@@ -20,7 +20,7 @@ loop-event-preserved g c =
       (
         before.0 ++ event ∷ [],
         ap (λ items. items ++ c.in-Some.event ∷ []) before.1 ∙ ap (λ it. map Ok before.0 ++ it ∷ []) item ∙ sym (map-append Ok before.0 (event ∷ [])),
-        c.in_ok-push.ensures ∙ ap (after_event setting (event_view cow_text event)) before.2
+        c.in_ok-push.ensures.html ∙ ap (after_event setting (event_view cow_text event)) before.2
             ∙ sym (after_one_more setting before.0 event nothing_written),
       ),
     )
