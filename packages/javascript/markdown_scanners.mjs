@@ -71,6 +71,16 @@ export class Scanners {
     }
 
     /**
+     * The events of a page, as `Text.events` has them: their places are those of the string, in UTF-16 units, or of the bytes.
+     * @template {string | Uint8Array} Made
+     * @param {Made} page
+     * @param {{ extensions?: import("./lib/text.mjs").Extension[] }} [options]
+     */
+    events(page, options = {}) {
+        return this.text(page, { units: typeof page === "string" ? "utf-16" : "utf-8" }).events(options);
+    }
+
+    /**
      * What reads a page that comes piece by piece. Where `footnotes` is true, `[^label]:` begins a footnote definition, as on
      * GitHub; where `definitionLists` is, `:` after a paragraph begins a definition of it. (3, 4, 5)
      * @param {{ footnotes?: boolean, definitionLists?: boolean }} [options]

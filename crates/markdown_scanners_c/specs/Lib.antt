@@ -3,6 +3,7 @@ pub mod Answers
 pub mod BlockLines
 pub mod Buffer
 pub mod DelimiterRuns
+pub mod EventRecords
 pub mod Finds
 pub mod Guards
 pub mod Inlines
@@ -12,6 +13,7 @@ pub mod Labels
 pub mod LineRests
 pub mod LineRuns
 pub mod LineStarts
+pub mod PageEvents
 pub mod PageHtml
 pub mod PageLists
 pub mod Pages

@@ -9,6 +9,7 @@
 mod block_lines;
 mod blocks;
 mod delimiter_runs;
+mod event_records;
 mod html;
 mod inline;
 mod inlines;
@@ -19,6 +20,7 @@ mod line_rests;
 mod line_runs;
 mod line_starts;
 mod lines;
+mod page_events;
 mod page_html;
 mod page_lists;
 mod pages;

@@ -71,7 +71,7 @@ pub extern "C" fn mds_safe_html(
 }
 
 // Whether every option with one of these bits is built.
-fn are_built(options: u32) -> bool
+pub(crate) fn are_built(options: u32) -> bool
     ensures { result ≡ (not_built (options_of options) == 0) }
 {
     options & NOT_BUILT == 0

@@ -1,11 +1,13 @@
 /* The scanners of Markdown's lines, blocks and inline text, as C functions.
  *
- * They stand over the libraries `markdown_scanners_tree`, `markdown_inlines`, `markdown_blocks` and `markdown_html`, and each is
- * proved to answer what their definitions say, after CommonMark 0.31.2 (https://spec.commonmark.org/0.31.2/), whose sections stand in
- * brackets below. They are scanners: each reads from the front of the bytes that it is given, or from an offset in them, and
- * says what begins there. None looks for the next construct, so a caller goes through its document and asks. But
+ * They stand over the libraries `markdown_scanners_tree`, `markdown_inlines`, `markdown_blocks`, `markdown_events` and
+ * `markdown_html`, and each is proved to answer what their definitions say, after CommonMark 0.31.2
+ * (https://spec.commonmark.org/0.31.2/), whose sections stand in brackets below. They are scanners: each reads from the
+ * front of the bytes that it is given, or from an offset in them, and says what begins there. None looks for the next
+ * construct, so a caller goes through its document and asks. But
  * mds_scan_blocks reads a page, and says which blocks it has, and mds_scan_inlines the text of a block, and says which inlines.
- * mds_block_line reads a page that comes piece by piece. mds_html and mds_safe_html make the HTML of a page.
+ * mds_block_line reads a page that comes piece by piece. mds_html and mds_safe_html make the HTML of a page, and
+ * mds_events its events.
  *
  * Bytes and texts. A pointer and a length go together; nothing has to end in a zero byte, and zero bytes are read as
  * any other. What is read may be of any type of bytes, as `char` or `uint8_t`. The pointer may be null where the length
@@ -889,6 +891,115 @@ struct mds_text mds_html(const void *text, size_t length, uint32_t options, uint
 struct mds_text mds_safe_html(
     const void *text, size_t length, uint32_t options, const struct mds_view *schemes, size_t scheme_count, uint8_t *buffer,
     size_t capacity);
+
+/* ---- The events of a page ---- */
+
+/* What an event is. Those of extensions that no option asks for yet have their numbers already. */
+enum mds_event_kind {
+    MDS_EVENT_START = 0,              /* an element begins */
+    MDS_EVENT_END = 1,                /* the element ends that has begun last, of those that have not ended */
+    MDS_EVENT_TEXT = 2,               /* text, its escapes and references resolved; of code and HTML blocks as it is */
+    MDS_EVENT_CODE = 3,               /* a code span (6.1) */
+    MDS_EVENT_INLINE_MATH = 4,        /* not yet */
+    MDS_EVENT_DISPLAY_MATH = 5,       /* not yet */
+    MDS_EVENT_HTML = 6,               /* a line of an HTML block (4.6) */
+    MDS_EVENT_INLINE_HTML = 7,        /* raw HTML in a text (6.6) */
+    MDS_EVENT_FOOTNOTE_REFERENCE = 8, /* not yet */
+    MDS_EVENT_SOFT_BREAK = 9,         /* a line ending in a paragraph (6.8) */
+    MDS_EVENT_HARD_BREAK = 10,        /* a line ending that is kept (6.7) */
+    MDS_EVENT_RULE = 11,              /* a thematic break (4.1) */
+    MDS_EVENT_TASK = 12               /* the box of a list item (GitHub Flavored Markdown 0.29, 5.3) */
+};
+
+/* What begins or ends. The same holds of their numbers. */
+enum mds_element {
+    MDS_ELEMENT_PARAGRAPH = 1,           /* (4.8) */
+    MDS_ELEMENT_HEADING = 2,             /* `detail` is its level (4.2, 4.3) */
+    MDS_ELEMENT_QUOTE = 3,               /* `detail` is 0, or the kind of an alert (5.1) */
+    MDS_ELEMENT_CODE_BLOCK = 4,          /* `detail` of its start is 1 where it is fenced, whose info string is `text` (4.4, 4.5) */
+    MDS_ELEMENT_HTML_BLOCK = 5,          /* (4.6) */
+    MDS_ELEMENT_LIST = 6,                /* `detail` is 1 where it is ordered; of its start `number` is that of the first item (5.3) */
+    MDS_ELEMENT_ITEM = 7,                /* (5.2) */
+    MDS_ELEMENT_FOOTNOTE = 8,            /* not yet */
+    MDS_ELEMENT_DEFINITION_LIST = 9,     /* not yet */
+    MDS_ELEMENT_TERM = 10,               /* not yet */
+    MDS_ELEMENT_DEFINITION = 11,         /* not yet */
+    MDS_ELEMENT_TABLE = 12,              /* `text` of its start has a byte for each column, of enum mds_alignment (GFM, 4.10) */
+    MDS_ELEMENT_TABLE_HEAD = 13,         /* its first row */
+    MDS_ELEMENT_TABLE_ROW = 14,          /* each later row */
+    MDS_ELEMENT_TABLE_CELL = 15,
+    MDS_ELEMENT_EMPHASIS = 16,           /* (6.2) */
+    MDS_ELEMENT_STRONG = 17,             /* (6.2) */
+    MDS_ELEMENT_STRIKETHROUGH = 18,      /* (GitHub Flavored Markdown 0.29, 6.5) */
+    MDS_ELEMENT_SUPERSCRIPT = 19,        /* not yet */
+    MDS_ELEMENT_SUBSCRIPT = 20,          /* not yet */
+    MDS_ELEMENT_LINK = 21,               /* `detail` of its start is of enum mds_link_kind, and it has all three texts (6.3, 6.5) */
+    MDS_ELEMENT_IMAGE = 22,              /* the same (6.4) */
+    MDS_ELEMENT_METADATA = 23            /* not yet */
+};
+
+/* How a link or an image is written. The unknown ones are those of callers who define labels of their own, as no C function does. */
+enum mds_link_kind {
+    MDS_LINK_INLINE = 1,            /* a destination and perhaps a title in parentheses (6.3) */
+    MDS_LINK_REFERENCE = 2,         /* a label in brackets */
+    MDS_LINK_REFERENCE_UNKNOWN = 3,
+    MDS_LINK_COLLAPSED = 4,         /* `[]` */
+    MDS_LINK_COLLAPSED_UNKNOWN = 5,
+    MDS_LINK_SHORTCUT = 6,          /* neither */
+    MDS_LINK_SHORTCUT_UNKNOWN = 7,
+    MDS_LINK_AUTOLINK = 8,          /* an absolute URI in angle brackets (6.5) */
+    MDS_LINK_EMAIL = 9,             /* an email address in angle brackets; its destination has no `mailto:` */
+    MDS_LINK_WIKI = 10,             /* `[[target]]` */
+    MDS_LINK_WIKI_PIPED = 11        /* `[[target|text]]` */
+};
+
+/* An event, and where its source stands: both events of an element have the range of the whole. Its texts stand in the buffer of
+ * texts; one that it has not has the length 0. */
+struct mds_event {
+    uint32_t kind;    /* of enum mds_event_kind */
+    uint32_t element; /* of a start or an end: of enum mds_element; else 0 */
+    uint32_t detail;  /* of an element as enum mds_element says; of a task 1 where its box is checked; else 0 */
+    uint64_t number;  /* of an ordered list that begins: the number of its first item; else 0 */
+    size_t start, end;                /* its range in the page */
+    size_t text_start, text_length;   /* a text, code or HTML; or what enum mds_element says; of a link or an image its destination */
+    size_t title_start, title_length; /* the title of a link or an image that begins */
+    size_t label_start, label_length; /* its label, as it is written, where it is a reference */
+};
+
+/* How many events there are, and whether they are written. */
+struct mds_events {
+    uint32_t status;
+    size_t count;  /* how many they are, where the status is MDS_OK or MDS_TOO_SHORT */
+    size_t length; /* how many bytes their texts have then */
+};
+
+/* All events of a page, in order, and their texts, one after another: where each element begins and ends, and what stands in it. Each
+ * that begins ends, and they nest; so do their ranges, which cut no character. Destinations, titles and info strings have their
+ * escapes and references resolved. `options` are as of mds_html, which makes its HTML of the events of the page with U+FFFD in the place
+ * of each U+0000 (2.3); here the page is read as it is.
+ *
+ * Where one of the buffers is too short both are left as they were, MDS_TOO_SHORT, and the same call with buffers of `count` events
+ * and `length` bytes makes them anew, and is MDS_OK. How long texts are at most is not known, as of mds_html. An event for each eight
+ * bytes of the text, and as many bytes as the text has, and 64 of each, are enough for most pages. markdown_parser.h has a handle that
+ * keeps both buffers.
+ *
+ * MDS_BAD_KIND and MDS_NOT_UTF8 as of mds_html. Memory is asked for as by mds_html, with the events and their texts in place of the
+ * HTML: MDS_NO_MEMORY. Then the buffers are as they were too, and the same call may be made again. (3 to 6)
+ *
+ *     struct mds_event events[5];
+ *     uint8_t texts[5];
+ *     struct mds_events found = mds_events("*a*", 3, 0, events, 5, texts, 5);
+ *     found.status == MDS_OK && found.count == 5 && found.length == 1
+ *     events[1].kind == MDS_EVENT_START && events[1].element == MDS_ELEMENT_EMPHASIS && events[1].end == 3
+ *     events[2].kind == MDS_EVENT_TEXT && events[2].start == 1 && events[2].end == 2
+ *     events[2].text_length == 1 && texts[events[2].text_start] == 'a'
+ *     mds_events("*a*", 3, 0, events, 4, texts, 5).status == MDS_TOO_SHORT
+ *     mds_events("## [a](b 'c')", 13, 0, events, 5, texts, 5).count == 5
+ *     events[0].element == MDS_ELEMENT_HEADING && events[0].detail == 2
+ *     events[1].text_length == 1 && events[1].title_length == 1 && texts[events[1].title_start] == 'c'
+ */
+struct mds_events mds_events(
+    const void *text, size_t length, uint32_t options, struct mds_event *events, size_t capacity, uint8_t *texts, size_t texts_capacity);
 
 /* ---- Parts of inline text ---- */
 

@@ -18,7 +18,7 @@ prints_level() {
 # has_files FOLDER: the files of an installed library stand there, and no others.
 has_files() {
     local doc=share/doc/markdown_scanners cmake=lib/cmake/markdown_scanners
-    printf '%s\n' include/markdown_scanners.h "$cmake/markdown_scanners-config"{,-version}.cmake lib/libmarkdown_scanners.{a,so} \
+    printf '%s\n' include/markdown_{scanners,parser}.h "$cmake/markdown_scanners-config"{,-version}.cmake lib/libmarkdown_scanners.{a,so} \
         "lib/$shared_name" lib/pkgconfig/markdown_scanners.pc "$doc/CHANGELOG.md" "$doc/LICENSE" | sort >"$room/wanted"
     (cd "$1" && find . ! -type d -printf '%P\n') | sort | diff "$room/wanted" - || stop "other files are installed"
     [ "$(readlink "$1/lib/libmarkdown_scanners.so")" = "$shared_name" ] || stop "libmarkdown_scanners.so is another link"

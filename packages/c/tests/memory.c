@@ -1,9 +1,10 @@
-/* Memory refused. Thirteen functions may answer MDS_NO_MEMORY: on each of their inputs here the first, second, .. request is refused
+/* Memory refused. Fourteen functions may answer MDS_NO_MEMORY: on each of their inputs here the first, second, .. request is refused
  * until none is left, by itself and with all that follow. The call then answers MDS_NO_MEMORY, tells nothing more and writes
  * nothing, or it has the same answer as with ample memory; and it frees what it was given. The other functions make no request,
- * and neither do these thirteen where the header says so. The linker puts the functions __wrap_.. in the place of the C library's
+ * and neither do these fourteen where the header says so. The linker puts the functions __wrap_.. in the place of the C library's
  * (--wrap). */
 #include "checks.h"
+#include "markdown_parser.h"
 
 #include <stdlib.h>
 #include <string.h>
@@ -286,6 +287,50 @@ static struct told safe_html(size_t room) {
     return of_text(mds_safe_html(OF("<a@b> [c](d:e) <f>"), 0, schemes, 2, writable(BUFFER, room), room));
 }
 
+/* The events stand in front of their texts. */
+static struct told of_events(const char *page, size_t length, size_t room) {
+    size_t capacity = room / 2 / sizeof(struct mds_event);
+    uint8_t *both = writable(BUFFER, 2 * capacity * sizeof(struct mds_event)), *texts = both + capacity * sizeof(struct mds_event);
+    struct mds_events found = mds_events(
+        given(BYTES, page, length), length, MDS_OPTION_TABLES | MDS_OPTION_TASKS, (struct mds_event *)(void *)both, capacity, texts,
+        capacity * sizeof(struct mds_event));
+    return (struct told){found.status, {found.count, found.length, 0}};
+}
+
+static struct told events(size_t room) {
+    return of_events("# a\n> - [x] *b* [c]\n\n[c]: /f \"g\"\n", 36, room);
+}
+
+static struct told events_of_table(size_t room) {
+    return of_events("|a|`b`|\n|-|-|\n", 14, room);
+}
+
+static struct told long_events(size_t room) {
+    static char page[10 * MANY];
+    for (size_t i = 0; i < sizeof(page); i++)
+        page[i] = "a\\\n"[i % 3];
+    return of_events(page, room ? 12 : sizeof(page), room);
+}
+
+/* A handle is empty where some request of it is refused, and may be begun anew. */
+static void handles(void) {
+    struct mds_parser parser;
+    size_t wanted;
+    requests = refused = 0;
+    SAME(mds_parser_new(&parser, whole_page, sizeof(whole_page) - 1, 0), MDS_OK), wanted = requests;
+    mds_parser_free(&parser), SAME(held, 0);
+    for (size_t which = 1; which <= wanted; which++) {
+        requests = 0, refused = which;
+        uint32_t status = mds_parser_new(&parser, whole_page, sizeof(whole_page) - 1, 0);
+        SAME(status == MDS_OK || (status == MDS_NO_MEMORY && held == 0 && parser.count == 0), true);
+        refused = 0;
+        SAME(mds_parser_next(&parser, &(struct mds_item){NULL, {NULL, 0}, {NULL, 0}, {NULL, 0}}), status == MDS_OK ? MDS_OK : MDS_NOTHING);
+        mds_parser_free(&parser), SAME(held, 0);
+        SAME(mds_parser_new(&parser, whole_page, sizeof(whole_page) - 1, 0), MDS_OK), SAME(parser.count > 0, true);
+        mds_parser_free(&parser), SAME(held, 0);
+    }
+}
+
 static struct told safe_html_by_usual_schemes(size_t room) {
     return of_text(mds_safe_html(OF("[c](https://d)"), 0, NULL, 0, writable(BUFFER, room), room));
 }
@@ -362,9 +407,10 @@ static void asking(void) {
     ASKS(content_in_many), ASKS(long_content);
     ASKS(inlines), ASKS(inlines_with_labels), ASKS(inlines_with_many_labels);
     ASKS(html), ASKS(long_html), ASKS(safe_html), ASKS(safe_html_by_usual_schemes);
+    ASKS(events), ASKS(events_of_table), ASKS(long_events);
 }
 
-/* What these thirteen need no memory for. */
+/* What these fourteen need no memory for. */
 static void sparing(void) {
     ASKS_NOT(mds_unescape(OF("plain"), false, NULL, 0).status, MDS_TOO_SHORT);
     ASKS_NOT(mds_unescape(OF("\xff"), false, NULL, 0).status, MDS_NOT_UTF8);
@@ -392,6 +438,8 @@ static void sparing(void) {
     ASKS_NOT(mds_scan_inlines(OF("a"), NULL, 0, 4, NULL, 0).status, MDS_BAD_KIND);
     ASKS_NOT(mds_scan_inlines(OF("a"), (const struct mds_view[]){{"b", 1}, {"\xff", 1}}, 2, 0, NULL, 0).status, MDS_NOT_UTF8);
     ASKS_NOT(mds_html(OF("\xff"), 0, NULL, 0).status, MDS_NOT_UTF8), ASKS_NOT(mds_html(OF("a"), 1, NULL, 0).status, MDS_BAD_KIND);
+    ASKS_NOT(mds_events(OF("\xff"), 0, NULL, 0, NULL, 0).status, MDS_NOT_UTF8);
+    ASKS_NOT(mds_events(OF("a"), 1, NULL, 0, NULL, 0).status, MDS_BAD_KIND);
     ASKS_NOT(mds_safe_html(OF("\xff"), 0, NULL, 0, NULL, 0).status, MDS_NOT_UTF8);
     ASKS_NOT(mds_safe_html(OF("a"), 1, (const struct mds_view[]){{"b", 1}}, 1, NULL, 0).status, MDS_BAD_KIND);
     ASKS_NOT(mds_safe_html(OF("a"), 0, (const struct mds_view[]){{"b", 1}, {"\xff", 1}}, 2, NULL, 0).status, MDS_NOT_UTF8);
@@ -485,7 +533,7 @@ static void others_on_texts(void) {
 }
 
 int main(void) {
-    asking(), sparing();
+    asking(), sparing(), handles();
     others_on_lines(), others_on_line_starts(), others_on_texts();
     return report("memory");
 }

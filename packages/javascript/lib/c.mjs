@@ -88,6 +88,56 @@ export const OPTION_STRIKETHROUGH = 8;
 export const OPTION_TASKS = 16;
 export const OPTION_WIKILINKS = 32768;
 
+export const EVENT_START = 0;
+export const EVENT_END = 1;
+export const EVENT_TEXT = 2;
+export const EVENT_CODE = 3;
+export const EVENT_INLINE_MATH = 4;
+export const EVENT_DISPLAY_MATH = 5;
+export const EVENT_HTML = 6;
+export const EVENT_INLINE_HTML = 7;
+export const EVENT_FOOTNOTE_REFERENCE = 8;
+export const EVENT_SOFT_BREAK = 9;
+export const EVENT_HARD_BREAK = 10;
+export const EVENT_RULE = 11;
+export const EVENT_TASK = 12;
+
+export const ELEMENT_PARAGRAPH = 1;
+export const ELEMENT_HEADING = 2;
+export const ELEMENT_QUOTE = 3;
+export const ELEMENT_CODE_BLOCK = 4;
+export const ELEMENT_HTML_BLOCK = 5;
+export const ELEMENT_LIST = 6;
+export const ELEMENT_ITEM = 7;
+export const ELEMENT_FOOTNOTE = 8;
+export const ELEMENT_DEFINITION_LIST = 9;
+export const ELEMENT_TERM = 10;
+export const ELEMENT_DEFINITION = 11;
+export const ELEMENT_TABLE = 12;
+export const ELEMENT_TABLE_HEAD = 13;
+export const ELEMENT_TABLE_ROW = 14;
+export const ELEMENT_TABLE_CELL = 15;
+export const ELEMENT_EMPHASIS = 16;
+export const ELEMENT_STRONG = 17;
+export const ELEMENT_STRIKETHROUGH = 18;
+export const ELEMENT_SUPERSCRIPT = 19;
+export const ELEMENT_SUBSCRIPT = 20;
+export const ELEMENT_LINK = 21;
+export const ELEMENT_IMAGE = 22;
+export const ELEMENT_METADATA = 23;
+
+export const LINK_INLINE = 1;
+export const LINK_REFERENCE = 2;
+export const LINK_REFERENCE_UNKNOWN = 3;
+export const LINK_COLLAPSED = 4;
+export const LINK_COLLAPSED_UNKNOWN = 5;
+export const LINK_SHORTCUT = 6;
+export const LINK_SHORTCUT_UNKNOWN = 7;
+export const LINK_AUTOLINK = 8;
+export const LINK_EMAIL = 9;
+export const LINK_WIKI = 10;
+export const LINK_WIKI_PIPED = 11;
+
 export const HTML_RAW_TEXT = 1;
 export const HTML_COMMENT = 2;
 export const HTML_PROCESSING = 3;
@@ -327,6 +377,33 @@ export const STRUCTS = {
             count: from.size(at + 8),
         }),
     },
+    event: {
+        size: 88,
+        fields: [["kind", 0, "uint32_t"], ["element", 4, "uint32_t"], ["detail", 8, "uint32_t"], ["number", 16, "uint64_t"], ["start", 24, "size_t"], ["end", 32, "size_t"], ["textStart", 40, "size_t"], ["textLength", 48, "size_t"], ["titleStart", 56, "size_t"], ["titleLength", 64, "size_t"], ["labelStart", 72, "size_t"], ["labelLength", 80, "size_t"]],
+        read: (from, at) => ({
+            kind: from.uint32(at),
+            element: from.uint32(at + 4),
+            detail: from.uint32(at + 8),
+            number: from.size(at + 16),
+            start: from.size(at + 24),
+            end: from.size(at + 32),
+            textStart: from.size(at + 40),
+            textLength: from.size(at + 48),
+            titleStart: from.size(at + 56),
+            titleLength: from.size(at + 64),
+            labelStart: from.size(at + 72),
+            labelLength: from.size(at + 80),
+        }),
+    },
+    events: {
+        size: 24,
+        fields: [["status", 0, "uint32_t"], ["count", 8, "size_t"], ["length", 16, "size_t"]],
+        read: (from, at) => ({
+            status: from.uint32(at),
+            count: from.size(at + 8),
+            length: from.size(at + 16),
+        }),
+    },
     part: {
         size: 32,
         fields: [["status", 0, "uint32_t"], ["end", 8, "size_t"], ["start", 16, "size_t"], ["length", 24, "size_t"]],
@@ -455,6 +532,7 @@ export const FUNCTIONS = {
     scanInlines: ["mds_scan_inlines", "inlines", ["pointer", "size_t", "pointer", "size_t", "uint32_t", "pointer", "size_t"]],
     html: ["mds_html", "text", ["pointer", "size_t", "uint32_t", "pointer", "size_t"]],
     safeHtml: ["mds_safe_html", "text", ["pointer", "size_t", "uint32_t", "pointer", "size_t", "pointer", "size_t"]],
+    events: ["mds_events", "events", ["pointer", "size_t", "uint32_t", "pointer", "size_t", "pointer", "size_t"]],
     scanLinkDest: ["mds_scan_link_dest", "part", ["pointer", "size_t", "size_t", "size_t"]],
     scanLinkTitle: ["mds_scan_link_title", "part", ["pointer", "size_t", "size_t"]],
     scanAutolink: ["mds_scan_autolink", "part", ["pointer", "size_t", "size_t"]],

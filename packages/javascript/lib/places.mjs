@@ -23,6 +23,8 @@ export function isInside(byte) {
 export class Utf16Places {
     #bytes;
     #counts;
+    /** The byte that was asked for last, and how many units stand before it. */
+    #last = { place: 0, units: 0 };
 
     /** @param {Uint8Array} bytes UTF-8 */
     constructor(bytes) {
@@ -44,8 +46,10 @@ export class Utf16Places {
      */
     toUnit(place) {
         const step = Math.floor(place / STEP);
-        let units = this.#counts[step];
-        for (let at = step * STEP; at < place; at++) units += unitsOf(this.#bytes[at]);
+        let [at, units] = [step * STEP, this.#counts[step]];
+        if (this.#last.place > at && this.#last.place <= place) [at, units] = [this.#last.place, this.#last.units];
+        for (; at < place; at++) units += unitsOf(this.#bytes[at]);
+        this.#last = { place, units };
         return units;
     }
 

@@ -2,6 +2,7 @@
 import * as c from "./c.mjs";
 import { Block, NONE } from "./engine.mjs";
 import { isAnswer } from "./errors.mjs";
+import { eventsOf } from "./events.mjs";
 import { flagOf, listOf, optionsOf, sizeOf, written, wrongType } from "./given.mjs";
 import { Inlines } from "./inlines.mjs";
 import { ended } from "./line_start.mjs";
@@ -259,7 +260,7 @@ export class Text extends Inlines {
      */
     html(options = {}) {
         const { safe = true, extensions } = optionsOf(options, "safe", "extensions");
-        const asked = listOf("extensions", extensions ?? []).reduce((bits, it) => bits | optionOf(it), 0);
+        const asked = bitsOf(extensions);
         const [name, ...schemes] = flagOf("safe", safe) ? ["safeHtml", 0, 0] : ["html"];
         for (let room = 2 * this.bytes.length + HTML_ROOM; ; ) {
             const [found, html] = this.written(String(name), 0, this.length, room, asked, ...schemes);
@@ -269,6 +270,16 @@ export class Text extends Inlines {
             }
             room = found.length;
         }
+    }
+
+    /**
+     * The events of the text, a page, in order: where each element begins and ends, and what stands in it. Each that begins ends, and
+     * they nest; so do their places, which are those of the text. `extensions` is as of `html`. NotUtf8. (3 to 6)
+     * @param {{ extensions?: Extension[] }} [options]
+     * @returns {import("./events.mjs").Event<Made>[]}
+     */
+    events(options = {}) {
+        return eventsOf(this, this.engine, bitsOf(optionsOf(options, "extensions").extensions));
     }
 
     /** The key of the whole text as a label: two labels match exactly where their keys are equal. NotUtf8. (6.3) */
@@ -372,6 +383,14 @@ export class HtmlScanGuard {
         this.passed += found.passed;
         return isAnswer(found.status) ? found.end : null;
     }
+}
+
+/**
+ * The bits of these extensions.
+ * @param {Extension[]} [extensions]
+ */
+function bitsOf(extensions) {
+    return listOf("extensions", extensions ?? []).reduce((bits, it) => bits | optionOf(it), 0);
 }
 
 /**

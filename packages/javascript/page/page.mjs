@@ -1,5 +1,6 @@
 /** The page: the text at one side, what is seen of it at the other, and the keys that go through it. */
 import { answers, drawnAnswer, drawnHtml, drawnLabels, drawnOutline, drawnRow, drawnTables, element } from "./drawing.mjs";
+import { fill, newFrame } from "./frame.mjs";
 
 const SAMPLE = `# Tabs are columns
 >\t- A tab behind a quote: the quote takes one
@@ -33,7 +34,7 @@ const DELAY = 120;
 const MOST_MARKS = 100;
 
 const [text, file, marks, view, told, answer, views] = ["text", "file", "marks", "view", "told", "answer", "views"].map((it) => document.getElementById(it));
-const state = { view: "lines", seen: null, id: 0, timer: 0 };
+const state = { view: "lines", seen: null, id: 0, timer: 0, shown: null };
 const worker = new Worker(new URL("worker.mjs", import.meta.url), { type: "module" });
 
 /** The page's state, for who reads it: whether what is drawn is of the text that stands there. */
@@ -84,8 +85,36 @@ function position(it) {
     return row && { line: row.dataset.line, index: [...row.querySelectorAll("button")].indexOf(it) };
 }
 
+/** Asks for the safe HTML of the text, once there is a frame for it. */
+async function askRendered() {
+    if (!view.contains(state.shown?.frame ?? null)) {
+        state.shown = newFrame(point);
+        view.replaceChildren(state.shown.frame);
+    }
+    await state.shown.stands;
+    worker.postMessage({ kind: "rendered", id: state.id, text: text.value });
+}
+
+function drawRendered(it) {
+    if (state.view !== "rendered") return;
+    const areKnown = fill(state.shown.frame, it);
+    answer.replaceChildren(...(areKnown ? [] : [element("p", {}, "Where these elements stand in the text is not known.")]));
+    settle("drawn");
+}
+
+/** Marks the source of an element, and tells where it stands. */
+function point(name, start, stop) {
+    text.setSelectionRange(start, stop);
+    mark(start, stop);
+    answer.replaceChildren(element("p", {}, element("code", {}, `<${name}>`), ` has its source at ${start} to ${stop}`));
+}
+
 function draw() {
     if (!state.seen) return;
+    if (state.view === "rendered") {
+        askRendered();
+        return;
+    }
     if (state.view === "lines") {
         askRows();
         return;
@@ -120,6 +149,7 @@ async function open() {
 function heard({ data }) {
     if (data.id !== state.id) return;
     if (data.kind === "rows") drawRows(data);
+    else if (data.kind === "rendered") drawRendered(data);
     else if (data.kind === "open") {
         text.value = data.text;
         marks.replaceChildren();

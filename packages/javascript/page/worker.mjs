@@ -1,8 +1,9 @@
-/** Reads texts beside the page, so that it never waits: answers what is in a text, and the rows that are in sight. */
+/** Reads texts beside the page, so that it never waits: answers what is in a text, the rows that are in sight, and its safe HTML. */
 import { load, NotUtf8, Refusal } from "../markdown_scanners.mjs";
 import { MOST_COLUMNS, rowOf, shortened } from "./columns.mjs";
 import { decode } from "./paragraph.mjs";
 import { Reading } from "./reading.mjs";
+import { rendered } from "./rendered.mjs";
 
 /** Of each list so many are told. */
 const MOST = 1000;
@@ -10,6 +11,8 @@ const MOST = 1000;
 const SHOWN = 1000;
 /** How many lines are read at most: what is known of them takes memory. */
 const MOST_LINES = 250_000;
+/** How many UTF-16 units of a text are rendered at most: a browser takes long for more. */
+const MOST_RENDERED = 1_000_000;
 /** So many milliseconds are read before another text is heard of. */
 const PAUSE = 50;
 
@@ -76,6 +79,15 @@ async function read(text) {
     return { ...summary(), milliseconds: performance.now() - begun };
 }
 
+/** A text is longer than what the page renders. */
+class TooLong extends Refusal {}
+
+/** The safe HTML of a text, and where its elements stand. */
+function shown(text) {
+    if (text.length > MOST_RENDERED) throw new TooLong(`the page renders ${MOST_RENDERED} characters at most`);
+    return rendered(scanners, text);
+}
+
 /** What is drawn of the lines from one on. */
 function rows(first, count) {
     return reading.lines.slice(first, first + count).map((line) => rowOf(cut(line.at, line.end), line));
@@ -91,6 +103,7 @@ async function answer({ kind, ...given }) {
     scanners ??= await load();
     if (kind === "open") return opened(given.bytes);
     if (kind === "read") return read(given.text);
+    if (kind === "rendered") return shown(given.text);
     return { first: given.first, rows: reading ? rows(given.first, given.count) : [] };
 }
 

@@ -18,8 +18,14 @@ const inlines: (string | undefined)[] = Array.from(
     (it) => ("link" in it ? it.link.target : it.kind),
 );
 const html: [string, Uint8Array] = [scanners.html("*a*"), bytes.html({ safe: false, extensions: ["table", "tasklist"] })];
+const told: (string | number | null)[] = scanners.events("# *a*", { extensions: ["table"] }).map((it) => {
+    if (it.kind === "start") return it.element === "heading" ? it.level : it.element === "link" ? it.destination : it.start;
+    return it.kind === "text" ? it.text : null;
+});
+const first: Uint8Array | null = bytes.events().reduce<Uint8Array | null>((found, it) => found ?? (it.kind === "text" ? it.text : null), null);
 const name: string = new NotUtf8("none").name;
 console.log(level, isQuote, made[0], made[1].length, label?.text, page.scanLinkDest(10, 11)?.end, name);
+console.log(told.length, first);
 console.log(html[0].length, html[1].length, contents, places, inlines, title?.start, run, page.scanCodeSpan()?.stop);
 console.log(scanners.isUnicodeWhitespace("a"), scanners.isUnicodePunctuation(33));
 
@@ -37,6 +43,10 @@ page.scanDelimiterRun(0, 3, { start: 0 });
 page.scanInlines(0, 3, { labels: "a" });
 // @ts-expect-error there is no such extension
 scanners.html("a", { extensions: ["footnotes"] });
+// @ts-expect-error there is no such option
+scanners.events("a", { safe: true });
+// @ts-expect-error a heading leads nowhere
+scanners.events("a").map((it) => it.kind === "start" && it.element === "heading" && it.destination);
 // @ts-expect-error a call of a run is a list
 start.run(["quote"]);
 // @ts-expect-error what is made of a string is a string

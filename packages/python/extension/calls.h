@@ -14,6 +14,7 @@ ANSWER8(ReferenceDefinition, mds_reference_definition, status, end, label_start,
 ANSWER2(Blocks, mds_blocks, status, count)
 ANSWER3(LineBlock, mds_line_block, status, kept, depth)
 ANSWER2(Inlines, mds_inlines, status, count)
+ANSWER3(Events, mds_events, status, count, length)
 ANSWER4(Part, mds_part, status, end, start, length)
 ANSWER5(DelimiterRun, mds_delimiter_run, status, byte, can_open, can_close, count)
 ANSWER3(Tag, mds_tag, status, end, length)
@@ -66,6 +67,7 @@ SCANNER(scan_lists, of_Blocks, 4, (void *)it[0], it[1], (void *)it[2], it[3])
 SCANNER(scan_inlines, of_Inlines, 7, (void *)it[0], it[1], (void *)it[2], it[3], it[4], (void *)it[5], it[6])
 WRITER(html, mds_text, of_Text, 3, (void *)it[0], it[1], it[2])
 WRITER(safe_html, mds_text, of_Text, 5, (void *)it[0], it[1], it[2], (void *)it[3], it[4])
+SCANNER(events, of_Events, 7, (void *)it[0], it[1], it[2], (void *)it[3], it[4], (void *)it[5], it[6])
 SCANNER(scan_link_dest, of_Part, 4, (void *)it[0], it[1], it[2], it[3])
 SCANNER(scan_link_title, of_Part, 3, (void *)it[0], it[1], it[2])
 SCANNER(scan_autolink, of_Part, 3, (void *)it[0], it[1], it[2])
@@ -90,8 +92,8 @@ WRITER(label_key, mds_text, of_Text, 2, (void *)it[0], it[1])
 
 #define EACH_ANSWER(use) \
     use(Text) use(ListItem) use(Indent) use(Columns) use(LineItem) use(Task) use(Alert) use(LineRun) use(Break) \
-    use(Underline) use(Fence) use(ReferenceDefinition) use(Blocks) use(LineBlock) use(Inlines) use(Part) use(DelimiterRun) \
-    use(Tag) use(End) use(HtmlRun) use(Label)
+    use(Underline) use(Fence) use(ReferenceDefinition) use(Blocks) use(LineBlock) use(Inlines) use(Events) use(Part) \
+    use(DelimiterRun) use(Tag) use(End) use(HtmlRun) use(Label)
 
 #define EACH_FUNCTION(use) \
     use(is_whitespace) use(is_whitespace_in_line) use(is_punctuation) use(is_unicode_whitespace) use(is_unicode_punctuation) \
@@ -102,7 +104,7 @@ WRITER(label_key, mds_text, of_Text, 2, (void *)it[0], it[1])
     use(scan_setext_heading) use(scan_code_fence) use(scan_closing_code_fence) use(scan_metadata_block) \
     use(scan_closing_metadata_block) use(interrupts_paragraph) use(scan_reference_definition) use(scan_table_head) \
     use(scan_blocks) use(block_content) use(block_line) use(scan_lists) use(scan_inlines) use(html) use(safe_html) \
-    use(scan_link_dest) use(scan_link_title) use(scan_autolink) use(scan_email_autolink) use(scan_code_span) \
+    use(events) use(scan_link_dest) use(scan_link_title) use(scan_autolink) use(scan_email_autolink) use(scan_code_span) \
     use(scan_wikilink_pipe) use(scan_delimiter_run) use(check_skips) use(starts_html_block_type_6) use(scan_html_type_7) \
     use(scan_html_block_start) use(ends_html_block) use(scan_html_tag) use(scan_html_tag_over_lines) use(scan_inline_html) \
     use(run_inline_html) use(scan_entity) use(unescape) use(scan_link_label) use(labels_match) use(label_key)

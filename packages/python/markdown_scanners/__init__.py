@@ -100,6 +100,7 @@ from .line_scanners import (
     scan_while,
     scan_whitespace_in_line,
 )
+from .page_events import Element, Event, EventKind, LinkKind, Target, events
 from .page_html import html
 from .pages import Block, BlockKind, BlockQuote, Container, FootnoteDefinition, Item, ListBlock, TermDefinition
 from .pages import scan_blocks, scan_lists
@@ -119,8 +120,11 @@ __all__ = [
     "CallKind",
     "Container",
     "DelimiterRun",
+    "Element",
     "EmptyError",
     "Entity",
+    "Event",
+    "EventKind",
     "Fence",
     "FootnoteDefinition",
     "HtmlBlockKind",
@@ -135,6 +139,7 @@ __all__ = [
     "LineAnswer",
     "LineStart",
     "Link",
+    "LinkKind",
     "LinkTarget",
     "ListBlock",
     "ListItem",
@@ -153,11 +158,13 @@ __all__ = [
     "StoppedError",
     "TableHead",
     "Tag",
+    "Target",
     "TermDefinition",
     "TooLargeError",
     "Underline",
     "calc_indent",
     "ends_html_block",
+    "events",
     "html",
     "interrupts_paragraph",
     "is_punctuation",

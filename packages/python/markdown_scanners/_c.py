@@ -91,6 +91,56 @@ OPTION_STRIKETHROUGH = 8
 OPTION_TASKS = 16
 OPTION_WIKILINKS = 32768
 
+EVENT_START = 0
+EVENT_END = 1
+EVENT_TEXT = 2
+EVENT_CODE = 3
+EVENT_INLINE_MATH = 4
+EVENT_DISPLAY_MATH = 5
+EVENT_HTML = 6
+EVENT_INLINE_HTML = 7
+EVENT_FOOTNOTE_REFERENCE = 8
+EVENT_SOFT_BREAK = 9
+EVENT_HARD_BREAK = 10
+EVENT_RULE = 11
+EVENT_TASK = 12
+
+ELEMENT_PARAGRAPH = 1
+ELEMENT_HEADING = 2
+ELEMENT_QUOTE = 3
+ELEMENT_CODE_BLOCK = 4
+ELEMENT_HTML_BLOCK = 5
+ELEMENT_LIST = 6
+ELEMENT_ITEM = 7
+ELEMENT_FOOTNOTE = 8
+ELEMENT_DEFINITION_LIST = 9
+ELEMENT_TERM = 10
+ELEMENT_DEFINITION = 11
+ELEMENT_TABLE = 12
+ELEMENT_TABLE_HEAD = 13
+ELEMENT_TABLE_ROW = 14
+ELEMENT_TABLE_CELL = 15
+ELEMENT_EMPHASIS = 16
+ELEMENT_STRONG = 17
+ELEMENT_STRIKETHROUGH = 18
+ELEMENT_SUPERSCRIPT = 19
+ELEMENT_SUBSCRIPT = 20
+ELEMENT_LINK = 21
+ELEMENT_IMAGE = 22
+ELEMENT_METADATA = 23
+
+LINK_INLINE = 1
+LINK_REFERENCE = 2
+LINK_REFERENCE_UNKNOWN = 3
+LINK_COLLAPSED = 4
+LINK_COLLAPSED_UNKNOWN = 5
+LINK_SHORTCUT = 6
+LINK_SHORTCUT_UNKNOWN = 7
+LINK_AUTOLINK = 8
+LINK_EMAIL = 9
+LINK_WIKI = 10
+LINK_WIKI_PIPED = 11
+
 HTML_RAW_TEXT = 1
 HTML_COMMENT = 2
 HTML_PROCESSING = 3
@@ -391,6 +441,46 @@ class Inlines(Structure):
     ]
 
 
+class Event(Structure):
+    kind: int
+    element: int
+    detail: int
+    number: int
+    start: int
+    end: int
+    text_start: int
+    text_length: int
+    title_start: int
+    title_length: int
+    label_start: int
+    label_length: int
+    _fields_ = [
+        ("kind", c_uint32),
+        ("element", c_uint32),
+        ("detail", c_uint32),
+        ("number", c_uint64),
+        ("start", c_size_t),
+        ("end", c_size_t),
+        ("text_start", c_size_t),
+        ("text_length", c_size_t),
+        ("title_start", c_size_t),
+        ("title_length", c_size_t),
+        ("label_start", c_size_t),
+        ("label_length", c_size_t),
+    ]
+
+
+class Events(Structure):
+    status: int
+    count: int
+    length: int
+    _fields_ = [
+        ("status", c_uint32),
+        ("count", c_size_t),
+        ("length", c_size_t),
+    ]
+
+
 class Part(Structure):
     status: int
     end: int
@@ -533,6 +623,7 @@ FUNCTIONS: dict[str, tuple[Any, tuple[Any, ...]]] = {
     "scan_inlines": (Inlines, (c_void_p, c_size_t, c_void_p, c_size_t, c_uint32, c_void_p, c_size_t)),
     "html": (Text, (c_void_p, c_size_t, c_uint32, c_void_p, c_size_t)),
     "safe_html": (Text, (c_void_p, c_size_t, c_uint32, c_void_p, c_size_t, c_void_p, c_size_t)),
+    "events": (Events, (c_void_p, c_size_t, c_uint32, c_void_p, c_size_t, c_void_p, c_size_t)),
     "scan_link_dest": (Part, (c_void_p, c_size_t, c_size_t, c_size_t)),
     "scan_link_title": (Part, (c_void_p, c_size_t, c_size_t)),
     "scan_autolink": (Part, (c_void_p, c_size_t, c_size_t)),

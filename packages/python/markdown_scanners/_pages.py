@@ -42,7 +42,7 @@ class _InBuffer:
         return self.byte + length
 
 
-class _InText:
+class InText:
     """A byte in the UTF-8 of a str. Where a length is added to it, the place in the str is answered."""
 
     __slots__ = ("text", "byte")
@@ -58,7 +58,7 @@ def _origin(held: Any, byte: int) -> Any:
     """What lengths are added to: the byte itself, or in what is held."""
     if held is None:
         return byte
-    return _InText(held, byte) if isinstance(held, str) else _InBuffer(held, byte)
+    return InText(held, byte) if isinstance(held, str) else _InBuffer(held, byte)
 
 
 @lru_cache(maxsize=8)

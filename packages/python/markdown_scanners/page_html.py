@@ -40,7 +40,7 @@ def html(data: Page, at: int = 0, end: Optional[int] = None, *, safe: bool = Tru
     >>> html("~~a~~", extensions=["strikethrough"])
     '<p><del>a</del></p>\n'
     """
-    options = _options(extensions)
+    options = options_of(extensions)
     address, length, _held = front(data, at, end)
     room = 2 * length + 64
     if flag("safe", safe):
@@ -51,7 +51,7 @@ def html(data: Page, at: int = 0, end: Optional[int] = None, *, safe: bool = Tru
     return text_for(data, made)
 
 
-def _options(extensions: Iterable[str]) -> int:
+def options_of(extensions: Iterable[str]) -> int:
     """The bits of these extensions."""
     if isinstance(extensions, (str, bytes, bytearray)):
         raise TypeError(f"extensions is of type {type(extensions).__name__}, and not several names")

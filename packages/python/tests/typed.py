@@ -14,6 +14,8 @@ def of_str(page: str) -> None:
     assert_type(mds.scan_blocks(page), Iterator[mds.Block[str]])
     assert_type([it.content() for it in mds.scan_blocks(page)], list[str])
     assert_type(mds.scan_inlines(page, labels=[page], strikethrough=True, wikilinks=True), Iterator[mds.Inline])
+    assert_type(mds.events(page, extensions=["table"]), Iterator[mds.Event[str]])
+    assert_type([it.target.title for it in mds.events(page) if it.target], list[str])
 
 
 def of_bytes(page: bytes) -> None:
@@ -23,6 +25,7 @@ def of_bytes(page: bytes) -> None:
     assert_type(mds.line_rest(mds.LineStart(page)), bytes)
     assert_type([it.content() for it in mds.scan_blocks(page)], list[bytes])
     assert_type([it.containers for it in mds.scan_blocks(page)], list[tuple[mds.Container, ...]])
+    assert_type([it.text for it in mds.events(page)], list[Optional[bytes]])
 
 
 def of_pieces(pieces: list[bytes]) -> None:

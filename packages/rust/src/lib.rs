@@ -12,6 +12,7 @@ mod inline;
 mod inlines;
 mod labels;
 mod line;
+mod page_events;
 mod page_html;
 mod pages;
 #[allow(unsafe_code)]
@@ -25,6 +26,7 @@ pub use inline::*;
 pub use inlines::{scan_inlines, Inline, InlineExtensions, InlineKind, Inlines, Link, LinkTarget};
 pub use labels::*;
 pub use line::LineStart;
+pub use page_events::{CodeBlockKind, Event, OffsetIter, Parser, Tag, TagEnd, Target};
 pub use page_html::{html, safe_html, safe_html_with_schemes, Extensions};
 pub use pages::{
     scan_blocks, scan_lists, Block, BlockExtensions, BlockKind, BlockReader, Blocks, Container, ListBlock,

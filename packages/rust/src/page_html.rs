@@ -20,7 +20,7 @@ pub struct Extensions {
 }
 
 impl Extensions {
-    fn bits(self) -> u32 {
+    pub(crate) fn bits(self) -> u32 {
         let asked = [
             (self.tables, ffi::OPTION_TABLES),
             (self.strikethrough, ffi::OPTION_STRIKETHROUGH),

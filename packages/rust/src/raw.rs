@@ -370,3 +370,14 @@ pub(crate) fn safe_html(text: &str, options: u32, schemes: &[&str], buffer: &mut
     // SAFETY: each pointer and length are those of one slice, those of the views too, and what is written is a `&mut` of its own.
     told(unsafe { ffi::mds_safe_html(front(bytes), bytes.len(), options, views.as_ptr(), views.len(), room, capacity) })
 }
+
+pub(crate) fn events(text: &str, options: u32, events: &mut [ffi::Event], texts: &mut [u8]) -> ffi::Events {
+    let bytes = text.as_bytes();
+    let (listed, many, room, capacity) = (events.as_mut_ptr(), events.len(), texts.as_mut_ptr(), texts.len());
+    // SAFETY: each pointer and length are those of one slice, and what is written are two `&mut` of its own.
+    let found = unsafe { ffi::mds_events(front(bytes), bytes.len(), options, listed, many, room, capacity) };
+    if found.status == ffi::NO_MEMORY {
+        refused();
+    }
+    found
+}

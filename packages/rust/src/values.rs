@@ -154,14 +154,42 @@ impl HtmlBlockKind {
     }
 }
 
-/// The kind of a link that a scanner tells.
+/// How a link or an image is written.
 #[derive(Clone, Copy, Debug, PartialEq, Eq, Hash)]
 #[non_exhaustive]
 pub enum LinkType {
+    /// With a destination and perhaps a title in parentheses.
+    Inline,
+    /// With a label in brackets.
+    Reference,
+    /// With `[]`.
+    Collapsed,
+    /// With neither.
+    Shortcut,
     /// An absolute URI in angle brackets.
     Autolink,
     /// An email address in angle brackets.
     Email,
+    /// As a wikilink.
+    WikiLink {
+        /// Whether a pipe and a text follow its target.
+        has_pothole: bool,
+    },
+}
+
+impl LinkType {
+    pub(crate) fn of(kind: u32) -> Self {
+        match kind {
+            ffi::LINK_REFERENCE => LinkType::Reference,
+            ffi::LINK_COLLAPSED => LinkType::Collapsed,
+            ffi::LINK_SHORTCUT => LinkType::Shortcut,
+            ffi::LINK_AUTOLINK => LinkType::Autolink,
+            ffi::LINK_EMAIL => LinkType::Email,
+            ffi::LINK_WIKI => LinkType::WikiLink { has_pothole: false },
+            ffi::LINK_WIKI_PIPED => LinkType::WikiLink { has_pothole: true },
+            _ => LinkType::Inline,
+        }
+    }
 }
 
 /// A table of skips is none of the text: its places do not rise, one ends past the text or where the next has begun, or one

@@ -6,6 +6,7 @@ use std::panic::catch_unwind;
 
 use markdown_scanners::*;
 
+mod pages;
 mod readers;
 mod table;
 

@@ -269,6 +269,58 @@ test("keys go through tabs and answers", async () => {
     assert.equal(await browser.ask(() => document.activeElement.id), "tab-outline");
 });
 
+/** In the page: the middle of the first element of this name in the frame. */
+function middleOf(name) {
+    const frame = document.querySelector("#view iframe");
+    const [outer, inner] = [frame, frame.contentDocument.querySelector(name)].map((it) => it.getBoundingClientRect());
+    return { x: outer.x + inner.x + inner.width / 2, y: outer.y + inner.y + inner.height / 2 };
+}
+
+/** In the page: what the frame has. */
+function inFrame() {
+    const frame = document.querySelector("#view iframe");
+    const marks = [...document.querySelectorAll("#marks mark")].map((it) => it.textContent).join("\n");
+    const pointed = [...frame.contentDocument.querySelectorAll("[data-pointed]")].map((it) => it.localName);
+    return { html: frame.contentDocument.body.innerHTML, sandbox: frame.getAttribute("sandbox"), marks, pointed };
+}
+
+/** Points at the first element of this name in the frame. */
+async function pointAt(name) {
+    await browser.send("Input.dispatchMouseEvent", { type: "mouseMoved", ...(await browser.ask(middleOf, name)) });
+    return browser.ask(inFrame);
+}
+
+test("safe HTML is rendered, and what is pointed at has its source marked", async () => {
+    await open();
+    await settled("drawn");
+    await choose("rendered");
+    await type("# 🍔 *é* b\n\n<script>document.title = 1</script>\n\n- [x] ~~c~~\n- [d](https://e.f)\n\n|g|\n|-|\n|h|\n");
+    const { html, sandbox } = await browser.ask(inFrame);
+    assert.equal(sandbox, "allow-same-origin");
+    assert.match(html, /^<h1>🍔 <em>é<\/em> b<\/h1>\n&lt;script&gt;/);
+    assert.match(html, /<li><input checked="" disabled="" type="checkbox"> <del>c<\/del><\/li>/);
+    for (const [name, wanted] of [["em", "*é*"], ["h1", "# 🍔 *é* b"], ["del", "~~c~~"], ["a", "[d](https://e.f)"], ["td", "h"]]) {
+        const found = await pointAt(name);
+        assert.deepEqual([found.pointed, found.marks], [[name], wanted]);
+    }
+    const at = { ...(await browser.ask(middleOf, "a")), button: "left", clickCount: 1 };
+    for (const kind of ["mousePressed", "mouseReleased"]) await browser.send("Input.dispatchMouseEvent", { type: kind, ...at });
+    assert.equal((await browser.ask(inFrame)).html.includes("https://e.f"), true);
+    assert.equal(await browser.ask(() => document.querySelector("#view iframe").contentWindow.location.href), "about:srcdoc");
+    await type("*again*");
+    assert.deepEqual((await browser.ask(inFrame)).html, "<p><em>again</em></p>\n");
+    assert.equal((await pointAt("em")).marks, "*again*");
+    assert.equal(await browser.ask(() => document.title), "What the scanners see");
+    assert.deepEqual(faults, []);
+});
+
+test("what is longer than a browser renders soon is not rendered", async () => {
+    await fill("a\n".repeat(600_000));
+    await settled("refused");
+    assert.match(await told(), /^TooLong: the page renders 1000000 characters at most/);
+    await choose("lines");
+});
+
 test("nothing is wider than 400 pixels, in light and in dark", async () => {
     for (const dark of [false, true]) {
         await open({ width: 400, height: 800, dark });
@@ -433,7 +485,8 @@ test("a policy needs `wasm-unsafe-eval`, and a URL is one from the page's on", a
 test("a picture", async () => {
     await open({ width: 1100, height: 720 });
     await settled("drawn");
-    await browser.ask(() => document.querySelector(".strip.quote").click());
+    await choose("rendered");
+    await pointAt("a");
     const picture = await browser.screenshot();
     assert.ok(picture.length > 20_000 && picture.length < 200_000, `${picture.length} bytes`);
     if (process.env.SCREENSHOT) writeFileSync(process.env.SCREENSHOT, picture);

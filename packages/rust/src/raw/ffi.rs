@@ -91,6 +91,56 @@ pub const OPTION_STRIKETHROUGH: u32 = 8;
 pub const OPTION_TASKS: u32 = 16;
 pub const OPTION_WIKILINKS: u32 = 32768;
 
+pub const EVENT_START: u32 = 0;
+pub const EVENT_END: u32 = 1;
+pub const EVENT_TEXT: u32 = 2;
+pub const EVENT_CODE: u32 = 3;
+pub const EVENT_INLINE_MATH: u32 = 4;
+pub const EVENT_DISPLAY_MATH: u32 = 5;
+pub const EVENT_HTML: u32 = 6;
+pub const EVENT_INLINE_HTML: u32 = 7;
+pub const EVENT_FOOTNOTE_REFERENCE: u32 = 8;
+pub const EVENT_SOFT_BREAK: u32 = 9;
+pub const EVENT_HARD_BREAK: u32 = 10;
+pub const EVENT_RULE: u32 = 11;
+pub const EVENT_TASK: u32 = 12;
+
+pub const ELEMENT_PARAGRAPH: u32 = 1;
+pub const ELEMENT_HEADING: u32 = 2;
+pub const ELEMENT_QUOTE: u32 = 3;
+pub const ELEMENT_CODE_BLOCK: u32 = 4;
+pub const ELEMENT_HTML_BLOCK: u32 = 5;
+pub const ELEMENT_LIST: u32 = 6;
+pub const ELEMENT_ITEM: u32 = 7;
+pub const ELEMENT_FOOTNOTE: u32 = 8;
+pub const ELEMENT_DEFINITION_LIST: u32 = 9;
+pub const ELEMENT_TERM: u32 = 10;
+pub const ELEMENT_DEFINITION: u32 = 11;
+pub const ELEMENT_TABLE: u32 = 12;
+pub const ELEMENT_TABLE_HEAD: u32 = 13;
+pub const ELEMENT_TABLE_ROW: u32 = 14;
+pub const ELEMENT_TABLE_CELL: u32 = 15;
+pub const ELEMENT_EMPHASIS: u32 = 16;
+pub const ELEMENT_STRONG: u32 = 17;
+pub const ELEMENT_STRIKETHROUGH: u32 = 18;
+pub const ELEMENT_SUPERSCRIPT: u32 = 19;
+pub const ELEMENT_SUBSCRIPT: u32 = 20;
+pub const ELEMENT_LINK: u32 = 21;
+pub const ELEMENT_IMAGE: u32 = 22;
+pub const ELEMENT_METADATA: u32 = 23;
+
+pub const LINK_INLINE: u32 = 1;
+pub const LINK_REFERENCE: u32 = 2;
+pub const LINK_REFERENCE_UNKNOWN: u32 = 3;
+pub const LINK_COLLAPSED: u32 = 4;
+pub const LINK_COLLAPSED_UNKNOWN: u32 = 5;
+pub const LINK_SHORTCUT: u32 = 6;
+pub const LINK_SHORTCUT_UNKNOWN: u32 = 7;
+pub const LINK_AUTOLINK: u32 = 8;
+pub const LINK_EMAIL: u32 = 9;
+pub const LINK_WIKI: u32 = 10;
+pub const LINK_WIKI_PIPED: u32 = 11;
+
 pub const HTML_RAW_TEXT: u32 = 1;
 pub const HTML_COMMENT: u32 = 2;
 pub const HTML_PROCESSING: u32 = 3;
@@ -304,6 +354,31 @@ pub struct Inlines {
 
 #[repr(C)]
 #[derive(Clone, Copy, Debug, Default, PartialEq, Eq)]
+pub struct Event {
+    pub kind: u32,
+    pub element: u32,
+    pub detail: u32,
+    pub number: u64,
+    pub start: usize,
+    pub end: usize,
+    pub text_start: usize,
+    pub text_length: usize,
+    pub title_start: usize,
+    pub title_length: usize,
+    pub label_start: usize,
+    pub label_length: usize,
+}
+
+#[repr(C)]
+#[derive(Clone, Copy, Debug, Default, PartialEq, Eq)]
+pub struct Events {
+    pub status: u32,
+    pub count: usize,
+    pub length: usize,
+}
+
+#[repr(C)]
+#[derive(Clone, Copy, Debug, Default, PartialEq, Eq)]
 pub struct Part {
     pub status: u32,
     pub end: usize,
@@ -469,6 +544,15 @@ extern "C" {
         buffer: *mut u8,
         capacity: usize,
     ) -> Text;
+    pub fn mds_events(
+        text: *const c_void,
+        length: usize,
+        options: u32,
+        events: *mut Event,
+        capacity: usize,
+        texts: *mut u8,
+        texts_capacity: usize,
+    ) -> Events;
     pub fn mds_scan_link_dest(bytes: *const c_void, length: usize, start: usize, max_next: usize) -> Part;
     pub fn mds_scan_link_title(bytes: *const c_void, length: usize, start: usize) -> Part;
     pub fn mds_scan_autolink(bytes: *const c_void, length: usize, start: usize) -> Part;

@@ -1,0 +1,38 @@
+-- What C callers get of the events of a page.
+use Rattle.std.specs.Prelude.{ℕ, ◌≡◌, ◌≤◌, ◌<◌, ◌++◌, ◌⊎◌, List, drop, length}
+use Rattle.std.specs.Str.{IsUtf8}
+use Rattle.markdown_events.specs.InlineEvents.{RangedEvent}
+use Rattle.markdown_events.specs.page.PageEvents.{ArePageEvents}
+use Rattle.markdown_events.specs.page.Settings.{asked_by}
+use Rattle.markdown_scanners_c.specs.EventRecords.{records_from, texts_of}
+use Rattle.markdown_scanners_c.specs.PageHtml.{AreBuilt, options_of}
+use Rattle.markdown_scanners_c.specs.Status.{ok, too_short, bad_kind, not_utf8, no_memory}
+use Rattle.markdown_scanners_c.specs.declared.event_records.PageEvent.{PageEvent}
+use Rattle.markdown_scanners_c.specs.declared.page_events.EventCount.{EventCount}
+
+-- a status, and no event
+abbrev pub IsNoEvent : ℕ → EventCount → Type 0
+IsNoEvent status told = (told.status ≡ status) × (told.count ≡ 0) × (told.length ≡ 0)
+
+-- Both buffers of a caller are as they were.
+abbrev pub AreKept : List PageEvent → List PageEvent → List ℕ → List ℕ → Type 0
+AreKept events new_events texts new_texts = (new_events ≡ events) × (new_texts ≡ texts)
+
+-- These events and their texts stand at the fronts of the two buffers; or one of the two is longer than its buffer, and both buffers are as
+-- they were. How long the two are is told in both cases.
+abbrev pub AreBothWritten : List PageEvent → List ℕ → List PageEvent → List PageEvent → List ℕ → List ℕ → EventCount → Type 0
+AreBothWritten made words events new_events texts new_texts told =
+    (told.count ≡ length made) × (told.length ≡ length words)
+    × (((told.status ≡ ok) × (length made ≤ length events) × (length words ≤ length texts)
+    × (new_events ≡ made ++ drop (length made) events) × (new_texts ≡ words ++ drop (length words) texts))
+    ⊎ ((told.status ≡ too_short) × AreKept events new_events texts new_texts
+    × ((length events < length made) ⊎ (length texts < length words))))
+
+-- Some option is not built; or the page is not UTF-8; or memory was refused; or the events of the page are written.
+unfoldable pub AreEventsTold : List ℕ → ℕ → List PageEvent → List PageEvent → List ℕ → List ℕ → EventCount → Type 0
+AreEventsTold page bits events new_events texts new_texts told =
+    (IsNoEvent bad_kind told × AreKept events new_events texts new_texts × ¬ (AreBuilt bits))
+    ⊎ (IsNoEvent not_utf8 told × AreKept events new_events texts new_texts × AreBuilt bits × ¬ (IsUtf8 page))
+    ⊎ (IsNoEvent no_memory told × AreKept events new_events texts new_texts × AreBuilt bits × IsUtf8 page)
+    ⊎ ((given : List RangedEvent) × AreBuilt bits × IsUtf8 page × ArePageEvents page (asked_by (options_of bits)) given
+    × AreBothWritten (records_from 0 given) (texts_of given) events new_events texts new_texts told)

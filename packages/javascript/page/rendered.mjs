@@ -1,0 +1,72 @@
+/**
+ * The safe HTML of a text, and of each of its elements where its source stands. HTML says nothing of sources, and events have no
+ * elements; but the elements of safe HTML are those that events write, in the same order.
+ */
+
+/** @typedef {import("../lib/events.mjs").Event<string>} Event */
+/** @typedef {[name: string, start: number, stop: number]} Source an element's name, and where its source stands */
+
+/** What is read beside CommonMark. */
+export const EXTENSIONS = /** @type {("table" | "strikethrough" | "tasklist")[]} */ (["table", "strikethrough", "tasklist"]);
+
+/** The elements of each event that holds others, but for lists, headings and rows. */
+const OF_ELEMENT = {
+    paragraph: ["p"],
+    quote: ["blockquote"],
+    codeBlock: ["pre", "code"],
+    item: ["li"],
+    table: ["table"],
+    tableHead: ["thead", "tr"],
+    emphasis: ["em"],
+    strong: ["strong"],
+    strikethrough: ["del"],
+    link: ["a"],
+    image: ["img"],
+};
+const OF_KIND = { code: ["code"], hardBreak: ["br"], rule: ["hr"], task: ["input"] };
+
+/**
+ * The elements that events write, in the order in which they begin.
+ * @param {Event[]} events
+ * @returns {Source[]}
+ */
+export function sourcesOf(events) {
+    /** @type {Source[]} */
+    const found = [];
+    let images = 0; // an image shows the texts that it holds, and none of their elements
+    let rows = 0;
+    for (const it of events) {
+        if (it.kind === "start" && it.element === "table") rows = 0;
+        if (images === 0) for (const name of namesOf(it, rows)) found.push([name, it.start, it.stop]);
+        if (it.kind === "end" && it.element === "tableRow") rows += 1;
+        if (it.kind === "end" && it.element === "tableHead") rows = 1;
+        if (it.element === "image") images += it.kind === "start" ? 1 : -1;
+    }
+    return found;
+}
+
+/**
+ * The names of the elements that an event begins, in a table that has had so many rows.
+ * @param {any} it
+ * @param {number} rows
+ */
+function namesOf(it, rows) {
+    if (it.kind !== "start") return OF_KIND[it.kind] ?? [];
+    switch (it.element) {
+        case "heading": return [`h${it.level}`];
+        case "list": return [it.number === null ? "ul" : "ol"];
+        case "tableRow": return rows === 1 ? ["tbody", "tr"] : ["tr"];
+        case "tableCell": return [rows === 0 ? "th" : "td"];
+        default: return OF_ELEMENT[it.element] ?? [];
+    }
+}
+
+/**
+ * The safe HTML of a text, and its elements.
+ * @param {import("../markdown_scanners.mjs").Scanners} scanners
+ * @param {string} text
+ */
+export function rendered(scanners, text) {
+    const page = text.replaceAll("\0", "\ufffd"); // as `html` reads it, and `events` does not (2.3)
+    return { html: scanners.html(page, { extensions: EXTENSIONS }), sources: sourcesOf(scanners.events(page, { extensions: EXTENSIONS })) };
+}

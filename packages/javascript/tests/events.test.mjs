@@ -1,0 +1,101 @@
+/** The events of pages, on the rows of packages/c/tests/events.c; and by `html` each example of CommonMark 0.31.2. */
+import assert from "node:assert/strict";
+import { readFileSync } from "node:fs";
+import { test } from "node:test";
+import * as mds from "../markdown_scanners.mjs";
+import { MODULE } from "./module.mjs";
+import { hold } from "./totals.mjs";
+import { TOP } from "./tree.mjs";
+
+const scanners = await mds.load(MODULE);
+const WORD = /"(?:[^"\\]|\\.)*"/g;
+const EVERY = ["table", "strikethrough", "tasklist", "wikilinks"];
+const FENCE = "`".repeat(32);
+const source = readFileSync(new URL("packages/c/tests/events.c", TOP), "utf8");
+const NAMES = { quote: "block quote", wiki: "wikilink", wikiPiped: "piped wikilink" };
+
+/** What adjacent strings of C say, whose bytes are UTF-8. */
+function said(words) {
+    const units = Array.from(words.match(WORD), (it) => JSON.parse(it.replace(/\\x([0-9a-f]{2})/g, "\\u00$1"))).join("");
+    return Buffer.from(units, "latin1").toString();
+}
+
+/** The rows of a table of C: of each the page, and the lines of its events. */
+function rowsOf(name) {
+    const table = source.split(`static const struct row ${name}[] = {\n`)[1].split("\n};")[0];
+    const rows = Array.from(table.matchAll(/^ {4}\{("(?:[^"\\]|\\.)*"),\s*(.*?)\},$/gms), ([, page, lines]) => [said(page), said(lines)]);
+    assert.equal(rows.length, table.match(/^ {4}\{/gm).length);
+    return rows;
+}
+
+const words = (name) => NAMES[name] ?? name.replace(/[A-Z]/g, (it) => ` ${it.toLowerCase()}`);
+const text = (it) => (typeof it === "string" ? it : Buffer.from(it).toString());
+const quoted = (it) => ` "${text(it).replaceAll("\n", "\\n")}"`;
+
+/** The line of an event, as the rows have it. */
+function lineOf(it, byteOf) {
+    let line = `${byteOf(it.start)} ${byteOf(it.stop)} `;
+    if (it.kind === "task") line += it.checked ? "checked " : "unchecked ";
+    line += words(it.kind);
+    if (it.element) line += ` ${words(it.element)}`;
+    line += (it.alignments ?? []).map((of) => ` ${of}`).join("");
+    if (it.link) line += ` ${words(it.link)}${quoted(it.destination)}${quoted(it.title)}${it.label.length ? quoted(it.label) : ""}`;
+    if ((it.number ?? null) !== null) line += ` ${it.number}`;
+    if (typeof it.text === typeof it.info) assert.equal(it.text, undefined);
+    if ((it.text ?? it.info ?? null) !== null) line += quoted(it.text ?? it.info);
+    return `${line}\n`;
+}
+
+/** The lines of events, of which a heading has its level at both ends. */
+function linesOf(events, byteOf = (place) => place) {
+    const levels = [];
+    return events.map((it) => {
+        if (it.element === "heading" && it.kind === "start") levels.push(it.level);
+        const line = lineOf(it, byteOf);
+        return it.element === "heading" ? line.replace("\n", ` ${it.kind === "start" ? it.level : levels.pop()}\n`) : line;
+    }).join("");
+}
+
+test("each row", () => {
+    let tried = 0;
+    for (const [name, extensions] of [["rows", []], ["extended", EVERY]]) {
+        for (const [page, wanted] of rowsOf(name)) {
+            tried += 1;
+            const inBytes = (place) => Buffer.byteLength(page.slice(0, place));
+            assert.equal(linesOf(scanners.events(page, { extensions }), inBytes), wanted);
+            assert.equal(linesOf(scanners.text(page).events({ extensions })), wanted);
+            assert.equal(linesOf(scanners.events(new TextEncoder().encode(page), { extensions })), wanted);
+        }
+    }
+    hold("events.c", tried);
+});
+
+test("each example of the specification", () => {
+    const spec = readFileSync(new URL("tests/commonmark/spec-0.31.2.txt", TOP), "utf8").replaceAll("→", "\t");
+    const examples = spec.split(`\n${FENCE} example\n`).slice(1).map((it) => it.split(FENCE)[0].match(/^(?:\.\n|([^]*?\n)\.\n)([^]*)$/));
+    for (const [, page = "", wanted] of examples) assert.equal(scanners.html(page, { safe: false }), wanted);
+    hold("examples_by_html", examples.length);
+});
+
+test("places are those of the string", () => {
+    const [, first, start, second] = scanners.events("🍔 *é*");
+    assert.deepEqual([first, start.start, second], [
+        { kind: "text", text: "🍔 ", start: 0, stop: 3 }, 3, { kind: "text", text: "é", start: 4, stop: 5 },
+    ]);
+    assert.deepEqual(scanners.events("***"), [{ kind: "rule", start: 0, stop: 3 }]);
+});
+
+test("more events, and longer texts, than the first rooms hold", () => {
+    assert.equal(scanners.events("a\n".repeat(5000)).filter((it) => it.kind === "softBreak").length, 4999);
+    const links = scanners.events(`${"[a]\n".repeat(100)}\n[a]: ${"b".repeat(5000)}\n`).filter((it) => it.link);
+    assert.deepEqual([links.length, links[99].destination], [100, "b".repeat(5000)]);
+});
+
+test("what is refused", () => {
+    assert.deepEqual(scanners.events(""), []);
+    assert.throws(() => scanners.events(new Uint8Array([97, 255])), mds.NotUtf8);
+    assert.throws(() => scanners.events("\ud800"), mds.LoneSurrogate);
+    assert.throws(() => scanners.events("a", { extensions: ["footnotes"] }), { name: "TypeError", message: /there is no extension/ });
+    assert.throws(() => scanners.events("a", { safe: true }), { name: "TypeError", message: /safe/ });
+    assert.throws(() => scanners.events(null), TypeError);
+});
