@@ -6,3 +6,4 @@ pub mod OneText
 pub mod OverLemmas
 pub mod ParagraphLemmas
 pub mod RestLemmas
+pub mod TextFirst

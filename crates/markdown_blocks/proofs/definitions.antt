@@ -1,3 +1,4 @@
 pub mod CutLemmas
 pub mod DefinitionLemmas
 pub mod GatherLemmas
+pub mod LabelEnds

@@ -1,12 +1,14 @@
 //! Blocks of a page, each as a whole from the front of what is left, in their containers.
-ghost use Rattle.std.specs.Prelude.{◌≡◌, ◌↔◌, ◌++◌, ◌∷◌, [], List, ℕ, Option, drop, IsTrue, IfOk, IfSome, IfNone};
+ghost use Rattle.std.specs.Prelude.{◌≡◌, ◌↔◌, ◌+◌, ◌++◌, ◌∷◌, [], List, ℕ, Option, true, drop, IsTrue, IfOk, IfSome, IfNone};
 ghost use Rattle.markdown_values.specs.declared.values.HeadingLevel.{HeadingLevel};
+ghost use Rattle.markdown_scanners_tree.specs.Bytes.{begins_with};
 ghost use Rattle.markdown_scanners_tree.specs.SomeExactly.{SomeExactly};
 ghost use Rattle.markdown_scanners_tree.specs.scanners.TextLines.{lines_of};
 ghost use Rattle.markdown_blocks.specs.blocks.Leaves.{Begins, IsUnderline, EndsParagraph, ClosesFence, HasIndent, Interrupts};
 ghost use Rattle.markdown_blocks.specs.blocks.Leaves.{In, IsLazy, StopsBefore, StopsBehind, EndsAsHtml, GoesOnIndented};
 ghost use Rattle.markdown_blocks.specs.blocks.Leaves.{IsHead, BeginsNoTable, LeavesBehind};
-ghost use Rattle.markdown_blocks.specs.blocks.Endings.{EndsText, IsEnd, IsNextLine, IsUnderOrDefines};
+ghost use Rattle.markdown_blocks.specs.blocks.Endings.{EndsText, IsEnd, IsNextLine, IsUnderOrDefines, is_text_byte};
+ghost use Rattle.markdown_blocks.specs.declared.blocks.Ending.TheVariants.{Text};
 ghost use Rattle.markdown_blocks.specs.blocks.Over.{IsOver};
 ghost use Rattle.markdown_blocks.specs.blocks.Pages.{IsBlockOf};
 ghost use Rattle.markdown_blocks.specs.containers.Containers.{asked_in, behind, IsInside};
@@ -23,8 +25,8 @@ use crate::tables::{count_cells, delimiter_columns, take_rows};
 use crate::taken::Taken;
 use crate::terms::defines_term;
 use markdown_scanners_tree::scanners::{
-    HtmlBlockKind, ends_html_block, interrupts_paragraph, scan_closing_code_fence,
-    scan_setext_heading,
+    HtmlBlockKind, ends_html_block, interrupts_paragraph, is_ascii_whitespace,
+    scan_closing_code_fence, scan_setext_heading,
 };
 use markdown_values::values::HeadingLevel;
 use std::alloc::{AllocError, Global};
@@ -108,7 +110,7 @@ pub(crate) fn scan_block(
 {
     let kind = kind_of(rest);
     let taken = match kind {
-        BlockKind::Blank => take_until(text, first, outer, Ending::Text),
+        BlockKind::Blank => take_blank(text, first, outer),
         BlockKind::Indented => take_indented(text, first, outer),
         BlockKind::Fenced(count, byte) => {
             take_through(text, first, outer, Ending::Fence(count, byte))
@@ -137,6 +139,45 @@ pub(crate) fn is_over(text: &[u8], block: Block, outer: &Outer, has_ended: bool)
         }
         _ => block.taken.next(text).is_some(),
     }
+}
+
+// The lines, and those after them up to the first that is not blank.
+fn take_blank(text: &[u8], first: Taken, outer: &Outer) -> Taken
+    ensures { (lines : List (List ℕ)) → IsTaken text.now first lines
+        → (more : List (List ℕ)) × IsTaken text.now result (lines ++ more)
+        × StopsBefore (IsEnd outer.now Text) more
+        (lines_of (drop result.bytes text.now)) }
+{
+    // Most often the next line begins with text, whatever containers are open.
+    if is_text_at(text, first.bytes) {
+        return first;
+    }
+    take_until(text, first, outer, Ending::Text)
+}
+
+// Whether a byte of text stands at the offset.
+fn is_text_at(text: &[u8], offset: usize) -> bool
+    ensures { IsTrue result → begins_with is_text_byte (drop offset text.now) ≡ true }
+{
+    match byte_at(text, offset) {
+        Some(byte) => is_text_byte(byte),
+        None => false,
+    }
+}
+
+// The byte at the offset, if there is one.
+fn byte_at(text: &[u8], offset: usize) -> Option<u8>
+    ensures byte { IfSome result (λ b.
+        drop offset text.now ≡ b ∷ drop (offset + 1) text.now) }
+{
+    text.get(offset).copied()
+}
+
+// Whether the byte is neither white space nor the marker of a block quote.
+fn is_text_byte(byte: u8) -> bool
+    ensures { result ≡ is_text_byte byte }
+{
+    !(is_ascii_whitespace(byte) || byte == b'>')
 }
 
 // The lines, and those behind them up to the first with this ending.
@@ -393,6 +434,7 @@ fn is_lazy(line: &Line) -> bool
 }
 
 // Whether a line with this after its containers goes on with no paragraph.
+#[inline(always)]
 fn ends_paragraph(rest: &Rest, extensions: BlockExtensions) -> bool
     ensures { IsTrue result ↔ EndsParagraph extensions rest.now }
 {
@@ -413,6 +455,7 @@ fn interrupts(text: &[u8], extensions: BlockExtensions) -> bool
 }
 
 // The level of the setext heading whose underline it is.
+#[inline(always)]
 fn underline_level(rest: &Rest) -> Option<HeadingLevel>
     ensures { SomeExactly (λ level. IsUnderline level rest.now) result }
 {
@@ -424,6 +467,7 @@ fn underline_level(rest: &Rest) -> Option<HeadingLevel>
 }
 
 // What the line is in the containers that ends a paragraph with text.
+#[inline(always)]
 fn text_end(line: &Line) -> Option<TextEnd>
     ensures found { IfSome result (λ r. EndsText line.now.outer r line.now.bytes) }
     ensures none { IfNone result ((level : Option HeadingLevel) → ¬ In line.now.outer.containers

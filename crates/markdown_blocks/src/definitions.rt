@@ -1,10 +1,11 @@
 //! Link reference definitions at the front of a paragraph. (CommonMark 0.31.2, section 4.7)
-ghost use Rattle.std.specs.Prelude.{◌≡◌, ◌↔◌, ◌<◌, ◌≤◌, ◌++◌, ◌-◌, ◌∷◌, [], List, ℕ, drop, length, take, IsTrue, IfOk, IfSome, IfNone, OnOk};
+ghost use Rattle.std.specs.Prelude.{◌≡◌, ◌↔◌, ◌<◌, ◌≤◌, ◌++◌, ◌-◌, ◌∷◌, [], List, ℕ, false, drop, length, take, IsTrue, IfOk, IfSome, IfNone, OnOk};
 ghost use Rattle.markdown_scanners_tree.specs.SomeExactly.{SomeExactly};
 ghost use Rattle.markdown_scanners_tree.specs.scanners.TextLines.{lines_of};
 ghost use Rattle.markdown_scanners_tree.specs.declared.scanners.reference_definitions.ReferenceDefinition.{ReferenceDefinition};
 ghost use Rattle.markdown_blocks.specs.definitions.Content.{content_in, content_of, words_in};
 ghost use Rattle.markdown_blocks.specs.definitions.Definitions.{AreDefinitions, HasText, IsDefinition};
+ghost use Rattle.markdown_blocks.specs.definitions.LabelEnds.{has_label_end, is_label_end};
 ghost use Rattle.markdown_blocks.specs.info.Info.{without_front};
 ghost use Rattle.markdown_blocks.specs.taken.Lines.{IsTaken};
 ghost use Rattle.markdown_blocks.specs.walk.Walk.{IsGathered};
@@ -15,6 +16,7 @@ use crate::info::without_front;
 use crate::rest::scan_rest;
 use crate::taken::Taken;
 use markdown_scanners_tree::scanners::{ReferenceDefinition, scan_reference_definition};
+use memchr::memchr;
 use std::alloc::{AllocError, Global};
 
 /// The definition at the front of a paragraph's content, if one stands there. Parentheses in its
@@ -112,6 +114,43 @@ fn begins_with_text(words: &[u8]) -> bool
     }
 }
 
+// Whether the block is one line, and no label of a definition ends in its text.
+fn is_line_without_label(block: Block, text: &[u8]) -> bool
+    ensures line { IsTrue result → block.taken.lines ≡ 1 }
+    ensures none { IsTrue result → has_label_end (without_front text.now) ≡ false }
+{
+    if block.taken.lines != 1 {
+        return false;
+    }
+    !has_label_end(without_front(text))
+}
+
+// Whether a bracket is closed somewhere in the text with a colon directly after it, as in each text that
+// begins with a definition.
+fn has_label_end(text: &[u8]) -> bool
+    ensures { result ≡ has_label_end text.now }
+{
+    let mut from = 0;
+    while from < text.len() {
+        let Some(offset) = memchr(b']', &text[from..]) else {
+            return false;
+        };
+        let place = from + offset;
+        if is_label_end(&text[place..]) {
+            return true;
+        }
+        from = place + 1;
+    }
+    false
+}
+
+// Whether a bracket is closed at the front, with a colon directly after it.
+fn is_label_end(rest: &[u8]) -> bool
+    ensures { result ≡ is_label_end rest.now }
+{
+    matches!(rest, [b']', b':', ..])
+}
+
 /// Makes the content that of the block at the front of these lines, where it begins with a
 /// definition, and else empty.
 pub(crate) fn gather_content(
@@ -129,8 +168,11 @@ pub(crate) fn gather_content(
     if begins_with_text(text) {
         return Ok(());
     }
-    add_content(content, lines, block, containers, text)?;
     // Most brackets at the front of a paragraph are those of a link.
+    if is_line_without_label(block, text) {
+        return Ok(());
+    }
+    add_content(content, lines, block, containers, text)?;
     if scan_definition(content).is_none() {
         content.clear();
     }

@@ -1,5 +1,7 @@
 -- What a scan for the end of a block looks for in a line.
-use Rattle.std.specs.Prelude.{ℕ, List, Option, Some, None, IsTrue, ◌↔◌}
+use Rattle.std.specs.Prelude.{ℕ, Bool, not, ◌||◌, ◌==◌, List, Option, Some, None, IsTrue, ◌↔◌}
+use Rattle.markdown_scanners_tree.specs.Ascii.{greater_than_sign}
+use Rattle.markdown_scanners_tree.specs.Bytes.{is_white_space}
 use Rattle.markdown_values.specs.declared.values.HeadingLevel.{HeadingLevel}
 use Rattle.markdown_blocks.specs.containers.Containers.{Outer, Rest, rest_in}
 use Rattle.markdown_blocks.specs.declared.blocks.Ending.{Ending}
@@ -39,3 +41,7 @@ IsNextLine outer text before line next.GoesOn = ¬ LeavesBehind outer text befor
 IsNextLine outer text before line (next.Underlines level) = Underlines outer.containers text before level line
 IsNextLine outer text before line next.Ends =
     LeavesBehind outer text before line × ((level : HeadingLevel) → ¬ Underlines outer.containers text before level line)
+
+-- a byte of text: neither white space nor the marker of a block quote
+abbrev pub is_text_byte : ℕ → Bool
+is_text_byte b = not (is_white_space b || b == greater_than_sign)

@@ -5,7 +5,7 @@ use Rattle.markdown_blocks.proofs.blocks.scan_block.Goals as goal
 pub returns-in-Blank : goal.returns-in-Blank
 returns-in-Blank c = λ line h.
     rw c.in-Blank.is (blank_block c.args.text.now c.args.outer.now line c.args.rest.now c.args.first h
-    c.take_until-taken.result c.in-Blank.ensures c.take_until-taken.ensures)
+    c.take_blank-taken.result c.in-Blank.ensures c.take_blank-taken.ensures)
 
 pub returns-in-Indented : goal.returns-in-Indented
 returns-in-Indented c = λ line h.
