@@ -79,7 +79,7 @@ def head_of_block(line):
     head = without_generics(line.removeprefix("impl").strip()).rstrip("{ ")
     trait, _, of_type = head.rpartition(" for ")
     trait = re.sub(r"'\w+ ", "", trait).split("::")[-1]
-    return trait, re.match(r"\w+", of_type)[0]
+    return trait, re.search(r"\w+", of_type)[0]
 
 
 def in_braces(text, start):

@@ -3,10 +3,7 @@ use Rattle.std.proofs.Common.{ℕ, ◌≡◌, refl, List, [], ◌∷◌, ◌++�
 use Rattle.markdown_html.specs.Addresses.{scheme_of}
 use Rattle.markdown_html.specs.Escapes.{written_address}
 use Rattle.markdown_html.specs.SafeHtml.{is_text, is_one_of, is_attribute, is_address, elements, void_elements, read_after}
-
--- what pages for comments may allow
-abbrev schemes : List (List ℕ)
-schemes = codes "http" ∷ codes "https" ∷ codes "mailto" ∷ codes "tel" ∷ []
+use Rattle.markdown_html.specs.SafeSetting.{default_schemes}
 
 -- ---- schemes
 
@@ -56,10 +53,10 @@ other_reference = refl
 read_row : read_after 0 (codes "/?a&amp;b&#x27;") ≡ codes "/?a&b'"
 read_row = refl
 
-written_row : is_address schemes (written_address (codes "https://host/?a&b=\"<")) ≡ true
+written_row : is_address default_schemes (written_address (codes "https://host/?a&b=\"<")) ≡ true
 written_row = refl
 
-script_row : is_address schemes (codes "javascript:alert(1)") ≡ false
+script_row : is_address default_schemes (codes "javascript:alert(1)") ≡ false
 script_row = refl
 
 -- ---- elements and attributes
@@ -67,17 +64,17 @@ script_row = refl
 script_element : is_one_of (elements ++ void_elements) (codes "script") ≡ false
 script_element = refl
 
-handler_row : is_attribute (is_address schemes) (codes "a") (codes "onclick", []) ≡ false
+handler_row : is_attribute (is_address default_schemes) (codes "a") (codes "onclick", []) ≡ false
 handler_row = refl
 
-source_of_link : is_attribute (is_address schemes) (codes "a") (codes "src", []) ≡ false
+source_of_link : is_attribute (is_address default_schemes) (codes "a") (codes "src", []) ≡ false
 source_of_link = refl
 
-style_row : is_attribute (is_address schemes) (codes "p") (codes "style", []) ≡ false
+style_row : is_attribute (is_address default_schemes) (codes "p") (codes "style", []) ≡ false
 style_row = refl
 
-language_row : is_attribute (is_address schemes) (codes "code") (codes "class", codes "language-c") ≡ true
+language_row : is_attribute (is_address default_schemes) (codes "code") (codes "class", codes "language-c") ≡ true
 language_row = refl
 
-class_row : is_attribute (is_address schemes) (codes "code") (codes "class", codes "button") ≡ false
+class_row : is_attribute (is_address default_schemes) (codes "code") (codes "class", codes "button") ≡ false
 class_row = refl

@@ -1,5 +1,5 @@
 -- Settings by which HTML is safe.
-use Rattle.std.specs.Prelude.{ℕ, Bool, true, false, ◌≡◌, List}
+use Rattle.std.specs.Prelude.{ℕ, Bool, true, false, ◌≡◌, List, [], ◌∷◌, codes}
 use Rattle.markdown_html.specs.declared.setting.RawHtml.{RawHtml}
 use Rattle.markdown_html.specs.declared.setting.RawHtml.TheVariants.{Escaped, Kept}
 use Rattle.markdown_html.specs.Addresses.{is_allowed_address}
@@ -18,6 +18,10 @@ pub record IsSafeSetting (schemes : List (List ℕ)) (setting : Setting) : Type 
 -- HTML is safe by each list of schemes by which the setting is that it was written with.
 abbrev pub IsSafeWith : Setting → List ℕ → Type 0
 IsSafeWith setting html = (schemes : List (List ℕ)) → IsSafeSetting schemes setting → IsSafeHtml schemes html
+
+-- schemes that pages for comments may allow, and that are allowed where a caller names none
+abbrev pub default_schemes : List (List ℕ)
+default_schemes = codes "http" ∷ codes "https" ∷ codes "mailto" ∷ codes "tel" ∷ []
 
 -- Raw HTML is written as text, and addresses of other schemes are left out. Links say `rel="nofollow noopener"`.
 abbrev pub safe_setting : List (List ℕ) → Setting

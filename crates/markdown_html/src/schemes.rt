@@ -27,7 +27,7 @@ impl<'a> AllowedAddresses for AllowedSchemes<'a> {
     }
 }
 
-/// Schemes that pages for comments may allow.
+/// Schemes that pages for comments may allow: `default_schemes`.
 pub const DEFAULT_SCHEMES: &[&str] = &["http", "https", "mailto", "tel"];
 
 /// The setting for text by people who are not trusted: raw HTML is written as text, links and images

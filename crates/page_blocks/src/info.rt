@@ -85,11 +85,11 @@ fn push_quote(text: &mut String) -> Result<(), AllocError>
 }
 
 /// Adds bytes as the text of a JSON string.
-pub(crate) fn push_json_text(
-    alloc: Global,
-    text: &mut String,
-    bytes: &[u8],
-) -> Result<(), AllocError>
+///
+/// # Errors
+///
+/// `AllocError` where memory is refused.
+pub fn push_json_text(alloc: Global, text: &mut String, bytes: &[u8]) -> Result<(), AllocError>
     ensures { OnOk result (string_bytes text.new ≡ string_bytes text.old ++ json_text bytes.now) }
 {
     let escaped = escape_bytes(alloc, bytes)?;

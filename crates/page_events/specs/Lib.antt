@@ -1,3 +1,4 @@
+pub mod json
 pub mod page
 pub mod printing
 pub mod words

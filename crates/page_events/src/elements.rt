@@ -1,10 +1,10 @@
 //! What is printed of the start and the end of an element.
-ghost use Rattle.std.specs.Prelude.{◌≡◌, ◌++◌, OnOk, map, option_map, string_bytes};
+ghost use Rattle.std.specs.Prelude.{◌≡◌, ◌++◌, OnOk, codes, map, option_map, string_bytes};
 ghost use Rattle.std.specs.List.{flat_map};
 ghost use Rattle.markdown_values.specs.strings.Text.{cow_text};
 ghost use Rattle.markdown_values.specs.values.Events.{end, start};
 ghost use Rattle.markdown_values.specs.values.Tags.{attribute_view, info_view, tag_view};
-ghost use Rattle.page_events.specs.printing.Lines.{alert_name, alert_text, alignment_text, attribute_text, class_text, element_kind};
+ghost use Rattle.page_events.specs.printing.Lines.{alert_name, alert_text, alignment_name, alignment_text, attribute_text, class_text, element_kind};
 ghost use Rattle.page_events.specs.printing.Lines.{element_name, element_text, event_text, held_text, id_text, label_text, link_text, link_word};
 ghost use Rattle.page_events.specs.printing.Lines.{metadata_name, number_text, quoted_if};
 
@@ -41,8 +41,8 @@ fn push_element(text: &mut String, tag: TagEnd) -> Result<(), AllocError>
     push_kind(text, tag)
 }
 
-// The name of an element.
-fn element_name(tag: TagEnd) -> &'static str
+/// The name of an element.
+pub(crate) fn element_name(tag: TagEnd) -> &'static str
     ensures { result.now ≡ element_name tag }
 {
     match tag {
@@ -78,42 +78,51 @@ fn push_kind(text: &mut String, tag: TagEnd) -> Result<(), AllocError>
 {
     match tag {
         TagEnd::Heading(level) => write!(text, " {}", level.number()),
-        TagEnd::BlockQuote(kind) => text.push_str(alert_text(kind)),
-        TagEnd::MetadataBlock(kind) => text.push_str(metadata_name(kind)),
+        TagEnd::BlockQuote(kind) => push_alert(text, kind),
+        TagEnd::MetadataBlock(kind) => push_word(text, metadata_name(kind)),
         _ => Ok(()),
     }
 }
 
-// The kind of an alert, if a block quote is one.
-fn alert_text(kind: Option<BlockQuoteKind>) -> &'static str
-    ensures { result.now ≡ alert_text kind }
+// Adds the kind of an alert, if a block quote is one.
+fn push_alert(text: &mut String, kind: Option<BlockQuoteKind>) -> Result<(), AllocError>
+    ensures { OnOk result (string_bytes text.new ≡ string_bytes text.old ++ alert_text kind) }
 {
     match kind {
-        Some(kind) => alert_name(kind),
-        None => "",
+        Some(kind) => push_word(text, alert_name(kind)),
+        None => Ok(()),
     }
 }
 
-// The kind of an alert.
-fn alert_name(kind: BlockQuoteKind) -> &'static str
+// Adds a word after a space.
+fn push_word(text: &mut String, word: &str) -> Result<(), AllocError>
+    ensures { OnOk result (string_bytes text.new
+        ≡ string_bytes text.old ++ (codes " " ++ word.now)) }
+{
+    text.push_str(" ")?;
+    text.push_str(word)
+}
+
+/// The kind of an alert.
+pub(crate) fn alert_name(kind: BlockQuoteKind) -> &'static str
     ensures { result.now ≡ alert_name kind }
 {
     match kind {
-        BlockQuoteKind::Note => " note",
-        BlockQuoteKind::Tip => " tip",
-        BlockQuoteKind::Important => " important",
-        BlockQuoteKind::Warning => " warning",
-        BlockQuoteKind::Caution => " caution",
+        BlockQuoteKind::Note => "note",
+        BlockQuoteKind::Tip => "tip",
+        BlockQuoteKind::Important => "important",
+        BlockQuoteKind::Warning => "warning",
+        BlockQuoteKind::Caution => "caution",
     }
 }
 
-// The kind of metadata.
-fn metadata_name(kind: MetadataBlockKind) -> &'static str
+/// The kind of metadata.
+pub(crate) fn metadata_name(kind: MetadataBlockKind) -> &'static str
     ensures { result.now ≡ metadata_name kind }
 {
     match kind {
-        MetadataBlockKind::YamlStyle => " yaml",
-        MetadataBlockKind::PlusesStyle => " pluses",
+        MetadataBlockKind::YamlStyle => "yaml",
+        MetadataBlockKind::PlusesStyle => "pluses",
     }
 }
 
@@ -236,20 +245,20 @@ fn push_alignments(text: &mut String, alignments: &[Alignment]) -> Result<(), Al
         ≡ string_bytes text.old ++ flat_map alignment_text alignments.now) }
 {
     for alignment in alignments {
-        text.push_str(alignment_text(*alignment))?;
+        push_word(text, alignment_name(*alignment))?;
     }
     Ok(())
 }
 
-// An alignment.
-fn alignment_text(alignment: Alignment) -> &'static str
-    ensures { result.now ≡ alignment_text alignment }
+/// An alignment.
+pub(crate) fn alignment_name(alignment: Alignment) -> &'static str
+    ensures { result.now ≡ alignment_name alignment }
 {
     match alignment {
-        Alignment::None => " none",
-        Alignment::Left => " left",
-        Alignment::Center => " center",
-        Alignment::Right => " right",
+        Alignment::None => "none",
+        Alignment::Left => "left",
+        Alignment::Center => "center",
+        Alignment::Right => "right",
     }
 }
 
@@ -264,28 +273,28 @@ fn push_link(
     ensures { OnOk result (string_bytes text.new ≡ string_bytes text.old
         ++ link_text kind (cow_text destination.now) (cow_text title.now) (cow_text label.now)) }
 {
-    text.push_str(link_word(kind))?;
+    push_word(text, link_word(kind))?;
     push_quoted(text, destination)?;
     push_quoted(text, title)?;
     push_label(text, label)
 }
 
-// How a link or an image is written.
-fn link_word(kind: LinkType) -> &'static str
+/// How a link or an image is written.
+pub(crate) fn link_word(kind: LinkType) -> &'static str
     ensures { result.now ≡ link_word kind }
 {
     match kind {
-        LinkType::Inline => " inline",
-        LinkType::Reference => " reference",
-        LinkType::ReferenceUnknown => " unknown reference",
-        LinkType::Collapsed => " collapsed",
-        LinkType::CollapsedUnknown => " unknown collapsed",
-        LinkType::Shortcut => " shortcut",
-        LinkType::ShortcutUnknown => " unknown shortcut",
-        LinkType::Autolink => " autolink",
-        LinkType::Email => " email",
-        LinkType::WikiLink { has_pothole: true } => " piped wikilink",
-        LinkType::WikiLink { has_pothole: false } => " wikilink",
+        LinkType::Inline => "inline",
+        LinkType::Reference => "reference",
+        LinkType::ReferenceUnknown => "unknown reference",
+        LinkType::Collapsed => "collapsed",
+        LinkType::CollapsedUnknown => "unknown collapsed",
+        LinkType::Shortcut => "shortcut",
+        LinkType::ShortcutUnknown => "unknown shortcut",
+        LinkType::Autolink => "autolink",
+        LinkType::Email => "email",
+        LinkType::WikiLink { has_pothole: true } => "piped wikilink",
+        LinkType::WikiLink { has_pothole: false } => "wikilink",
     }
 }
 

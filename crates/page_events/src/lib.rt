@@ -3,6 +3,7 @@
 
 mod elements;
 pub mod help;
+mod json;
 pub mod page;
 mod printing;
 pub mod program;

@@ -12,7 +12,7 @@ ghost use Rattle.page_events.specs.page.Printed.{IsPrintedTo, is_unwritten, no_t
 ghost use Rattle.page_events.specs.words.Words.{own_options, setting_of};
 
 use crate::help::{HELP, USAGE, VERSION};
-use crate::page::lines_of_page;
+use crate::page::{EventForm, lines_of_page};
 use crate::words::setting_of;
 use markdown_events::event_reader::PageSetting;
 use page_programs::files::OpensFiles;
@@ -107,11 +107,12 @@ struct Events {
 
 impl PrintsWholePages for Events {
     ghost use Rattle.std.specs.Prelude.{[]};
+    ghost use Rattle.page_events.specs.declared.page.EventForm.TheVariants.{Words};
     ghost use Rattle.page_events.specs.page.Printed.{IsPrinted};
 
     ghost headings = { λ _ _ _. [] };
 
-    ghost is_printed = { λ it. IsPrinted it.setting };
+    ghost is_printed = { λ it. IsPrinted Words it.setting };
 
     fn make_heading(
         &self,
@@ -123,6 +124,6 @@ impl PrintsWholePages for Events {
     }
 
     fn text_of_page(&self, alloc: Global, page: &[u8]) -> Result<String, AllocError> {
-        lines_of_page(alloc, page, self.setting)
+        lines_of_page(alloc, page, self.setting, EventForm::Words)
     }
 }

@@ -13,6 +13,8 @@ pub enum Form {
     Html,
     /// Its events, as `cmark_events` prints them.
     Events,
+    /// Its events as JSON objects, one a line.
+    Json,
 }
 
 /// What is printed, and with what a page is read.
@@ -43,6 +45,9 @@ fn form_of(words: &[&str]) -> Form
 {
     if has_option(words, "--to events") {
         return Form::Events;
+    }
+    if has_option(words, "--to json") {
+        return Form::Json;
     }
     Form::Html
 }

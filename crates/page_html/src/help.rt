@@ -2,7 +2,7 @@
 
 /// What is written on standard error after the name of an option that is not known.
 pub const USAGE: &str = "
-usage: cmark_html [--safe] [--to html|events] [-e NAME].. [--gfm] [--] [FILE ..]
+usage: cmark_html [--safe] [--to html|events|json] [-e NAME].. [--gfm] [--] [FILE ..]
        cmark_html -h | --help | --version
 ";
 
@@ -11,7 +11,7 @@ pub const VERSION: &str = "cmark_html 0.1.0\n";
 
 /// What `--help` prints.
 pub const HELP: &str = "\
-usage: cmark_html [--safe] [--to html|events] [-e NAME].. [--gfm] [--] [FILE ..]
+usage: cmark_html [--safe] [--to html|events|json] [-e NAME].. [--gfm] [--] [FILE ..]
        cmark_html -h | --help | --version
 
 Prints the HTML of a page of Markdown, by CommonMark 0.31.2 and as its examples write it.
@@ -21,6 +21,7 @@ Prints the HTML of a page of Markdown, by CommonMark 0.31.2 and as its examples 
                    and any other address is left out; links say rel=\"nofollow noopener\"
   --to html        prints HTML, as where nothing is asked for
   --to events      prints the events of the page in place of HTML, as cmark_events does
+  --to json        prints them as JSON, an object a line
   -e NAME          reads the page with an extension, which is one of
 
     table          tables of GitHub Flavored Markdown
@@ -30,7 +31,23 @@ Prints the HTML of a page of Markdown, by CommonMark 0.31.2 and as its examples 
 
   --gfm            the same as -e table -e strikethrough -e tasklist
 
-Of a page that is not UTF-8 one line is printed instead, not UTF-8.
+As JSON each event is an object on a line of its own. All have three members: kind, which is start,
+end, text, code, html, inline html, soft break, hard break, rule or task; start, how many bytes of
+the page stand before its source; and end, how many before what follows that. After them come
+
+  text             of a text, code or HTML
+  checked          of a task: true or false
+  element          of a start and an end: the element, as the help of cmark_events names it
+  level            of both of a heading
+  first            of the start of an ordered list: the number of its first item
+  info             of the start of a fenced code block: the info string
+  columns          of the start of a table: an array of none, left, center and right
+  type             of the start of a link or an image: how it is written, as that help has it
+  destination      of the same: where it leads, and its title
+  title
+  label            of the same, where it is a reference
+
+Of a page that is not UTF-8 one line is printed instead, not UTF-8, as JSON {\"error\":\"not UTF-8\"}.
 
 FILE is a page; - is standard input, and so is no FILE. What is printed of the pages follows one
 another. After the word -- all words are files.

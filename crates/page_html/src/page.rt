@@ -2,11 +2,11 @@
 ghost use Rattle.std.specs.Prelude.{◌≡◌, IfOk, string_bytes, true};
 ghost use Rattle.markdown_html.specs.PageHtml.{IsHtmlOf};
 ghost use Rattle.markdown_html.specs.SafeHtml.{IsSafeHtml};
-ghost use Rattle.markdown_html.specs.SafeSetting.{IsSafeWith, safe_setting};
+ghost use Rattle.markdown_html.specs.SafeSetting.{IsSafeWith, default_schemes, safe_setting};
 ghost use Rattle.markdown_html.specs.Settings.{plain_setting, seen_setting};
 ghost use Rattle.page_events.specs.page.Printed.{not_text};
 ghost use Rattle.page_html.specs.declared.asked.Form.TheVariants.{Html};
-ghost use Rattle.page_html.specs.page.Printed.{IsPrinted, IsPrintedAs, html_setting, schemes};
+ghost use Rattle.page_html.specs.page.Printed.{IsPrinted, IsPrintedAs, html_setting};
 
 use crate::asked::{Asked, Form};
 use crate::settings::options_of;
@@ -14,7 +14,7 @@ use markdown_events::event_reader::{NewError, PageSetting};
 use markdown_html::page::html_of_page_ext;
 use markdown_html::schemes::{DEFAULT_SCHEMES, safe_setting};
 use markdown_html::setting::{AllowedAddresses, HtmlSetting, plain_setting};
-use page_events::page::lines_of_page;
+use page_events::page::{EventForm, lines_of_page};
 use std::alloc::{AllocError, Global};
 use std::str::from_utf8;
 
@@ -29,7 +29,8 @@ pub fn output_of_page(alloc: Global, page: &[u8], asked: Asked) -> Result<String
 {
     match asked.form {
         Form::Html => html_of_bytes(alloc, page, asked),
-        Form::Events => lines_of_page(alloc, page, asked.setting),
+        Form::Events => lines_of_page(alloc, page, asked.setting, EventForm::Words),
+        Form::Json => lines_of_page(alloc, page, asked.setting, EventForm::Json),
     }
 }
 
@@ -37,7 +38,7 @@ pub fn output_of_page(alloc: Global, page: &[u8], asked: Asked) -> Result<String
 fn html_of_bytes(alloc: Global, page: &[u8], asked: Asked) -> Result<String, AllocError>
     ensures printed { IfOk result (λ text. IsPrintedAs Html asked page.now (string_bytes text)) }
     ensures safe { IfOk result (λ text. asked.safe ≡ true →
-        IsSafeHtml schemes (string_bytes text)) }
+        IsSafeHtml default_schemes (string_bytes text)) }
 {
     match from_utf8(page) {
         Ok(text) => html_of_text(alloc, text, asked),
@@ -48,7 +49,7 @@ fn html_of_bytes(alloc: Global, page: &[u8], asked: Asked) -> Result<String, All
 // The line of a page that is not UTF-8.
 fn line_of_none(alloc: Global) -> Result<String, AllocError>
     ensures text { IfOk result (λ text. string_bytes text ≡ not_text) }
-    ensures safe { IfOk result (λ text. IsSafeHtml schemes (string_bytes text)) }
+    ensures safe { IfOk result (λ text. IsSafeHtml default_schemes (string_bytes text)) }
 {
     let mut text = String::new(alloc);
     text.push_str("not UTF-8\n")?;
@@ -60,7 +61,7 @@ fn html_of_text(alloc: Global, page: &str, asked: Asked) -> Result<String, Alloc
     ensures html { IfOk result (λ html.
         IsHtmlOf page.now asked.setting (html_setting asked.safe) (string_bytes html)) }
     ensures safe { IfOk result (λ html. asked.safe ≡ true →
-        IsSafeHtml schemes (string_bytes html)) }
+        IsSafeHtml default_schemes (string_bytes html)) }
 {
     if asked.safe {
         return safe_html(alloc, page, asked.setting);
@@ -71,8 +72,8 @@ fn html_of_text(alloc: Global, page: &str, asked: Asked) -> Result<String, Alloc
 // The HTML of a page by people who are not trusted.
 fn safe_html(alloc: Global, page: &str, setting: PageSetting) -> Result<String, AllocError>
     ensures html { IfOk result (λ html.
-        IsHtmlOf page.now setting (safe_setting schemes) (string_bytes html)) }
-    ensures safe { IfOk result (λ html. IsSafeHtml schemes (string_bytes html)) }
+        IsHtmlOf page.now setting (safe_setting default_schemes) (string_bytes html)) }
+    ensures safe { IfOk result (λ html. IsSafeHtml default_schemes (string_bytes html)) }
 {
     let safe = safe_setting(DEFAULT_SCHEMES);
     html_with(alloc, page, setting, &safe)

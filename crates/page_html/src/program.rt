@@ -94,6 +94,7 @@ pub fn run_program<R: StepReader, F: OpensFiles, W: StepWriter, V: StepWriter>(
             "--safe",
             "--to html",
             "--to events",
+            "--to json",
             "-e table",
             "-e strikethrough",
             "-e tasklist",

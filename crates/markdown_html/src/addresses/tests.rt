@@ -1,10 +1,8 @@
 //! Addresses by the URL standard, section 4.4: what the basic URL parser has as the scheme of each.
 use super::is_allowed_address;
+use crate::schemes::DEFAULT_SCHEMES;
 
-// What a page for comments may allow.
-const SCHEMES: &[&str] = &["http", "https", "mailto", "tel"];
-
-// Addresses that are relative, or have one of these schemes.
+// Addresses that are relative, or have one of the default schemes.
 const ALLOWED: &[&str] = &[
     "",
     "https://example.com/?q=javascript:alert(1)",
@@ -64,13 +62,13 @@ const OTHERS: &[&str] = &[
 fn schemes_are_read_as_browsers_read_them(rt: HostRuntime) {
     for address in ALLOWED {
         assert!(rt;
-            is_allowed_address(address.as_bytes(), SCHEMES),
+            is_allowed_address(address.as_bytes(), DEFAULT_SCHEMES),
             "{address}"
         );
     }
     for address in OTHERS {
         assert!(rt;
-            !is_allowed_address(address.as_bytes(), SCHEMES),
+            !is_allowed_address(address.as_bytes(), DEFAULT_SCHEMES),
             "{address}"
         );
     }

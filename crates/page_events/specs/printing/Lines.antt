@@ -59,25 +59,25 @@ element_name End.Image = codes "image"
 element_name (End.MetadataBlock kind) = codes "metadata block"
 
 abbrev pub alert_name : BlockQuoteKind → List ℕ
-alert_name Note = codes " note"
-alert_name Tip = codes " tip"
-alert_name Important = codes " important"
-alert_name Warning = codes " warning"
-alert_name Caution = codes " caution"
+alert_name Note = codes "note"
+alert_name Tip = codes "tip"
+alert_name Important = codes "important"
+alert_name Warning = codes "warning"
+alert_name Caution = codes "caution"
 
 abbrev pub alert_text : Option BlockQuoteKind → List ℕ
 alert_text None = []
-alert_text (Some kind) = alert_name kind
+alert_text (Some kind) = codes " " ++ alert_name kind
 
 abbrev pub metadata_name : MetadataBlockKind → List ℕ
-metadata_name YamlStyle = codes " yaml"
-metadata_name PlusesStyle = codes " pluses"
+metadata_name YamlStyle = codes "yaml"
+metadata_name PlusesStyle = codes "pluses"
 
 -- what its start and its end say of it: the level of a heading, the kind of an alert or of metadata
 abbrev pub element_kind : TagEnd → List ℕ
 element_kind (End.Heading level) = codes " " ++ decimal (heading_number level)
 element_kind (End.BlockQuote kind) = alert_text kind
-element_kind (End.MetadataBlock kind) = metadata_name kind
+element_kind (End.MetadataBlock kind) = codes " " ++ metadata_name kind
 element_kind tag = []
 
 abbrev pub element_text : TagEnd → List ℕ
@@ -99,25 +99,28 @@ abbrev pub number_text : Option ℕ → List ℕ
 number_text None = []
 number_text (Some number) = codes " " ++ decimal number
 
+abbrev pub alignment_name : Alignment → List ℕ
+alignment_name Aligned.None = codes "none"
+alignment_name Aligned.Left = codes "left"
+alignment_name Aligned.Center = codes "center"
+alignment_name Aligned.Right = codes "right"
+
 abbrev pub alignment_text : Alignment → List ℕ
-alignment_text Aligned.None = codes " none"
-alignment_text Aligned.Left = codes " left"
-alignment_text Aligned.Center = codes " center"
-alignment_text Aligned.Right = codes " right"
+alignment_text alignment = codes " " ++ alignment_name alignment
 
 -- how a link or an image is written
 abbrev pub link_word : LinkType → List ℕ
-link_word Kind.Inline = codes " inline"
-link_word Kind.Reference = codes " reference"
-link_word Kind.ReferenceUnknown = codes " unknown reference"
-link_word Kind.Collapsed = codes " collapsed"
-link_word Kind.CollapsedUnknown = codes " unknown collapsed"
-link_word Kind.Shortcut = codes " shortcut"
-link_word Kind.ShortcutUnknown = codes " unknown shortcut"
-link_word Kind.Autolink = codes " autolink"
-link_word Kind.Email = codes " email"
-link_word (Kind.WikiLink true) = codes " piped wikilink"
-link_word (Kind.WikiLink false) = codes " wikilink"
+link_word Kind.Inline = codes "inline"
+link_word Kind.Reference = codes "reference"
+link_word Kind.ReferenceUnknown = codes "unknown reference"
+link_word Kind.Collapsed = codes "collapsed"
+link_word Kind.CollapsedUnknown = codes "unknown collapsed"
+link_word Kind.Shortcut = codes "shortcut"
+link_word Kind.ShortcutUnknown = codes "unknown shortcut"
+link_word Kind.Autolink = codes "autolink"
+link_word Kind.Email = codes "email"
+link_word (Kind.WikiLink true) = codes "piped wikilink"
+link_word (Kind.WikiLink false) = codes "wikilink"
 
 -- the label of a reference, unless it is empty
 abbrev pub label_text : List ℕ → List ℕ
@@ -126,7 +129,7 @@ label_text (b ∷ label) = quoted (b ∷ label)
 
 -- that, where it leads, its title, and its label
 abbrev pub link_text : LinkType → List ℕ → List ℕ → List ℕ → List ℕ
-link_text kind destination title label = link_word kind ++ quoted destination ++ quoted title ++ label_text label
+link_text kind destination title label = codes " " ++ link_word kind ++ quoted destination ++ quoted title ++ label_text label
 
 -- what its start says besides
 abbrev pub held_text : TagView (List ℕ) → List ℕ

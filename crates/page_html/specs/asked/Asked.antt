@@ -6,7 +6,7 @@ use Rattle.markdown_events.specs.declared.event_reader.PageSetting.{PageSetting}
 use Rattle.page_programs.specs.Words.{asks}
 use Rattle.page_html.specs.declared.asked.Asked.{Asked}
 use Rattle.page_html.specs.declared.asked.Form.{Form}
-use Rattle.page_html.specs.declared.asked.Form.TheVariants.{Html, Events}
+use Rattle.page_html.specs.declared.asked.Form.TheVariants.{Html, Events, Json}
 
 -- ---- the options that the program has of its own
 
@@ -18,6 +18,9 @@ to_html = codes "--to html"
 
 abbrev pub to_events : List ℕ
 to_events = codes "--to events"
+
+abbrev pub to_json : List ℕ
+to_json = codes "--to json"
 
 abbrev pub table : List ℕ
 table = codes "-e table"
@@ -35,7 +38,7 @@ abbrev pub gfm : List ℕ
 gfm = codes "--gfm"
 
 abbrev pub own_options : List (List ℕ)
-own_options = safe ∷ to_html ∷ to_events ∷ table ∷ strikethrough ∷ tasklist ∷ wikilinks ∷ gfm ∷ []
+own_options = safe ∷ to_html ∷ to_events ∷ to_json ∷ table ∷ strikethrough ∷ tasklist ∷ wikilinks ∷ gfm ∷ []
 
 -- ---- what they ask for
 
@@ -50,7 +53,7 @@ abbrev pub setting_of : List (Bor (List ℕ)) → PageSetting
 setting_of words = record { tables = is_on table words; tasks = is_on tasklist words; inlines = inlines_of words }
 
 abbrev pub form_of : List (Bor (List ℕ)) → Form
-form_of words = if asks to_events words then Events else Html
+form_of words = if asks to_events words then Events else if asks to_json words then Json else Html
 
 abbrev pub asked_of : List (Bor (List ℕ)) → Asked
 asked_of words = record { form = form_of words; safe = asks safe words; setting = setting_of words }

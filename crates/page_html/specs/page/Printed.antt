@@ -1,23 +1,20 @@
 -- What the program prints of a page.
-use Rattle.std.specs.Prelude.{ℕ, Bool, true, false, ◌≡◌, ◌⊎◌, List, [], ◌∷◌, ◌++◌, codes, Option}
+use Rattle.std.specs.Prelude.{ℕ, Bool, true, false, ◌≡◌, ◌⊎◌, List, ◌++◌, Option}
 use Rattle.std.specs.Io.KnownBytes.{Appends}
 use Rattle.std.specs.Str.{IsUtf8}
 use Rattle.markdown_html.specs.PageHtml.{IsHtmlOf}
 use Rattle.markdown_html.specs.SafeHtml.{IsSafeHtml}
-use Rattle.markdown_html.specs.SafeSetting.{safe_setting}
+use Rattle.markdown_html.specs.SafeSetting.{default_schemes, safe_setting}
 use Rattle.markdown_html.specs.Settings.{Setting, plain_setting}
+use Rattle.page_events.specs.declared.page.EventForm.TheVariants as EventForms
 use Rattle.page_events.specs.page.Printed as EventLines
 use Rattle.page_html.specs.declared.asked.Asked.{Asked}
 use Rattle.page_html.specs.declared.asked.Form.{Form}
-use Rattle.page_html.specs.declared.asked.Form.TheVariants.{Html, Events}
-
--- the schemes of the addresses to which links and images of safe HTML may lead
-abbrev pub schemes : List (List ℕ)
-schemes = codes "http" ∷ codes "https" ∷ codes "mailto" ∷ codes "tel" ∷ []
+use Rattle.page_html.specs.declared.asked.Form.TheVariants.{Html, Events, Json}
 
 -- with what HTML is written, safe or as the examples of CommonMark have it
 abbrev pub html_setting : Bool → Setting
-html_setting true = safe_setting schemes
+html_setting true = safe_setting default_schemes
 html_setting false = plain_setting
 
 -- The text is the HTML of the page.
@@ -28,11 +25,12 @@ pub record IsPageHtml (asked : Asked) (page text : List ℕ) : Type 0 where
 -- The text is what is printed of the page in this form. Of one that is not UTF-8 it is a line that says so.
 abbrev pub IsPrintedAs : Form → Asked → List ℕ → List ℕ → Type 0
 IsPrintedAs Html asked page text = IsPageHtml asked page text ⊎ ((¬ IsUtf8 page) × (text ≡ EventLines.not_text))
-IsPrintedAs Events asked page text = EventLines.IsPrinted asked.setting page text
+IsPrintedAs Events asked page text = EventLines.IsPrinted EventForms.Words asked.setting page text
+IsPrintedAs Json asked page text = EventLines.IsPrinted EventForms.Json asked.setting page text
 
 -- Where safe HTML is asked for, no script has a place in the text.
 abbrev pub IsSafeIfAsked : Asked → List ℕ → Type 0
-IsSafeIfAsked asked text = asked.form ≡ Html → asked.safe ≡ true → IsSafeHtml schemes text
+IsSafeIfAsked asked text = asked.form ≡ Html → asked.safe ≡ true → IsSafeHtml default_schemes text
 
 -- The text is what is printed of the page in the form that is asked for, and safe where that is.
 pub record IsPrinted (asked : Asked) (page text : List ℕ) : Type 0 where
