@@ -11,7 +11,8 @@ use crate::events::{BlockEvent, Blocks};
 use std::alloc::{AllocError, Global};
 use std::marker::Model;
 
-/// The events of a page, from the first to the last. Memory that is refused is the last item.
+/// The events of a page, from the first to the last. Memory that is refused is the last item. After
+/// None no item comes.
 #[derive(Drop)]
 pub struct PageEvents<'a> {
     alloc: Global,
@@ -38,7 +39,10 @@ impl<'a> Iterator for PageEvents<'a> {
         }
         match self.blocks.next(self.alloc) {
             Ok(Some(event)) => Some(Ok(event)),
-            Ok(None) => None,
+            Ok(None) => {
+                self.is_stopped = true;
+                None
+            }
             Err(refused) => {
                 self.is_stopped = true;
                 Some(Err(refused))

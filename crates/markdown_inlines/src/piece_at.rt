@@ -135,6 +135,9 @@ fn delimiters_at(text: &str, place: usize) -> Option<(PieceKind, usize)>
 }
 
 // The run of tildes at the place, where one stands, if strikethrough is asked for.
+//
+// It is not inlined: tildes are few, and other pieces take fewer instructions without it in their loop.
+#[inline(never)]
 fn tildes_at(text: &str, extensions: InlineExtensions, place: usize) -> Option<(PieceKind, usize)>
     requires within { place < length text.now }
     requires opens { slice_index text.now place ≡ tilde }

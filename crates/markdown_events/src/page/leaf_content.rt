@@ -206,6 +206,9 @@ fn page_range(
 }
 
 // The range in the page of a range of the content, by the places of its first and its last byte.
+//
+// It is not inlined: most contents are one run, whose ranges are moved in fewer instructions without it.
+#[inline(never)]
 fn placed_range(before: usize, content: &Content, start: usize, end: usize) -> Range<usize>
     requires places { CanPlace before content.now }
     requires within { end ≤ length content.now.text }
