@@ -288,21 +288,24 @@ static struct told safe_html(size_t room) {
 }
 
 /* The events stand in front of their texts. */
+/* Where there is room, for 24 events and 304 bytes of texts. */
 static struct told of_events(const char *page, size_t length, size_t room) {
-    size_t capacity = room / 2 / sizeof(struct mds_event);
-    uint8_t *both = writable(BUFFER, 2 * capacity * sizeof(struct mds_event)), *texts = both + capacity * sizeof(struct mds_event);
+    size_t capacity = room ? 24 : 0, texts_capacity = room ? 304 : 0, records = capacity * sizeof(struct mds_event);
+    uint8_t *both = writable(BUFFER, records + texts_capacity);
     struct mds_events found = mds_events(
-        given(BYTES, page, length), length, MDS_OPTION_TABLES | MDS_OPTION_TASKS, (struct mds_event *)(void *)both, capacity, texts,
-        capacity * sizeof(struct mds_event));
+        given(BYTES, page, length), length, MDS_OPTION_TABLES | MDS_OPTION_TASKS, (struct mds_event *)(void *)both, capacity,
+        both + records, texts_capacity);
     return (struct told){found.status, {found.count, found.length, 0}};
 }
 
 static struct told events(size_t room) {
-    return of_events("# a\n> - [x] *b* [c]\n\n[c]: /f \"g\"\n", 36, room);
+    static const char page[] = "# a\n> - [x] *b* [c]\n\n[c]: /f \"g\"\n";
+    return of_events(page, sizeof(page) - 1, room);
 }
 
 static struct told events_of_table(size_t room) {
-    return of_events("|a|`b`|\n|-|-|\n", 14, room);
+    static const char page[] = "|a|`b`|\n|-|-|\n";
+    return of_events(page, sizeof(page) - 1, room);
 }
 
 static struct told long_events(size_t room) {
