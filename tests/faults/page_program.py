@@ -63,12 +63,14 @@ def unread_of(kind):
     return [kind("help", "--help", b"", shown), kind("version", "--version", b"", b"%s " % kind.program + (TOP / "VERSION").read_bytes())]
 
 
-def named_of(kind, a_paragraph):
-    """Words that name files, and what is then printed, said on standard error, and answered; with what is printed of `a`."""
+def named_of(kind, a_paragraph, under=lambda name, shown: shown):
+    """Words that name files, and what is then printed, said on standard error, and answered; with what is printed of `a`, and how that
+    of a page is printed under its name."""
     folder = TOP / "crates" / kind.program.decode()
     args = folder / "args"
     words = args.read_text().split() if args.exists() else []
-    file, shown = str(folder / "stdin"), (folder / "stdout").read_bytes()
+    file = str(folder / "stdin")
+    shown = under(file, (folder / "stdout").read_bytes())
     return [
         ("a file", [*words, file], shown, b"", 0),
         ("a file between the input and itself", [*words, file, "-", "--", file], shown + a_paragraph + shown, b"", 0),

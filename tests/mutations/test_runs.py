@@ -31,6 +31,7 @@ TESTS = {
     "page_blocks": ["run cmark_blocks", "tests cmark_vectors_programs"],
     "markdown_html": ["run cmark_html"],
     "page_html": ["run cmark_html"],
+    "page_links": ["run cmark_links"],
 }
 
 

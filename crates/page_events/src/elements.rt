@@ -262,8 +262,9 @@ pub(crate) fn alignment_name(alignment: Alignment) -> &'static str
     }
 }
 
-// Adds how a link or an image is written, where it leads, its title, and its label.
-fn push_link(
+/// Adds how a link or an image is written, where it leads, its title, and its label unless it is
+/// empty.
+pub fn push_link(
     text: &mut String,
     kind: LinkType,
     destination: &CowStr,

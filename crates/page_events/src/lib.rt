@@ -1,7 +1,7 @@
 //! What `cmark_events` prints of the events of a page of Markdown.
 #![tactic(auto)]
 
-mod elements;
+pub mod elements;
 pub mod help;
 mod json;
 pub mod page;

@@ -270,7 +270,7 @@ test("a bundle that has no URL can be imported, and given the module", async () 
 });
 
 test("each function is called, and the package tells one version", () => {
-    const files = ["source", "blocks", "inlines", "line_start", "pages", "readers", "text"].map((it) => new URL(`../lib/${it}.mjs`, import.meta.url));
+    const files = ["source", "blocks", "events", "inlines", "line_start", "pages", "readers", "text"].map((it) => new URL(`../lib/${it}.mjs`, import.meta.url));
     const sources = [...files, new URL("../markdown_scanners.mjs", import.meta.url)].map((it) => readFileSync(it, "utf8")).join("");
     const missing = Object.keys(FUNCTIONS).filter((it) => !new RegExp(`"${it}"|calls\\.${it}\\b`).test(sources));
     assert.deepEqual(missing, []);

@@ -1,0 +1,4 @@
+mod LawLemmas
+mod LinkLemmas
+mod OffsetLemmas
+mod PositionLemmas

@@ -1,0 +1,13 @@
+-- What is written and the lines of the links that are left make those of all.
+use Rattle.std.proofs.Common.{◌≡◌, ◌++◌, drop, map, string_bytes}
+use Rattle.page_links.specs.links.Links.{seen_link}
+use Rattle.page_links.specs.page.Printed.{list_of}
+use Rattle.page_links.specs.positions.private.Lines.{IsLineOf}
+use Rattle.page_links.proofs.page.push_list.Given as goal
+
+abbrev pub invariant-loop-link : goal.invariant-loop-link
+invariant-loop-link l = record {
+  is_line : IsLineOf l.page l.line;
+  written : string_bytes l.text ++ list_of l.name l.page (map seen_link (drop l.link-index l.links))
+      ≡ string_bytes l.fn.text ++ list_of l.name l.page (map seen_link l.links);
+}

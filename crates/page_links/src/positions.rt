@@ -1,0 +1,99 @@
+//! Lines and columns of a page.
+ghost use Rattle.std.specs.Prelude.{◌≡◌, ◌⊎◌, ◌<◌, ◌≤◌, length};
+ghost use Rattle.page_links.specs.positions.Positions.{offset_of, position_of};
+ghost use Rattle.page_links.specs.positions.private.Lines.{IsLineOf};
+
+use markdown_scanners_tree::scanners::scan_line;
+
+/// Where something begins in a page, as editors say it.
+#[derive(Clone, Copy, Debug)]
+pub struct Position {
+    /// Its line, from 1. (CommonMark 0.31.2, section 2.1)
+    pub line: usize,
+    /// Its column, from 1: one more than the bytes of the line before it.
+    pub column: usize,
+}
+
+/// A line of a page: its number, from 1, and the offsets at which it begins and ends.
+#[derive(Clone, Copy)]
+pub(crate) struct Line {
+    pub(crate) number: usize,
+    pub(crate) start: usize,
+    pub(crate) end: usize,
+}
+
+impl Line {
+    /// The first line of a page.
+    pub(crate) fn first(page: &[u8]) -> Line
+        ensures line { IsLineOf page.now result }
+        ensures start { result.start ≡ 0 }
+    {
+        Line {
+            number: 1,
+            start: 0,
+            end: scan_line(page),
+        }
+    }
+
+    // The next line, or the end of the page.
+    fn next(self, page: &[u8]) -> Line
+        requires line { IsLineOf page.now self }
+        requires more { self.start < length page.now }
+        ensures line { IsLineOf page.now result }
+        ensures start { result.start ≡ self.end }
+    {
+        Line {
+            number: self.number + 1,
+            start: self.end,
+            end: self.end + scan_line(&page[self.end..]),
+        }
+    }
+
+    // This line, or the first where the offset is before it.
+    fn no_later(self, page: &[u8], offset: usize) -> Line
+        requires line { IsLineOf page.now self }
+        ensures line { IsLineOf page.now result }
+        ensures begun { result.start ≤ offset }
+    {
+        if offset < self.start {
+            return Line::first(page);
+        }
+        self
+    }
+
+    // The line that an offset is in, or the end of the page.
+    fn holding(self, page: &[u8], offset: usize) -> Line
+        requires line { IsLineOf page.now self }
+        ensures line { IsLineOf page.now result }
+        ensures begun { result.start ≤ offset }
+        ensures holds { (offset < result.end) ⊎ (result.start ≡ length page.now) }
+    {
+        let mut line = self.no_later(page, offset);
+        while line.end <= offset && line.start < page.len() {
+            line = line.next(page);
+        }
+        line
+    }
+}
+
+/// Where an offset is, if this is a line of the page, which becomes the one that the offset is in: of
+/// offsets that rise each line is found once.
+pub(crate) fn position_at(page: &[u8], line: &mut Line, offset: usize) -> Position
+    requires line { IsLineOf page.now line.old }
+    ensures line { IsLineOf page.now line.new }
+    ensures position { result ≡ position_of page.now offset }
+{
+    *line = line.holding(page, offset);
+    Position {
+        line: line.number,
+        column: offset.min(page.len()) - line.start + 1,
+    }
+}
+
+/// Where an offset is in a page. It reads the page up to there.
+pub fn position_of(page: &[u8], offset: usize) -> Position
+    ensures position { result ≡ position_of page.now offset }
+    ensures back { offset < length page.now → offset_of page.now result ≡ offset }
+{
+    position_at(page, &mut Line::first(page), offset)
+}

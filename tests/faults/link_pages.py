@@ -1,0 +1,74 @@
+"""What cmark_links is run on: its words, its input, and what it then prints and answers with ample memory."""
+import re
+
+import page_program
+from page_program import Page, complaints_of, named_of, unread_of, usage_of
+
+KNOWN, OTHER = page_program.KNOWN, page_program.OTHER
+
+# How many reads and writes a run on a long input makes at least.
+MANY = 100
+
+# So many block quotes in each other take more memory than the first request gives room.
+DEEP = 40
+
+# Reads are made as long as there are bytes.
+READS = None
+
+
+class Links(Page):
+    """A page whose lines are written by one write, after all of it is read; before that nothing is."""
+
+    program = b"cmark_links"
+
+
+def under(name, shown):
+    """The lines of standard input as those of a file of this name."""
+    return re.sub(rb"(?m)^-:", lambda _: name.encode() + b":", shown)
+
+
+FORMS = b"usage: cmark_links [--gfm] [--wikilinks] [--] [FILE ..]\n       cmark_links -h | --help | --version\n"
+USAGE, COMPLAINTS = usage_of(Links.program, FORMS), complaints_of(Links.program, FORMS)
+UNREAD, NAMED = unread_of(Links), named_of(Links, b"", under)
+
+A_PAGE = Links("a page", "", b"# [a](b)\n\nc <de:f>\n", b'-:1:3: link inline "b" ""\n-:3:3: link autolink "de:f" ""\n')
+A_TABLE = Links("a table", "--gfm", b"|[a](b)|\n|-|\n", b'-:1:2: link inline "b" ""\n')
+A_WIKILINK = Links("a wikilink", "--wikilinks", b"[[a]]\n", b'-:1:1: link wikilink "a" ""\n')
+
+# One of each form.
+PLAIN = [A_PAGE, A_TABLE, A_WIKILINK]
+
+SMALL = [
+    *PLAIN,
+    Links("an image that is defined", "", b"![a]\n\n[a]: b 'c'\n", b'-:1:1: image shortcut "b" "c" "a"\n'),
+    Links("a reference in a list", "", b"- [x][ a]\n\n[A]: &amp;\n", b'-:1:3: link reference "&" "" "a"\n'),
+    Links("not UTF-8", "", b"\xff\n", b"-: not UTF-8\n"),
+    Links("no page", "", b"", b""),
+]
+
+
+def autolinks(count):
+    return Links("autolinks", "", b"<ab:c>\n" * count, b"".join(b'-:%d:1: link autolink "ab:c" ""\n' % (it + 1) for it in range(count)))
+
+
+def open_code(count):
+    return Links("open code", "", b"```\n" + b"\n" * count, b"")
+
+
+def quotes(depth):
+    return Links("deep block quotes", "", b">" * depth + b"<ab:c>\n", b'-:1:%d: link autolink "ab:c" ""\n' % (depth + 1))
+
+
+def long():
+    """A page that takes more than MANY reads of 4,096 bytes."""
+    return [autolinks(70_000)]
+
+
+def passing():
+    """None: a page is held whole."""
+    return []
+
+
+def large():
+    """Pages whose links ask for memory some dozens of times, where each block would ask for its own."""
+    return [quotes(DEEP), autolinks(175_000), open_code(300_000)]
