@@ -32,6 +32,7 @@ TESTS = {
     "markdown_html": ["run cmark_html"],
     "page_html": ["run cmark_html"],
     "page_links": ["run cmark_links"],
+    "page_tables": ["run cmark_tables"],
 }
 
 

@@ -1,0 +1,3 @@
+mod FilledLemmas
+mod MarkLemmas
+mod SettledLemmas

@@ -1,0 +1,145 @@
+//! How wide the columns of a table are.
+ghost use Rattle.std.specs.Prelude.{◌≡◌, ◌∷◌, ◌++◌, List, map, IfOk, OnOk};
+ghost use Rattle.page_tables.specs.Cells.{cell_text, cell_texts};
+ghost use Rattle.page_tables.specs.Columns.{all_fit, columns_of, narrowest, widened, widened_by, widened_to};
+ghost use Rattle.page_tables.specs.Marks.{mark_view};
+
+use crate::cells::{count_cells, next_cell, row_text};
+use crate::marks::Mark;
+use crate::widths::CellWidths;
+use markdown_blocks::cells::{Cells, cells_of};
+use markdown_values::values::Alignment;
+use std::alloc::{AllocError, Global};
+
+/// A column of a table.
+#[derive(Clone, Copy)]
+pub struct Column {
+    /// How its cells are aligned.
+    pub alignment: Alignment,
+    /// How wide it is.
+    pub width: usize,
+}
+
+/// The columns of a table of the page, whose columns are aligned so, and which has what comes next of
+/// these. It has none where a row has too many cells.
+pub(crate) fn columns_of<W: CellWidths>(
+    alloc: Global,
+    page: &[u8],
+    widths: &W,
+    alignments: &[Alignment],
+    later: &[Mark],
+) -> Result<Vec<Column>, AllocError>
+    ensures { IfOk result (λ columns. columns.items
+        ≡ columns_of (W.width widths.now) page.now alignments.now (map mark_view later.now)) }
+{
+    if !all_fit(page, alignments.len(), later) {
+        return Ok(Vec::new(alloc));
+    }
+    let columns = narrowest_columns(alloc, alignments)?;
+    widened_to(alloc, page, widths, columns, later)
+}
+
+// Whether no row up to the end of the table has more cells than there are columns.
+fn all_fit(page: &[u8], columns: usize, later: &[Mark]) -> bool
+    ensures { result ≡ all_fit page.now columns (map mark_view later.now) }
+{
+    let mut rest = later;
+    while let [Mark::Head(range) | Mark::Row(range), more @ ..] = rest {
+        if count_cells(row_text(page, range)) > columns {
+            return false;
+        }
+        rest = more;
+    }
+    true
+}
+
+// Columns before their cells.
+fn narrowest_columns(alloc: Global, alignments: &[Alignment]) -> Result<Vec<Column>, AllocError>
+    ensures { IfOk result (λ columns. columns.items ≡ map narrowest alignments.now) }
+{
+    let mut columns = Vec::with_capacity(alloc, alignments.len())?;
+    for alignment in alignments {
+        columns.push(narrowest(*alignment))?;
+    }
+    Ok(columns)
+}
+
+// A column before its cells.
+fn narrowest(alignment: Alignment) -> Column
+    ensures { result ≡ narrowest alignment }
+{
+    Column {
+        alignment,
+        width: 3,
+    }
+}
+
+// The columns with the rows up to the end of the table.
+fn widened_to<W: CellWidths>(
+    alloc: Global,
+    page: &[u8],
+    widths: &W,
+    columns: Vec<Column>,
+    later: &[Mark],
+) -> Result<Vec<Column>, AllocError>
+    ensures { IfOk result (λ wide. wide.items
+        ≡ widened_to (W.width widths.now) page.now columns.items (map mark_view later.now)) }
+{
+    let mut columns = columns;
+    let mut rest = later;
+    while let [Mark::Head(range) | Mark::Row(range), more @ ..] = rest {
+        columns = widened(alloc, widths, &columns, row_text(page, range))?;
+        rest = more;
+    }
+    Ok(columns)
+}
+
+// The columns with one more row, which has this text.
+fn widened<W: CellWidths>(
+    alloc: Global,
+    widths: &W,
+    columns: &[Column],
+    text: &[u8],
+) -> Result<Vec<Column>, AllocError>
+    ensures { IfOk result (λ wide. wide.items
+        ≡ widened (W.width widths.now) columns.now (cell_texts text.now)) }
+{
+    let mut cells = cells_of(text);
+    let mut wide = Vec::with_capacity(alloc, columns.len())?;
+    for column in columns {
+        push_widened(&mut wide, widths, *column, text, &mut cells)?;
+    }
+    Ok(wide)
+}
+
+// Adds a column with the next cell of a row with this text, if there is one.
+fn push_widened<W: CellWidths>(
+    wide: &mut Vec<Column>,
+    widths: &W,
+    column: Column,
+    text: &[u8],
+    cells: &mut Cells,
+) -> Result<(), AllocError>
+    ensures { OnOk result ((later : List Column)
+        → wide.new.items
+        ++ widened (W.width widths.now) later (map (cell_text text.now) cells.new)
+        ≡ wide.old.items
+        ++ widened (W.width widths.now) (column ∷ later) (map (cell_text text.now) cells.old)) }
+{
+    let Some(cell) = next_cell(text, cells) else {
+        wide.push(column)?;
+        return Ok(());
+    };
+    wide.push(widened_by(widths, column, cell))?;
+    Ok(())
+}
+
+// A column with one more cell.
+fn widened_by<W: CellWidths>(widths: &W, column: Column, cell: &[u8]) -> Column
+    ensures { result ≡ widened_by (W.width widths.now) column cell.now }
+{
+    Column {
+        width: column.width.max(widths.width_of(cell)),
+        ..column
+    }
+}

@@ -1,0 +1,128 @@
+//! What the program does with its words, its input and its output.
+ghost use Rattle.std.specs.Prelude.{◌≡◌, ◌≢◌, ◌⊎◌, ℕ, List, [], IfSome, IsSome, Some, None, codes};
+ghost use Rattle.std.specs.Io.KnownBytes.{Appends};
+ghost use Rattle.program_faults.specs.Steps.{HasRefused, AreGiven};
+ghost use Rattle.program_faults.specs.declared.reasons.Reason.{Reason};
+ghost use Rattle.page_programs.specs.Runs.{PrintsAll};
+ghost use Rattle.page_programs.specs.Stops.{IfWrite, IsWrite, stop_parts, unknown_parts};
+ghost use Rattle.page_programs.specs.Words.{pages_of, request_of, unknown_of};
+ghost use Rattle.page_programs.specs.declared.stops.Stop.{Stop};
+ghost use Rattle.page_programs.specs.declared.words.Request.TheVariants.{Pages, Help, Version};
+ghost use Rattle.page_tables.specs.Printed.{IsPrintedTo, is_unwritten, no_title};
+
+use crate::help::{HELP, USAGE, VERSION};
+use crate::page::text_of_page;
+use crate::writing::write_page;
+use page_programs::files::OpensFiles;
+use page_programs::pages::PrintsPages;
+use page_programs::program;
+use page_programs::reading::read_page;
+use page_programs::says::Says;
+use page_programs::stops::Stop;
+use page_programs::writing::write_text;
+use program_faults::{Reason, StepReader, StepWriter};
+use std::alloc::{AllocError, Global};
+
+/// Runs the program on its words, without its name, and answers its status.
+///
+/// 0: done. 2: an option that is not known, and nothing is read. 3: a page that can't be opened or
+/// read, memory that is refused, or output that can't be written; there it stops. Each page is read
+/// whole before anything of it is written.
+pub fn run_program<R: StepReader, F: OpensFiles, W: StepWriter, V: StepWriter>(
+    alloc: Global,
+    words: &[&str],
+    input: &mut R,
+    files: &mut F,
+    output: &mut W,
+    faults: &mut V,
+) -> u8
+    ensures status { (result ≡ 0) ⊎ ((result ≡ 2) ⊎ (result ≡ 3)) }
+
+    // An option that is not known.
+    ensures only_unknown { result ≡ 2 → IsSome (unknown_of [] words.now) }
+    ensures unknown { IfSome (unknown_of [] words.now) (λ word. (result ≡ 2)
+        × AreGiven V.writes faults.old
+        (unknown_parts (codes "cmark_tables") word.now USAGE.now) faults.new) }
+    ensures untouched { IsSome (unknown_of [] words.now) →
+        (input.new ≡ input.old) × (files.new ≡ files.old) × (output.new ≡ output.old) }
+
+    // The help, and the version.
+    ensures help { result ≡ 0 → request_of words.now ≡ Help →
+        Appends (W.contents output.old) (W.contents output.new) HELP.now }
+    ensures version { result ≡ 0 → request_of words.now ≡ Version →
+        Appends (W.contents output.old) (W.contents output.new) VERSION.now }
+    ensures unread { (request_of words.now ≡ Help) ⊎ (request_of words.now ≡ Version) →
+        (input.new ≡ input.old) × (files.new ≡ files.old) }
+
+    // Pages.
+    ensures printed { result ≡ 0 → request_of words.now ≡ Pages →
+        PrintsAll no_title IsPrintedTo is_unwritten
+        R.remaining R.reads F.opens F.File.remaining F.File.reads
+        (pages_of words.now)
+        input.old files.old (W.contents output.old)
+        input.new files.new (W.contents output.new) None }
+
+    // At status 0 nothing is written to the faults; at 3 the reason is, as far as they take it.
+    ensures done { result ≡ 0 → faults.new ≡ faults.old }
+    ensures stopped { result ≡ 3 → (name : List ℕ) × (stop : Stop)
+        × AreGiven V.writes faults.old (stop_parts (codes "cmark_tables") name stop) faults.new
+        × IfWrite stop (λ why. why ≢ Reason.Interrupted → HasRefused W.writes why output.new)
+        × ((request_of words.now ≡ Help) ⊎ (request_of words.now ≡ Version) → IsWrite stop)
+        × (request_of words.now ≡ Pages →
+        PrintsAll no_title IsPrintedTo is_unwritten
+        R.remaining R.reads F.opens F.File.remaining F.File.reads
+        (pages_of words.now)
+        input.old files.old (W.contents output.old)
+        input.new files.new (W.contents output.new) (Some (name, stop))) }
+{
+    let says = Says {
+        name: "cmark_tables",
+        usage: USAGE,
+        help: HELP,
+        version: VERSION,
+    };
+    program::run_program(
+        alloc,
+        &says,
+        &[],
+        &Printer,
+        words,
+        input,
+        files,
+        output,
+        faults,
+    )
+}
+
+// What prints pages with their tables laid out.
+#[derive(Clone, Copy)]
+struct Printer;
+
+impl PrintsPages for Printer {
+    ghost use Rattle.std.specs.Prelude.{[], ◌++◌, ℕ, List};
+    ghost use Rattle.page_tables.specs.Printed.{IsPrinted};
+
+    ghost titles = { λ _ _ _. [] };
+
+    ghost prints = { λ _ title page old new.
+        (text : List ℕ) × IsPrinted page text × Appends old new (title ++ text) };
+
+    ghost begins = { λ _ _ _ _ old new. new ≡ old };
+
+    fn make_title(&self, alloc: Global, _pages: usize, _name: &str) -> Result<String, AllocError> {
+        Ok(String::new(alloc))
+    }
+
+    fn print_page<R: StepReader, W: StepWriter>(
+        &self,
+        alloc: Global,
+        title: &str,
+        input: &mut R,
+        output: &mut W,
+    ) -> Result<(), Stop> {
+        let page = read_page(alloc, input)?;
+        let text = text_of_page(alloc, page)?;
+        write_text(output, title)?;
+        write_page(output, &text)
+    }
+}
