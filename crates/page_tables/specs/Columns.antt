@@ -28,13 +28,17 @@ module _ (width : List ℕ → ℕ) where
   widened_to page columns (row range ∷ later) = widened_to page (widened columns (cell_texts (row_text page range))) later
   widened_to page columns marks = columns
 
--- no row up to the end of the table has more cells than there are columns
+-- A row with this text has a cell, and no more of them than there are columns. (For cmark-gfm a pipe alone is not a row.)
+abbrev pub fits : ℕ → List ℕ → Bool
+fits columns text = nat_le 1 (cells text) && nat_le (cells text) columns
+
+-- each row up to the end of the table does
 abbrev pub all_fit : List ℕ → ℕ → List MarkView → Bool
-all_fit page columns (head range ∷ later) = nat_le (cells (row_text page range)) columns && all_fit page columns later
-all_fit page columns (row range ∷ later) = nat_le (cells (row_text page range)) columns && all_fit page columns later
+all_fit page columns (head range ∷ later) = fits columns (row_text page range) && all_fit page columns later
+all_fit page columns (row range ∷ later) = fits columns (row_text page range) && all_fit page columns later
 all_fit page columns marks = true
 
--- The columns of a table, each as wide as its widest cell. A table has none where a row has too many cells: it is left as it is.
+-- The columns of a table, each as wide as its widest cell. A table has none where a row doesn't fit: it is left as it is.
 abbrev pub columns_of : (List ℕ → ℕ) → List ℕ → List Alignment → List MarkView → List Column
 columns_of width page alignments later =
     if all_fit page (length alignments) later then widened_to width page (map narrowest alignments) later else []

@@ -1,7 +1,7 @@
 //! How wide the columns of a table are.
 ghost use Rattle.std.specs.Prelude.{◌≡◌, ◌∷◌, ◌++◌, List, map, IfOk, OnOk};
 ghost use Rattle.page_tables.specs.Cells.{cell_text, cell_texts};
-ghost use Rattle.page_tables.specs.Columns.{all_fit, columns_of, narrowest, widened, widened_by, widened_to};
+ghost use Rattle.page_tables.specs.Columns.{all_fit, columns_of, fits, narrowest, widened, widened_by, widened_to};
 ghost use Rattle.page_tables.specs.Marks.{mark_view};
 
 use crate::cells::{count_cells, next_cell, row_text};
@@ -21,7 +21,7 @@ pub struct Column {
 }
 
 /// The columns of a table of the page, whose columns are aligned so, and which has what comes next of
-/// these. It has none where a row has too many cells.
+/// these. It has none where a row has too many cells, or none.
 pub(crate) fn columns_of<W: CellWidths>(
     alloc: Global,
     page: &[u8],
@@ -39,18 +39,26 @@ pub(crate) fn columns_of<W: CellWidths>(
     widened_to(alloc, page, widths, columns, later)
 }
 
-// Whether no row up to the end of the table has more cells than there are columns.
+// Whether each row up to the end of the table has a cell, and no more than there are columns.
 fn all_fit(page: &[u8], columns: usize, later: &[Mark]) -> bool
     ensures { result ≡ all_fit page.now columns (map mark_view later.now) }
 {
     let mut rest = later;
     while let [Mark::Head(range) | Mark::Row(range), more @ ..] = rest {
-        if count_cells(row_text(page, range)) > columns {
+        if !fits(columns, row_text(page, range)) {
             return false;
         }
         rest = more;
     }
     true
+}
+
+// Whether a row with this text has a cell, and no more than so many.
+fn fits(columns: usize, text: &[u8]) -> bool
+    ensures { result ≡ fits columns text.now }
+{
+    let count = count_cells(text);
+    1 <= count && count <= columns
 }
 
 // Columns before their cells.

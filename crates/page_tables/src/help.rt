@@ -18,9 +18,9 @@ Prints a page of Markdown with its tables laid out: columns as wide as their wid
 contents aligned as the delimiter row says, with a pipe on each side; short rows are filled. Nothing
 else of the page is changed.
 
-A table with a row of more cells than columns is left as it is. The tables of the page printed have
-the same cells in the same rows and columns, aligned alike, and are laid out: of a page of which that
-would not be so, and of a page that is not UTF-8, nothing is changed.
+A table with a row of more cells than columns, or of none, is left as it is. The tables of the page
+printed have the same cells in the same rows and columns, aligned alike, and are laid out: of a page
+of which that would not be so, and of a page that is not UTF-8, nothing is changed.
 
 FILE is a page; - is standard input, and so is no FILE. What is printed of the pages follows one
 another. After the word -- all words are files.
