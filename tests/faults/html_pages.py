@@ -21,7 +21,7 @@ class Html(Page):
 
 
 FORMS = (
-    b"usage: cmark_html [--safe] [--to html|events] [-e NAME].. [--gfm] [--] [FILE ..]\n"
+    b"usage: cmark_html [--safe] [--to html|events|json] [-e NAME].. [--gfm] [--] [FILE ..]\n"
     b"       cmark_html -h | --help | --version\n"
 )
 USAGE, COMPLAINTS = usage_of(Html.program, FORMS), complaints_of(Html.program, FORMS)
