@@ -1,4 +1,4 @@
-//! Each call of the libraries behind a C function, for `bench/run`.
+//! Each call of the libraries after a C function, for `bench/run`.
 //!
 //! A function runs one call at many places of a text, so many rounds, and answers a sum that is
 //! made of all of the call's answers. The same loops stand around pulldown-cmark's calls in

@@ -4,7 +4,7 @@ ghost use Rattle.std.specs.Prelude.{◌≡◌};
 use markdown_values::tree::Tree;
 use std::alloc::{AllocError, Global};
 
-// Three words, with nothing to fill up: the bytes behind a narrower last field would be copied too.
+// Three words, with nothing to fill up: the bytes after a narrower last field would be copied too.
 #[derive(Clone, Copy, Default, Drop)]
 struct Item {
     start: usize,

@@ -16,10 +16,10 @@ struct Tally {
 }
 
 /// Reads a case a line, makes its call, and writes a line for each answer that isn't the one that
-/// the case wants: the number of its line, the case, the answer wanted and the answer given, with
+/// the case expects: the number of its line, the case, the expected answer and the answer given, with
 /// tabs between them. Then `N agree, M differ`.
 ///
-/// A case is the call's name, its arguments, `=>` and the answer wanted, with tabs between them.
+/// A case is the call's name, its arguments, `=>` and the expected answer, with tabs between them.
 /// The status is 0 where no answer differs and 1 where one does; 2 at the first line that can't be
 /// read as a case, and 3 after a fault of the reader, of memory or of the writer, with a line on
 /// `faults` that says why.

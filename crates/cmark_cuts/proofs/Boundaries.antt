@@ -1,4 +1,4 @@
--- A character begins at the front of a text, and behind a leading `X`.
+-- A character begins at the front of a text, and after a leading `X`.
 use Rattle.std.proofs.Common.{ℕ, refl, ◌≡◌, ◌&&◌, Bool, true, false, List, [], ◌∷◌, arith, cond, nat_eq}
 use Rattle.std.proofs.lemmas.Bool.Decides.{nat_tests}
 use Rattle.std.proofs.lemmas.Str.{IsCharBoundary-start, IsCharBoundary-after_ascii}

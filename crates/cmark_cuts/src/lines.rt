@@ -97,7 +97,7 @@ fn push_bullets(alloc: Global, output: &mut String) -> Result<(), AllocError> {
     push_bullet_sides(alloc, output, line.as_bytes(), &calls)
 }
 
-// A text so many times, and an `x` behind it.
+// A text so many times, and an `x` after it.
 fn repeated(alloc: Global, text: &str, count: usize) -> Result<String, AllocError> {
     let mut line = text.repeat(alloc, count)?;
     line.push('x')?;

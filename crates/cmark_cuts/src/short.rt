@@ -9,7 +9,7 @@ use markdown_scanners_tree::scanners::{scan_blank_line, scan_html_block_inner};
 use markdown_values::strings::CowStr;
 use std::alloc::{AllocError, Global};
 
-// Which call reads a text, and what its handler skips behind a line ending.
+// Which call reads a text, and what its handler skips after a line ending.
 #[derive(Clone, Copy)]
 enum Call {
     Label,

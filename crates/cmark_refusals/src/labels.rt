@@ -59,7 +59,7 @@ const STREET: &str = "Straße 0123456789abcdefghijklmnopqrst";
 
 const CAPITALS: &str = "STRASSE 0123456789ABCDEFGHIJKLMNOPQRST";
 
-// A label, told by its text.
+// A label, printed by its text.
 #[derive(Drop)]
 struct NewLabel<'a>(LinkLabel<'a>);
 

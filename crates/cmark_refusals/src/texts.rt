@@ -17,7 +17,7 @@ pub(crate) enum TextCase {
 /// A text that is too long to be inlined.
 pub(crate) const OF_30: &str = "0123456789abcdefghijklmnopqrst";
 
-/// A text, told with its variant.
+/// A text, printed with its variant.
 #[derive(Drop)]
 pub(crate) struct Text<'a>(pub(crate) CowStr<'a>);
 

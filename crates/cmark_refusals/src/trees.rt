@@ -1,4 +1,4 @@
-//! Trees, whose nodes, spine and focus are told before each call and where it is refused.
+//! Trees, whose nodes, spine and focus are printed before each call and where it is refused.
 ghost use Rattle.std.specs.Prelude.{◌≡◌, length, IfOk, IsSome};
 
 use crate::stop::Stop;
@@ -285,7 +285,7 @@ fn tell_clone(output: Stdout, tree: &Tree<Named>, first: TreeIndex) -> Result<()
     tell_tree(output, "after", tree, first)
 }
 
-/// The nodes are told in order.
+/// The nodes are printed in order.
 pub(crate) fn in_order(alloc: Global, output: Stdout) -> Result<(), Stop> {
     let (tree, first) = full(alloc)?;
     tell_in_order(output, &tree, first)

@@ -26,7 +26,7 @@ pub(crate) fn line_report(
     Report::from_string(alloc, text, end_of(&run))
 }
 
-// How a run ends: before one of its calls, or behind the last.
+// How a run ends: before one of its calls, or after the last.
 fn end_of(run: &LineRun) -> Ended
     ensures { status_of result ≡ stop_status run.now.stop }
 {

@@ -6,7 +6,7 @@ ghost use Rattle.cmark_scan.specs.words.Command.{texts, request_view};
 ghost use Rattle.cmark_scan.specs.printing.Printed.{IsOutcome, IsPrinted};
 ghost use Rattle.cmark_scan.specs.program.Complaints.{usage_line, not_text_line};
 ghost use Rattle.cmark_scan.specs.report.Report.{outcome_view, status_of};
-ghost use Rattle.program_faults.specs.Faults.{AppendsPrefix, IsBeforeWriting, TellsFault, fault_line};
+ghost use Rattle.program_faults.specs.Faults.{AppendsPrefix, IsBeforeWriting, PrintsFault, fault_line};
 
 use crate::html::html_report;
 use crate::label::label_report;
@@ -46,12 +46,12 @@ pub fn run_program<R: Read, W: Write, V: Write>(
         IsAtEnd (R.remaining input.new) }
 
     // After a read fault, or out of memory, nothing was written.
-    ensures unread { TellsFault Fault.Read (V.contents faults.old) (V.contents faults.new) →
+    ensures unread { PrintsFault Fault.Read (V.contents faults.old) (V.contents faults.new) →
         output.new ≡ output.old }
-    ensures no_memory { TellsFault Fault.Memory (V.contents faults.old) (V.contents faults.new) →
+    ensures no_memory { PrintsFault Fault.Memory (V.contents faults.old) (V.contents faults.new) →
         output.new ≡ output.old }
     // Before a write fault all of the input was read.
-    ensures unwritten { TellsFault Fault.Write (V.contents faults.old) (V.contents faults.new) →
+    ensures unwritten { PrintsFault Fault.Write (V.contents faults.old) (V.contents faults.new) →
         IsAtEnd (R.remaining input.new) }
 
     // What is written to the faults, as far as they take it.

@@ -123,8 +123,8 @@ type End<'a> = (u8, &'a [u8]);
 
 const DONE: End<'static> = (0, b"");
 
-fn assert_same<T: Debug + Drop + PartialEq>(rt: &impl Abort, found: T, wanted: T) {
-    assert_eq!(rt; found, wanted);
+fn assert_same<T: Debug + Drop + PartialEq>(rt: &impl Abort, found: T, expected: T) {
+    assert_eq!(rt; found, expected);
 }
 
 // What a call makes. The test stops where memory is refused.

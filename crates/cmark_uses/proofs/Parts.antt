@@ -7,7 +7,7 @@ use Rattle.std.specs.List.{concat}
 abbrev pub parts : List (Bor (List ℕ)) → List ℕ
 parts items = concat (map (λ item. item.now) items)
 
--- a part more, and what is behind it
+-- a part more, and what is after it
 pub parts-push : (items : List (Bor (List ℕ))) (item : Bor (List ℕ)) (later : List ℕ) → parts (items ++ item ∷ []) ++ later ≡ parts items ++ (item.now ++ later)
 parts-push [] item later = ap (λ l. l ++ later) (append-nil item.now)
 parts-push (first ∷ items) item later =

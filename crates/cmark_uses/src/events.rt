@@ -5,7 +5,7 @@ use markdown_blocks::events::BlockEvent;
 use markdown_blocks::page_events::page_events_ext;
 use std::alloc::{AllocError, Global};
 
-/// A page's events, one behind another: a container with how many bytes of the page stand before its
+/// A page's events, one after another: a container with how many bytes of the page stand before its
 /// marker, a leaf block with its first line and its last, and `end` where a container ends.
 pub fn shown_events(alloc: Global, page: &[u8]) -> Result<String, AllocError> {
     shown_events_ext(alloc, page, BlockExtensions::none())

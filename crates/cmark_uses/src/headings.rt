@@ -15,7 +15,7 @@ pub fn heading_level(line: &[u8]) -> Option<HeadingLevel>
     scan_atx_heading(line)
 }
 
-/// What stands in an ATX heading behind its opening, which has one `#` for each level.
+/// What stands in an ATX heading after its opening, which has one `#` for each level.
 pub fn heading_text(line: &[u8]) -> Option<&[u8]>
     ensures found { IfSome result (λ text. (level : HeadingLevel) × IsAtxHeading line.now level
         × (line.now ≡ replicate (heading_number level) number_sign ++ text.now)) }

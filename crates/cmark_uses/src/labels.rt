@@ -52,7 +52,7 @@ pub fn label_in_line<'t>(
 }
 
 /// The label over the lines of a block quote whose opening bracket has been read, without the markers of its lines, and
-/// what stands behind its closing bracket. A line without a marker ends the text.
+/// what stands after its closing bracket. A line without a marker ends the text.
 #[tactic(auto, using(markdown_scanners_tree::proofs::ForCallers::ascii_fronts))]
 pub fn label_in_quote<'t>(
     alloc: Global,

@@ -1,4 +1,4 @@
-//! Lines in containers, read column by column: their markers, and what stands behind them.
+//! Lines in containers, read column by column: their markers, and what stands after them.
 ghost use Rattle.std.specs.Prelude.{◌≡◌, ◌++◌, ◌<◌, ◌≤◌, length, map, count_by, false, is_some, IfOk};
 ghost use Rattle.std.specs.List.{concat, filter_map};
 ghost use Rattle.markdown_scanners_tree.specs.Columns.{expanded};
@@ -9,7 +9,7 @@ use markdown_scanners_tree::line::LineStart;
 use markdown_scanners_tree::scanners::{scan_line, scan_listitem};
 use std::alloc::{AllocError, Global};
 
-// Goes past the marker of a block quote, behind at most three spaces.
+// Goes past the marker of a block quote, after at most three spaces.
 #[tactic(auto, unfolding(crate::specs::Markers::behind_quote))]
 fn pass_quote(start: &mut LineStart)
     ensures state { start.new ≡ behind_quote start.old }
@@ -19,7 +19,7 @@ fn pass_quote(start: &mut LineStart)
     start.scan_blockquote_marker();
 }
 
-// Goes past the marker of a list item, behind at most three spaces.
+// Goes past the marker of a list item, after at most three spaces.
 #[tactic(auto, unfolding(crate::specs::Markers::behind_item))]
 fn pass_item(start: &mut LineStart)
     ensures state { start.new ≡ behind_item start.old }
@@ -29,7 +29,7 @@ fn pass_item(start: &mut LineStart)
     start.scan_list_marker_with_indent(0);
 }
 
-/// The markers of its block quote and its list item, and what stands behind them in a line.
+/// The markers of its block quote and its list item, and what stands after them in a line.
 pub fn split_markers(line: &[u8]) -> (&[u8], &[u8])
     ensures parts { line.now ≡ result.0.now ++ result.1.now }
     ensures markers { length result.0.now ≡ (behind_item (behind_quote (start_of line.now))).place }
@@ -40,7 +40,7 @@ pub fn split_markers(line: &[u8]) -> (&[u8], &[u8])
     line.split_at(start.bytes_scanned())
 }
 
-// The list item that begins at the place, behind at most three spaces.
+// The list item that begins at the place, after at most three spaces.
 #[tactic(auto, unfolding(crate::specs::Markers::item_behind))]
 fn item_at(start: &mut LineStart) -> Option<(u8, u64, usize)>
     ensures { result ≡ item_behind start.old }
@@ -79,7 +79,7 @@ pub fn shown_line(alloc: Global, line: &[u8]) -> Result<Vec<u8>, AllocError>
     }
 }
 
-// The length of the item at the front: its first line, and those behind it that begin no item.
+// The length of the item at the front: its first line, and those after it that begin no item.
 fn item_length(text: &[u8]) -> usize
     ensures within { result ≤ length text.now }
     ensures rises { 0 < length text.now → 0 < result }

@@ -91,7 +91,7 @@ pub fn link_target<'a, E: Entities>(
     Ok(Some(target))
 }
 
-/// The address of the autolink whose `<` stands before `start`, and the text behind its `>`.
+/// The address of the autolink whose `<` stands before `start`, and the text after its `>`.
 pub fn autolink(text: &str, start: usize) -> Option<(CowStr<'_>, &str)>
     requires { 0 < start → IsCharBoundary text.now start }
     ensures uri { IfSome result (λ r. IsUriAutolink (drop start text.now) (cow_text r.0)) }

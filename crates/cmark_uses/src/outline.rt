@@ -53,7 +53,7 @@ pub fn levels(alloc: Global, outline: &Tree<Item>) -> Result<Vec<usize>, AllocEr
     order.iter().map(|(_, depth)| *depth).collect(alloc)
 }
 
-/// The items in order, a line for each, behind two spaces for each level.
+/// The items in order, a line for each, after two spaces for each level.
 pub fn written(alloc: Global, outline: &Tree<Item>) -> Result<String, AllocError> {
     let mut text = String::new(alloc);
     for (ix, depth) in outline.in_order()? {

@@ -7,7 +7,7 @@ use markdown_scanners_tree::scanners::{
 };
 use std::alloc::{AllocError, Global};
 
-// The length of the lines behind a first one that go on with it.
+// The length of the lines after a first one that go on with it.
 fn text_length(text: &[u8]) -> usize
     ensures { result ≤ length text.now }
 {
@@ -24,7 +24,7 @@ fn ends_text(text: &[u8]) -> bool {
     scan_blank_line(line).is_some() || interrupts_paragraph(line)
 }
 
-// The length of what an opening fence has behind its line, with the line of the closing fence.
+// The length of what an opening fence has after its line, with the line of the closing fence.
 fn code_length(text: &[u8], fence: u8, count: usize) -> usize
     ensures { result ≤ length text.now }
 {

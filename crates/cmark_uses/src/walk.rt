@@ -28,7 +28,7 @@ pub fn next_paragraph<'a>(
     Ok(None)
 }
 
-/// The first lines of the paragraphs of a page, behind their containers.
+/// The first lines of the paragraphs of a page, after their containers.
 pub fn paragraph_heads<'a>(alloc: Global, page: &'a [u8]) -> Result<Vec<&'a [u8]>, AllocError> {
     let mut heads = Vec::new(alloc);
     let mut blocks = Blocks::new(alloc, page);

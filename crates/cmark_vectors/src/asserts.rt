@@ -9,13 +9,13 @@ pub(crate) fn assert_answer<R: Debug, T: Debug + Drop + PartialEq>(
     rt: &impl Abort,
     row: &R,
     found: T,
-    wanted: T,
+    expected: T,
 ) {
-    assert_eq!(rt; found, wanted, "of {row:?}");
+    assert_eq!(rt; found, expected, "of {row:?}");
 }
 
-pub(crate) fn assert_same<T: Debug + Drop + PartialEq>(rt: &impl Abort, found: T, wanted: T) {
-    assert_eq!(rt; found, wanted);
+pub(crate) fn assert_same<T: Debug + Drop + PartialEq>(rt: &impl Abort, found: T, expected: T) {
+    assert_eq!(rt; found, expected);
 }
 
 /// What a call makes. The test stops where memory is refused.
@@ -27,18 +27,18 @@ pub(crate) fn made<T>(rt: &impl Abort, value: Result<T, AllocError>) -> T {
 pub(crate) fn assert_text<T: AsStr + Drop>(
     rt: &impl Abort,
     text: Result<T, AllocError>,
-    wanted: &str,
+    expected: &str,
 ) {
-    assert_same(rt, made(rt, text).as_str(), wanted);
+    assert_same(rt, made(rt, text).as_str(), expected);
 }
 
 /// The elements of a list that a call makes are these.
 pub(crate) fn assert_elements<T: Debug + Drop + PartialEq>(
     rt: &impl Abort,
     elements: Result<Vec<T>, AllocError>,
-    wanted: &[T],
+    expected: &[T],
 ) {
-    assert_same(rt, made(rt, elements).as_slice(), wanted);
+    assert_same(rt, made(rt, elements).as_slice(), expected);
 }
 
 /// Whether the values are equal. What they own is dropped here, and not in each test.

@@ -235,14 +235,14 @@ fn escaped_brackets(alloc: Global) -> Result<String, AllocError> {
     Ok(text)
 }
 
-// No label stands behind the bracket of this line.
+// No label stands after the bracket of this line.
 fn assert_no_label(rt: &impl Abort, alloc: Global, rest: Option<&str>, line: usize) {
     let rest = rest.expect(rt, "a line");
     let label = made(rt, scan_after_markers(alloc, rest, b"", false));
     assert!(rt; label.is_none(), "of line {line}");
 }
 
-// A label is looked for behind brackets of a long text, which a backslash escapes. Were the text
+// A label is looked for after brackets of a long text, which a backslash escapes. Were the text
 // read to its end from each, this test would read some 10^10 bytes, and ask its handler 5 * 10^9
 // times.
 #[test]
@@ -255,14 +255,14 @@ fn reads_labels_up_to_their_thousandth_character(rt: HostRuntime) {
     }
 }
 
-// The text with a bracket behind it.
+// The text with a bracket after it.
 fn with_bracket(alloc: Global, label: &str) -> Result<String, AllocError> {
     let mut text = String::from_str(alloc, label)?;
     text.push_str("]")?;
     Ok(text)
 }
 
-// What is answered, with a bracket behind it, is the label of itself.
+// What is answered, with a bracket after it, is the label of itself.
 fn assert_read_back(rt: &impl Abort, alloc: Global, text: &str, marker: &[u8]) {
     let found = made(rt, scan_after_markers(alloc, text, marker, false));
     let (_, label) = found.expect(rt, "a label");

@@ -116,10 +116,10 @@ fn texts_of_at_most_22_bytes_are_inlined(rt: HostRuntime) {
 }
 
 // A text is held so, and reads as this one.
-fn assert_held<T: AsStr + Drop + Held>(rt: &impl Abort, text: T, variant: &str, wanted: &str) {
+fn assert_held<T: AsStr + Drop + Held>(rt: &impl Abort, text: T, variant: &str, expected: &str) {
     assert_same(rt, text.variant(), variant);
-    assert_same(rt, text.text(), wanted);
-    assert_same(rt, borrowed(&text), wanted);
+    assert_same(rt, text.text(), expected);
+    assert_same(rt, borrowed(&text), expected);
 }
 
 // The same of the text made from these parts.
@@ -128,9 +128,9 @@ fn assert_made_held<T: AsStr + Drop + Held + Made>(
     alloc: Global,
     parts: T::Parts,
     variant: &str,
-    wanted: &str,
+    expected: &str,
 ) {
-    assert_held(rt, made(rt, T::made(alloc, parts)), variant, wanted);
+    assert_held(rt, made(rt, T::made(alloc, parts)), variant, expected);
 }
 
 const HELD: &[(Source, &str, &str)] = &[
@@ -144,15 +144,15 @@ const HELD: &[(Source, &str, &str)] = &[
 
 #[test]
 fn a_character_is_inlined_and_a_text_is_borrowed(rt: HostRuntime) {
-    for (source, variant, wanted) in HELD {
-        assert_made_held::<CowStr<'static>>(&rt, rt.alloc(), *source, variant, wanted);
+    for (source, variant, expected) in HELD {
+        assert_made_held::<CowStr<'static>>(&rt, rt.alloc(), *source, variant, expected);
     }
 }
 
 // The string of the text made from this source is this.
-fn assert_string(rt: &impl Abort, alloc: Global, source: Source, wanted: &str) {
+fn assert_string(rt: &impl Abort, alloc: Global, source: Source, expected: &str) {
     let text = made(rt, CowStr::made(alloc, source));
-    assert_text(rt, text.into_string(alloc), wanted);
+    assert_text(rt, text.into_string(alloc), expected);
 }
 
 const STRINGS: &[(Source, &str)] = &[
@@ -164,18 +164,18 @@ const STRINGS: &[(Source, &str)] = &[
 
 #[test]
 fn each_variant_gives_its_string(rt: HostRuntime) {
-    for (source, wanted) in STRINGS {
-        assert_string(&rt, rt.alloc(), *source, wanted);
+    for (source, expected) in STRINGS {
+        assert_string(&rt, rt.alloc(), *source, expected);
     }
 }
 
 // A text is boxed, and its string reads as this one.
-fn assert_boxed(rt: &impl Abort, text: &CowStr<'_>, wanted: &str) {
+fn assert_boxed(rt: &impl Abort, text: &CowStr<'_>, expected: &str) {
     assert_same(rt, text.variant(), "boxed");
     if let CowStr::Boxed(owned) = text {
         let owned: &BoxedStr = owned;
-        assert_same(rt, owned.as_str(), wanted);
-        assert_same(rt, borrowed(owned), wanted);
+        assert_same(rt, owned.as_str(), expected);
+        assert_same(rt, borrowed(owned), expected);
     }
 }
 
@@ -219,10 +219,10 @@ fn assert_static<T: AsStr + Drop + Held + Kept + Made>(
     alloc: Global,
     parts: T::Parts,
     variant: &str,
-    wanted: &str,
+    expected: &str,
 ) {
     let text = made(rt, T::made(alloc, parts));
-    assert_held(rt, made(rt, text.made_static(alloc)), variant, wanted);
+    assert_held(rt, made(rt, text.made_static(alloc)), variant, expected);
 }
 
 const STATIC: &[(Source, &str, &str)] = &[
@@ -235,8 +235,8 @@ const STATIC: &[(Source, &str, &str)] = &[
 
 #[test]
 fn static_texts_are_lent_nowhere(rt: HostRuntime) {
-    for (source, variant, wanted) in STATIC {
-        assert_static::<CowStr<'static>>(&rt, rt.alloc(), *source, variant, wanted);
+    for (source, variant, expected) in STATIC {
+        assert_static::<CowStr<'static>>(&rt, rt.alloc(), *source, variant, expected);
     }
 }
 
@@ -291,12 +291,17 @@ fn texts_of_other_bytes_are_not_equal(rt: HostRuntime) {
     assert_same(&rt, inlined(OF_23), None);
 }
 
-fn assert_printed<T: Display + Drop>(rt: &impl Abort, alloc: Global, value: T, wanted: &str) {
-    assert_text(rt, printed(alloc, &value), wanted);
+fn assert_printed<T: Display + Drop>(rt: &impl Abort, alloc: Global, value: T, expected: &str) {
+    assert_text(rt, printed(alloc, &value), expected);
 }
 
-fn assert_printed_wide<T: Display + Drop>(rt: &impl Abort, alloc: Global, value: T, wanted: &str) {
-    assert_text(rt, printed_wide(alloc, &value), wanted);
+fn assert_printed_wide<T: Display + Drop>(
+    rt: &impl Abort,
+    alloc: Global,
+    value: T,
+    expected: &str,
+) {
+    assert_text(rt, printed_wide(alloc, &value), expected);
 }
 
 #[test]

@@ -15,7 +15,7 @@ fn write_text(
     text.extend_from_slice(last)
 }
 
-/// So many equal parts, behind what comes first and before what comes last.
+/// So many equal parts, after what comes first and before what comes last.
 pub(crate) fn long_text(
     alloc: Global,
     first: &[u8],

@@ -110,12 +110,12 @@ fn nest(rt: &impl Abort, tree: &mut Tree<Piece>) -> [TreeIndex; 4]
 }
 
 // A link is this one.
-fn assert_link(rt: &impl Abort, found: Option<TreeIndex>, wanted: Option<TreeIndex>) {
-    assert_same(rt, found, wanted);
+fn assert_link(rt: &impl Abort, found: Option<TreeIndex>, expected: Option<TreeIndex>) {
+    assert_same(rt, found, expected);
 }
 
-fn assert_forest(rt: &impl Abort, alloc: Global, tree: &mut Tree<Piece>, wanted: &str) {
-    assert_text(rt, forest(alloc, tree), wanted);
+fn assert_forest(rt: &impl Abort, alloc: Global, tree: &mut Tree<Piece>, expected: &str) {
+    assert_text(rt, forest(alloc, tree), expected);
 }
 
 fn append_after_a_node(rt: &impl Abort, alloc: Global, tree: &mut Tree<Piece>) {
@@ -209,10 +209,10 @@ fn trees_of_few_nodes_have_no_parents(rt: HostRuntime) {
 }
 
 // The node at an index has this name, if any.
-fn assert_got(rt: &impl Abort, tree: &Tree<Piece>, ix: TreeIndex, wanted: Option<char>) {
+fn assert_got(rt: &impl Abort, tree: &Tree<Piece>, ix: TreeIndex, expected: Option<char>) {
     match tree.get(ix) {
-        Some(node) => assert_same(rt, Some(node.item.name), wanted),
-        None => assert_same(rt, None, wanted),
+        Some(node) => assert_same(rt, Some(node.item.name), expected),
+        None => assert_same(rt, None, expected),
     }
 }
 
@@ -335,8 +335,8 @@ fn grow_by(tree: &mut Tree<Piece>, name: char) -> Result<(), AllocError> {
     Ok(())
 }
 
-fn assert_order(rt: &impl Abort, alloc: Global, tree: &Tree<Piece>, wanted: &[(usize, usize)]) {
-    assert_elements(rt, order(alloc, tree), wanted);
+fn assert_order(rt: &impl Abort, alloc: Global, tree: &Tree<Piece>, expected: &[(usize, usize)]) {
+    assert_elements(rt, order(alloc, tree), expected);
 }
 
 const ORDER: &[(usize, usize)] = &[(1, 0), (2, 0), (3, 1), (4, 1), (5, 2), (6, 1), (7, 0)];
@@ -350,7 +350,7 @@ fn tell_in_order(rt: &impl Abort, alloc: Global, tree: &mut Tree<Piece>) {
 }
 
 #[test]
-fn nodes_are_told_in_order(rt: HostRuntime) {
+fn nodes_are_printed_in_order(rt: HostRuntime) {
     tell_in_order(&rt, rt.alloc(), &mut new_tree(&rt, rt.alloc(), 4));
 }
 
@@ -368,7 +368,7 @@ fn tell_what_is_linked(rt: &impl Abort, alloc: Global, tree: &mut Tree<Piece>)
 }
 
 #[test]
-fn nodes_that_no_link_leads_to_are_not_told(rt: HostRuntime) {
+fn nodes_that_no_link_leads_to_are_not_printed(rt: HostRuntime) {
     tell_what_is_linked(&rt, rt.alloc(), &mut new_tree(&rt, rt.alloc(), 5));
 }
 

@@ -422,10 +422,10 @@ fn becomes_owned<T: Drop + Kept + OwnsTexts + PartialEq>(
     rt: &impl Abort,
     alloc: Global,
     value: T,
-    wanted: T,
+    expected: T,
 ) -> bool {
     let value = made(rt, value.made_static(alloc));
-    value.owns_its_texts() && value == wanted
+    value.owns_its_texts() && value == expected
 }
 
 fn long_link() -> Event<'static> {

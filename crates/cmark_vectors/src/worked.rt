@@ -41,12 +41,12 @@ fn written_out(alloc: Global, rows: &str) -> Result<Vec<u8>, AllocError> {
 }
 
 // All rows agree: they are so many.
-fn assert_agree(rt: &impl Abort, alloc: Global, rows: &str, wanted: &str) {
+fn assert_agree(rt: &impl Abort, alloc: Global, rows: &str, expected: &str) {
     let cases = made(rt, written_out(alloc, rows));
     let mut output = Vec::new(alloc);
     let mut faults = Vec::new(alloc);
     let status = replay_cases(alloc, &mut cases.as_slice(), &mut output, &mut faults);
-    assert_same(rt, from_utf8(&output), Ok(wanted));
+    assert_same(rt, from_utf8(&output), Ok(expected));
     assert_same(rt, (status, faults.len()), (0, 0));
 }
 

@@ -5,8 +5,8 @@ use std::fmt::Debug;
 use std::process::Abort;
 
 /// A value is this.
-pub(crate) fn assert_same<T: Debug + Drop + PartialEq>(rt: &impl Abort, found: T, wanted: T) {
-    assert_eq!(rt; found, wanted);
+pub(crate) fn assert_same<T: Debug + Drop + PartialEq>(rt: &impl Abort, found: T, expected: T) {
+    assert_eq!(rt; found, expected);
 }
 
 /// What a call makes. The test stops where memory is refused.
@@ -23,27 +23,27 @@ pub(crate) fn found<T>(rt: &impl Abort, value: Option<T>) -> T {
 pub(crate) fn assert_made<T: Debug + Drop + PartialEq>(
     rt: &impl Abort,
     value: Result<T, AllocError>,
-    wanted: T,
+    expected: T,
 ) {
-    assert_same(rt, made(rt, value), wanted);
+    assert_same(rt, made(rt, value), expected);
 }
 
 /// A text that a call makes is this; it is dropped here.
 pub(crate) fn assert_text<T: AsStr + Drop>(
     rt: &impl Abort,
     text: Result<T, AllocError>,
-    wanted: &str,
+    expected: &str,
 ) {
-    assert_same(rt, made(rt, text).as_str(), wanted);
+    assert_same(rt, made(rt, text).as_str(), expected);
 }
 
 /// The elements of a list that a call makes are these.
 pub(crate) fn assert_elements<T: Debug + Drop + PartialEq>(
     rt: &impl Abort,
     elements: Result<Vec<T>, AllocError>,
-    wanted: &[T],
+    expected: &[T],
 ) {
-    assert_same(rt, made(rt, elements).as_slice(), wanted);
+    assert_same(rt, made(rt, elements).as_slice(), expected);
 }
 
 /// Whether a call finds nothing. What it finds is dropped here.

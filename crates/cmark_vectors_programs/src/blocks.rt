@@ -34,34 +34,34 @@ const PAGE: &[u8] = b"# One\n\nA paragraph\nof two lines\n\nTwo\n===\n\
     * * *\n    code\n\n\tmore\n\ntext\n```` c\n```\n````\n\
     <!-- a\n\nb --> c\n<div>\nx\n\n> quote\n- item\n3) third\n~~~\nopen";
 
-const TOLD: &str = "1 1 0 heading 1\n2 2 0 blank\n3 4 0 paragraph\n5 5 0 blank\n6 7 0 setext 1\n\
+const PRINTED: &str = "1 1 0 heading 1\n2 2 0 blank\n3 4 0 paragraph\n5 5 0 blank\n6 7 0 setext 1\n\
     8 8 0 break\n9 11 0 indented\n12 12 0 blank\n13 13 0 paragraph\n14 16 0 fenced 4 ` c\n\
     17 19 0 html 2\n20 21 0 html 6\n22 22 0 blank\n23 23 0 quote\n23 23 1 paragraph\n\
     24 24 0 item - 0\n24 24 1 paragraph\n24 24 0 list - 0 tight\n25 25 0 item ) 3\n25 25 1 paragraph\n\
     25 25 0 list ) 3 tight\n\
     26 27 0 fenced 3 ~\n";
 
-// What a page is told as.
+// What a page is printed as.
 type Row = (&'static [u8], &'static str);
 
-// The pages are told so.
+// The pages are printed so.
 fn assert_rows(rt: &impl Abort, alloc: Global, rows: &[Row]) {
-    assert_told(rt, alloc, &[], rows);
+    assert_printed(rt, alloc, &[], rows);
 }
 
 // The same with words.
-fn assert_told(rt: &impl Abort, alloc: Global, words: &[&str], rows: &[Row]) {
-    for (page, told) in rows {
-        assert_run::<Blocks, _>(rt, alloc, words, &mut &**page, told, DONE);
+fn assert_printed(rt: &impl Abort, alloc: Global, words: &[&str], rows: &[Row]) {
+    for (page, printed) in rows {
+        assert_run::<Blocks, _>(rt, alloc, words, &mut &**page, printed, DONE);
     }
 }
 
 #[test]
-fn a_page_is_told_block_by_block(rt: HostRuntime) {
+fn a_page_is_printed_block_by_block(rt: HostRuntime) {
     assert_rows(
         &rt,
         rt.alloc(),
-        &[(PAGE, TOLD), (b"", ""), (b"\n", "1 1 0 blank\n")],
+        &[(PAGE, PRINTED), (b"", ""), (b"\n", "1 1 0 blank\n")],
     );
 }
 
@@ -193,7 +193,7 @@ const JSON_OF_BLOCKS: &[Row] = &[
 
 #[test]
 fn json_has_an_object_for_each_block(rt: HostRuntime) {
-    assert_told(&rt, rt.alloc(), &["--json"], JSON_OF_BLOCKS);
+    assert_printed(&rt, rt.alloc(), &["--json"], JSON_OF_BLOCKS);
 }
 
 const JSON_OF_CONTAINERS: &[Row] = &[
@@ -252,7 +252,7 @@ const JSON_OF_CONTAINERS: &[Row] = &[
 
 #[test]
 fn json_has_an_object_for_each_container(rt: HostRuntime) {
-    assert_told(&rt, rt.alloc(), &["--json"], JSON_OF_CONTAINERS);
+    assert_printed(&rt, rt.alloc(), &["--json"], JSON_OF_CONTAINERS);
 }
 
 const JSON_OF_INFO_STRINGS: &[Row] = &[
@@ -278,7 +278,7 @@ const JSON_OF_INFO_STRINGS: &[Row] = &[
 
 #[test]
 fn json_has_info_strings_as_text(rt: HostRuntime) {
-    assert_told(&rt, rt.alloc(), &["--json"], JSON_OF_INFO_STRINGS);
+    assert_printed(&rt, rt.alloc(), &["--json"], JSON_OF_INFO_STRINGS);
 }
 
 const HTML: &[Row] = &[

@@ -1,5 +1,5 @@
 //! Definition lists. The events are those that the rules of PHP Markdown Extra give, read by hand: a definition begins with a
-//! colon behind at most three columns of space, directly behind its term or with one blank line between, and goes on as a list
+//! colon after at most three columns of space, directly after its term or with one blank line between, and goes on as a list
 //! item does. What the rules leave open is as docs/DIFFERENCES.md has it.
 use crate::asserts::assert_text;
 use cmark_uses::events::{shown_events, shown_events_ext};

@@ -119,7 +119,7 @@ const EXAMPLES: &[Row] = &[
     ),
 ];
 
-// Definitions in containers, with lazy lines, and titles over lines; places of markers behind spaces and tabs.
+// Definitions in containers, with lazy lines, and titles over lines; places of markers after spaces and tabs.
 const MORE: &[Row] = &[
     (b"", ""),
     (b"[a]: /b", "definition 1 1"),
@@ -200,10 +200,10 @@ fn definitions_have_their_destinations(rt: HostRuntime) {
 }
 
 // The destinations are these.
-fn assert_words(rt: &impl Abort, found: Result<Vec<Vec<u8>>, AllocError>, wanted: &[&[u8]]) {
+fn assert_words(rt: &impl Abort, found: Result<Vec<Vec<u8>>, AllocError>, expected: &[&[u8]]) {
     let words = made(rt, found);
-    assert_same(rt, words.len(), wanted.len());
-    for (word, other) in words.iter().zip(wanted) {
+    assert_same(rt, words.len(), expected.len());
+    for (word, other) in words.iter().zip(expected) {
         assert_same(rt, word.as_slice(), *other);
     }
 }

@@ -237,7 +237,7 @@ const RUNS: &[(&str, usize, usize, bool, bool)] = &[
     ("a\x0b*b", 2, 1, true, true),
 ];
 
-// The address at the front of the text has so many bytes, and is found behind others too.
+// The address at the front of the text has so many bytes, and is found after others too.
 fn assert_email(rt: &impl Abort, text: &str, len: usize) {
     assert_same(rt, scan_email_autolink_bytes(text.as_bytes()), Some(len));
     let (place, address, kind) = found(rt, scan_email_autolink(text, 0));
@@ -310,23 +310,23 @@ fn assert_span(
     rt: &impl Abort,
     place: usize,
     span: Option<CodeSpan>,
-    wanted: Option<(&str, usize)>,
+    expected: Option<(&str, usize)>,
 ) {
     match span {
         Some(span) => {
             let content = found(rt, STRINGS.get(place..)).get(span.content);
-            assert_same(rt, Some((found(rt, content), span.len)), wanted);
+            assert_same(rt, Some((found(rt, content), span.len)), expected);
         }
-        None => assert_same(rt, None, wanted),
+        None => assert_same(rt, None, expected),
     }
 }
 
 #[test]
 fn code_stands_at_many_places_of_a_text(rt: HostRuntime) -> Result<(), Fail> {
     let spans = CodeSpans::new(rt.alloc(), STRINGS.as_bytes())?;
-    for (place, wanted) in SPANS_AT {
+    for (place, expected) in SPANS_AT {
         if *place <= STRINGS.len() {
-            assert_span(&rt, *place, spans.scan(*place), *wanted);
+            assert_span(&rt, *place, spans.scan(*place), *expected);
         }
     }
     Ok(())

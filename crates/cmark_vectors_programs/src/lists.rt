@@ -129,9 +129,9 @@ const EXAMPLES: &[(&str, &[Row])] = &[
 ];
 
 const MORE: &[(&str, &[Row])] = &[
-    // An item that is blank behind its marker, and a blank line behind it.
+    // An item that is blank after its marker, and a blank line after it.
     ("-\n\n- b\n", &[('-', 0, LOOSE, 0, 0, 3)]),
-    // What an item's marker has behind it is no blank line.
+    // What an item's marker has after it is no blank line.
     ("-\n  a\n- b\n", &[('-', 0, TIGHT, 0, 0, 3)]),
     // A blank line at the end of a nested list stands between the outer items.
     (
@@ -152,11 +152,11 @@ const MORE: &[(&str, &[Row])] = &[
             ('-', 0, LOOSE, 0, 0, 3),
         ],
     ),
-    // Blank lines before and behind a list are not in it.
+    // Blank lines before and after a list are not in it.
     ("\n- a\n\n\nb\n", &[('-', 0, TIGHT, 0, 1, 2)]),
     // A block quote has its blank lines.
     ("- > a\n  >\n- > b\n  >\n", &[('-', 0, TIGHT, 0, 0, 4)]),
-    // A blank line behind a block quote.
+    // A blank line after a block quote.
     ("- > a\n\n- b\n", &[('-', 0, LOOSE, 0, 0, 3)]),
     // A list in a block quote ends where it ends.
     (
@@ -182,10 +182,10 @@ fn row_of(list: &ListBlock) -> Row {
 }
 
 fn assert_lists(rt: &impl Abort, alloc: Global, rows: &[(&str, &[Row])]) {
-    for (page, wanted) in rows {
+    for (page, expected) in rows {
         let lists = made(rt, lists_of_page(alloc, page.as_bytes()));
         let found: Vec<Row> = made(rt, lists.iter().map(row_of).collect(alloc));
-        assert_same(rt, (*page, found.as_slice()), (*page, *wanted));
+        assert_same(rt, (*page, found.as_slice()), (*page, *expected));
     }
 }
 

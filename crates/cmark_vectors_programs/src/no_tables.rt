@@ -25,7 +25,7 @@ const PAGES: &[(&str, &str)] = &[
     // in containers
     ("> |a|\n> |-|\n|b|\n", "quote 0; paragraph 1 3; end"),
     ("- |a|\n  |-|\n", "item 0; paragraph 1 2; end"),
-    // behind definitions
+    // after definitions
     ("[a]: /b\n|-|\n", "definition 1 1; paragraph 2 2"),
     ("> |a|\n|-|\n", "quote 0; paragraph 1 2; end"),
 ];

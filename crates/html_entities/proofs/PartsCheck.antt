@@ -1,4 +1,4 @@
--- A test that parts stand one behind another in a text. It reads the text once.
+-- A test that parts stand one after another in a text. It reads the text once.
 use Rattle.std.proofs.Common.{◌≡◌, ℕ, zero, suc, ◌+◌, ◌-◌, ◌<◌, ◌≤◌, Bool, true, false, ◌&&◌, ◌||◌, ◌==◌, nat_lt, nat_le, List, [], ◌∷◌, length, take}
 use Rattle.std.proofs.Common.{drop, get_or, slice_index, bytes_eq, inl, inr, refl, ap, ◌∙◌, arith, ltb-true, leb-true, eqb-true, add-one, get_or-drop}
 use Rattle.std.proofs.Common.{drop-drop, le_of_suc-le-suc, not-suc-le-zero}
@@ -11,7 +11,7 @@ use Rattle.html_entities.specs.Parts.{IsPart, AreParts}
 abbrev begins : List ℕ → Bool
 begins bytes = nat_lt (slice_index bytes 0) 128 || nat_le 192 (slice_index bytes 0)
 
--- `rest` is what stands behind the first `at` bytes of a text of `total` bytes
+-- `rest` is what stands after the first `at` bytes of a text of `total` bytes
 unfoldable pub parts_ok : ℕ → ℕ → List ℕ → List ℕ → List (List ℕ) → Bool
 parts_ok total at rest starts [] = nat_lt 0 (length starts)
 parts_ok total at rest [] (part ∷ parts) = false

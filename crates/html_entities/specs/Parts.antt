@@ -1,4 +1,4 @@
--- Texts that stand one behind another in one text.
+-- Texts that stand one after another in one text.
 use Rattle.std.specs.Prelude.{◌≡◌, ℕ, ◌+◌, ◌-◌, ◌<◌, ◌≤◌, List, [], length, take, drop, get_or, slice_index}
 use Rattle.std.specs.Str.{IsCharBoundary}
 

@@ -1,6 +1,6 @@
 //! The meanings of the rows. Written by generate.py. Do not edit.
 
-/// The meanings, one behind another.
+/// The meanings, one after another.
 #[rattlefmt::skip]
 pub(crate) static MEANINGS: &str = "\
     \u{c6}\u{26}\u{c1}\u{102}\u{c2}\u{410}\u{1d504}\u{c0}\u{391}\u{100}\u{2a53}\u{104}\u{1d538}\

@@ -1,6 +1,6 @@
 //! The names of the rows. Written by generate.py. Do not edit.
 
-/// The names, one behind another.
+/// The names, one after another.
 #[rattlefmt::skip]
 pub(crate) static NAMES: &str = "\
     AEligAMPAacuteAbreveAcircAcyAfrAgraveAlphaAmacrAndAogonAopfApplyFunctionAringAscrAssign\

@@ -122,7 +122,7 @@ pub(crate) fn scan_block(
     Ok(Block { kind, taken })
 }
 
-/// Whether the block ends there: the text has a line behind it that shows it, whatever lines
+/// Whether the block ends there: the text has a line after it that shows it, whatever lines
 /// follow, or none follow since the input has ended.
 pub(crate) fn is_over(text: &[u8], block: Block, outer: &Outer, has_ended: bool) -> bool
     ensures { (lines : List (List ℕ)) → IsTaken text.now block.taken lines
@@ -180,7 +180,7 @@ fn is_text_byte(byte: u8) -> bool
     !(is_ascii_whitespace(byte) || byte == b'>')
 }
 
-// The lines, and those behind them up to the first with this ending.
+// The lines, and those after them up to the first with this ending.
 fn take_until<'a>(text: &'a [u8], first: Taken, outer: &'a Outer<'a>, ending: Ending) -> Taken
     ensures { (lines : List (List ℕ)) → IsTaken text.now first lines
         → (more : List (List ℕ)) × IsTaken text.now result (lines ++ more)
@@ -404,7 +404,7 @@ fn is_inside(line: &[u8], outer: &Outer) -> bool
     kept == outer.count()
 }
 
-// Whether the line stands in the containers, behind an indent of four columns.
+// Whether the line stands in the containers, after an indent of four columns.
 fn is_indented(line: &Line) -> bool
     ensures { IsTrue result ↔ In line.now.outer.containers HasIndent line.now.bytes }
 {
@@ -447,7 +447,7 @@ fn ends_paragraph(rest: &Rest, extensions: BlockExtensions) -> bool
     rest.indent != 4 && interrupts(rest.text, extensions)
 }
 
-// Whether the text interrupts a paragraph, behind fewer than four columns of space.
+// Whether the text interrupts a paragraph, after fewer than four columns of space.
 fn interrupts(text: &[u8], extensions: BlockExtensions) -> bool
     ensures { IsTrue result ↔ Interrupts extensions text.now }
 {

@@ -24,7 +24,7 @@ pub struct Cell {
 /// The cells of a row that are left, from the first on.
 #[derive(Drop)]
 pub struct Cells<'a> {
-    // What stands behind the pipe before the next cell, and behind how many bytes of the row.
+    // What stands after the pipe before the next cell, and after how many bytes of the row.
     rest: &'a [u8],
     place: usize,
     is_done: bool,
@@ -133,7 +133,7 @@ fn piece_len(row: &[u8]) -> usize
     len
 }
 
-// The cell that the piece is, behind so many bytes of its row.
+// The cell that the piece is, after so many bytes of its row.
 fn cell_at(piece: &[u8], place: usize) -> Cell
     requires { place + length piece.now < 2 ^ 64 }
     ensures { result ≡ cell_at place piece.now }

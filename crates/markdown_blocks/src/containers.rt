@@ -15,7 +15,7 @@ use crate::terms::scan_term_definition;
 use markdown_scanners_tree::line::LineStart;
 use std::marker::Model;
 
-/// A list item: its bullet or delimiter, whether only its first line is read, which is blank behind
+/// A list item: its bullet or delimiter, whether only its first line is read, which is blank after
 /// the marker, the indent of its text in columns, and the number that it starts at. A page may open
 /// a container with each byte, so the fields are no wider than their numbers, and the widest is last.
 #[derive(Clone, Copy)]
@@ -186,7 +186,7 @@ fn goes_on_blank(container: Container) -> bool
     }
 }
 
-/// How many of the open containers the line goes on with, and its place behind them.
+/// How many of the open containers the line goes on with, and its place after them.
 ///
 /// It is inlined, so that where none is open, as most often, it costs no call.
 #[inline(always)]
@@ -287,7 +287,7 @@ fn pass_indent(start: &mut LineStart, width: usize) -> Option<bool>
     None
 }
 
-// Passes a block quote marker behind at most three columns of space, if one stands there.
+// Passes a block quote marker after at most three columns of space, if one stands there.
 fn pass_quote(line: &[u8], start: &mut LineStart) -> Option<bool>
     requires { start.old.bytes ≡ line.now }
     ensures passed { IfSome result (λ more.
@@ -308,7 +308,7 @@ fn pass_quote(line: &[u8], start: &mut LineStart) -> Option<bool>
     None
 }
 
-/// Passes the marker of the container that begins at the place, behind so many columns of space, if
+/// Passes the marker of the container that begins at the place, after so many columns of space, if
 /// one does.
 ///
 /// It is inlined, so that where no byte of a marker stands, as most often, it costs no call.
@@ -373,7 +373,7 @@ fn scan_marked<'a>(
 }
 
 // Passes the marker of the footnote definition or the definition of a term that begins at the place,
-// behind so many columns of space, if one does and its extension is on.
+// after so many columns of space, if one does and its extension is on.
 fn scan_extension<'a>(
     line: &'a [u8],
     start: &mut LineStart<'a>,
@@ -395,7 +395,7 @@ fn scan_extension<'a>(
     scan_term_definition(line, start, indent, extensions)
 }
 
-// Passes the marker of the list item that begins at the place, behind so many columns of space, if
+// Passes the marker of the list item that begins at the place, after so many columns of space, if
 // one does.
 fn scan_item(line: &[u8], start: &mut LineStart, indent: usize) -> Option<Container>
     requires bytes { start.old.bytes ≡ line.now }

@@ -37,7 +37,7 @@ pub fn scan_definition(content: &[u8]) -> Option<ReferenceDefinition>
 
 /// How many bytes and lines the definition at the front of a paragraph's content takes, if one
 /// stands there. A block has a line for each line of its content, so these are as many lines of the
-/// page: the first of the block, and behind one definition those of the next.
+/// page: the first of the block, and after one definition those of the next.
 pub fn take_definition(content: &[u8]) -> Option<Taken>
     ensures found { IfSome result (λ taken. (definition : ReferenceDefinition)
         × IsDefinition content.now definition × (taken.bytes ≡ definition.len)
@@ -66,7 +66,7 @@ fn count_lines(text: &[u8]) -> Taken
     taken
 }
 
-/// How many bytes the definitions take at the front of a paragraph's content, one behind another.
+/// How many bytes the definitions take at the front of a paragraph's content, one after another.
 pub fn definitions_len(content: &[u8]) -> usize
     ensures definitions { (definitions : List ReferenceDefinition)
         × AreDefinitions content.now definitions (drop result content.now) }
@@ -79,8 +79,8 @@ pub fn definitions_len(content: &[u8]) -> usize
     taken
 }
 
-/// Whether a paragraph in these containers has text behind the definitions that it begins with. Of
-/// its lines the first is taken, and has this text behind its indent, and all are.
+/// Whether a paragraph in these containers has text after the definitions that it begins with. Of
+/// its lines the first is taken, and has this text after its indent, and all are.
 pub(crate) fn has_text(
     alloc: Global,
     text: &[u8],
@@ -89,10 +89,10 @@ pub(crate) fn has_text(
     outer: &Outer,
     words: &[u8],
 ) -> Result<bool, AllocError>
-    ensures { IfOk result (λ told. (line : List ℕ) (later : List (List ℕ))
+    ensures { IfOk result (λ given. (line : List ℕ) (later : List (List ℕ))
         → IsTaken text.now first (line ∷ [])
         → IsTaken text.now taken (line ∷ later)
-        → (IsTrue told ↔ HasText (content_of outer.now.containers words.now later))) }
+        → (IsTrue given ↔ HasText (content_of outer.now.containers words.now later))) }
 {
     if begins_with_text(words) {
         return Ok(true);

@@ -86,7 +86,7 @@ impl<'a> Blocks<'a> {
 
     /// The containers that have begun and that the next leaf block stands in, outermost first; after
     /// the last leaf block, those that have not ended. At the event of a leaf block they are those
-    /// that it stands in, as `add_content` wants them.
+    /// that it stands in, as `add_content` needs them.
     pub fn containers(&self) -> &[Container]
         ensures { result.now ≡ take (begun_of self.now.begun self.now.next) self.now.containers }
     {

@@ -98,7 +98,7 @@ impl<'a> FirstBlock<'a> {
     /// The marker of the task list item, if this is the first block of one: a paragraph in a list
     /// item that begins with `[ ]`, `[x]` or `[X]` and white space.
     ///
-    /// As `LineStart::scan_task_list_marker` has it, a line ending is white space behind the marker,
+    /// As `LineStart::scan_task_list_marker` has it, a line ending is white space after the marker,
     /// and other white space of the line may stand between its brackets.
     pub fn task(&self) -> Option<Task>
         ensures { result ≡ task_at (seen_first self.now) }

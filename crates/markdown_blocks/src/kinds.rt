@@ -25,7 +25,7 @@ pub(crate) fn kind_of(rest: &Rest) -> BlockKind
     kind_at(rest.text)
 }
 
-// The same of what stands behind at most three columns of indent.
+// The same of what stands after at most three columns of indent.
 fn kind_at(text: &[u8]) -> BlockKind
     ensures { BeginsAt result text.now }
 {

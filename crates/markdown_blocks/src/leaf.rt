@@ -32,7 +32,7 @@ pub struct Leaf<'a> {
 impl<'a> Leaf<'a> {
     ghost use Rattle.std.specs.Prelude.{◌≡◌};
 
-    /// The leaf block without its place, as `add_content` wants it.
+    /// The leaf block without its place, as `add_content` needs it.
     pub fn block(&self) -> Block
         ensures kind { result.kind ≡ self.now.kind }
         ensures bytes { result.taken.bytes ≡ self.now.bytes }

@@ -299,7 +299,7 @@ fn case_folding(alloc: Global, label: &str) -> Result<String, AllocError>
     default_case_fold_str(alloc, label)
 }
 
-// The label behind the bracket that opened it, if it is UTF-8.
+// The label after the bracket that opened it, if it is UTF-8.
 fn read_label<'t>(alloc: Global, text: &'t [u8]) -> Result<Option<CowStr<'t>>, AllocError>
     ensures { IfOk result (λ found. SomeExactly (λ bytes. (label : Label)
         × IsLabelInBytes SkipsNothing text.now false label × (label.text ≡ bytes))

@@ -21,7 +21,7 @@ pub struct ListBlock {
     pub delimiter: u8,
     /// Whether it is loose, and not tight.
     pub is_loose: bool,
-    /// The number that its first item has, 0 behind a bullet.
+    /// The number that its first item has, 0 after a bullet.
     pub start: u32,
     /// How many containers it stands in.
     pub depth: usize,
@@ -58,7 +58,7 @@ pub struct Lists {
     // How many lines stand before what comes next, and before what follows the last block.
     line: usize,
     end: usize,
-    // Whether a blank line stands behind the last block.
+    // Whether a blank line stands after the last block.
     is_blank: bool,
     // Whether the innermost container has no block yet.
     is_fresh: bool,
@@ -232,7 +232,7 @@ fn loosened(list: Option<OpenList>, loose: bool) -> Option<OpenList>
     })
 }
 
-// The list that the container begins behind so many lines, if it is an item.
+// The list that the container begins after so many lines, if it is an item.
 fn list_begun(container: Container, line: usize) -> Option<OpenList>
     ensures { result ≡ list_begun container line }
 {
@@ -247,7 +247,7 @@ fn list_begun(container: Container, line: usize) -> Option<OpenList>
     }
 }
 
-// A container in which the other begins, behind a blank line or not and so many lines of the page.
+// A container in which the other begins, after a blank line or not and so many lines of the page.
 fn begun(outer: Level, container: Container, is_blank: bool, line: usize) -> Level
     ensures { result ≡ begun outer container is_blank line }
 {

@@ -4,7 +4,7 @@ ghost use Rattle.std.specs.Prelude.{◌≡◌, ◌+◌, ◌^◌, ◌<◌, ◌≤
 ghost use Rattle.std.specs.Iterator.{YieldsFirstBy, item_count};
 ghost use Rattle.markdown_scanners_tree.specs.scanners.TextLines.{lines_of};
 ghost use Rattle.markdown_blocks.specs.declared.containers.Container.{Container};
-ghost use Rattle.markdown_blocks.specs.rows.Rows.{AreAlignments, AreTold, body_rows, first_row, later_rows, row_at, rows_of, seen_row};
+ghost use Rattle.markdown_blocks.specs.rows.Rows.{AreAlignments, AreGiven, body_rows, first_row, later_rows, row_at, rows_of, seen_row};
 
 use crate::containers::{BlockExtensions, Container, Outer, go_on};
 use crate::content::parts::first_place;
@@ -89,7 +89,7 @@ pub fn rows_of<'a>(lines: &'a [u8], containers: &'a [Container], kept: usize) ->
     }
 }
 
-// With the line behind these, if there is one.
+// With the line after these, if there is one.
 fn with_next(lines: &[u8], read: Taken) -> Taken
     ensures { (outer : List Container)
         → later_rows outer result.bytes (lines_of (drop result.bytes lines.now))
@@ -142,7 +142,7 @@ pub fn alignments_of(
 
 // How the columns are aligned whose delimiter row this rest of a line is.
 fn columns_of(alloc: Global, rest: &Rest) -> Result<Vec<Alignment>, AllocError>
-    ensures { IfOk result (λ found. AreTold rest.now found.items) }
+    ensures { IfOk result (λ found. AreGiven rest.now found.items) }
 {
     if rest.indent == 4 {
         return Ok(Vec::new(alloc));

@@ -11,14 +11,14 @@ use markdown_scanners_tree::line::LineStart;
 #[derive(Drop)]
 pub struct Step<'a> {
     /// How many of the containers that were open the first line goes on with. The walk has the
-    /// others, which it begins, behind them.
+    /// others, which it begins, after them.
     pub kept: usize,
     /// The first line, and its place after the containers that it goes on with.
     pub line: &'a [u8],
     pub start: LineStart<'a>,
     /// How many columns of space stand after the containers, at most four.
     pub indent: usize,
-    /// The text behind that space, with its line ending.
+    /// The text after that space, with its line ending.
     pub text: &'a [u8],
     /// The block, and its lines.
     pub block: Block,

@@ -48,7 +48,7 @@ fn count_separators(row: &[u8]) -> (usize, bool)
     (count, is_last)
 }
 
-/// Whether the byte separates cells, behind this one.
+/// Whether the byte separates cells, after this one.
 pub(crate) fn separates(before: u8, byte: u8) -> bool
     ensures { result ≡ separates before byte }
 {
@@ -80,7 +80,7 @@ fn columns_of(alloc: Global, rest: &Rest) -> Result<Option<usize>, AllocError>
     Ok(Some(alignments.len()))
 }
 
-/// The lines, and the rows of a table that stand directly behind them.
+/// The lines, and the rows of a table that stand directly after them.
 pub(crate) fn take_rows<'a>(text: &'a [u8], first: Taken, outer: &'a Outer<'a>) -> Taken
     ensures { (lines : List (List ℕ)) → IsTaken text.now first lines
         → (more : List (List ℕ)) × IsTaken text.now result (lines ++ more)

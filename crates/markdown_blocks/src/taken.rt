@@ -23,7 +23,7 @@ impl Taken {
         Taken { bytes: 0, lines: 0 }
     }
 
-    /// The line behind these, if there is one, and what is taken with it.
+    /// The line after these, if there is one, and what is taken with it.
     #[inline(always)]
     pub(crate) fn next(self, text: &[u8]) -> Option<(&[u8], Taken)>
         ensures line { IfSome result (λ r. IsNext text.now self r.0.now r.1) }

@@ -82,7 +82,7 @@ pub(crate) fn follows_term(is_term: bool, followed_term: bool, is_between: bool)
     is_term || (followed_term && is_between)
 }
 
-/// Passes the marker of a definition at the place, behind so many columns of space, if one stands
+/// Passes the marker of a definition at the place, after so many columns of space, if one stands
 /// there and the extension is on.
 pub(crate) fn scan_term_definition(
     line: &[u8],

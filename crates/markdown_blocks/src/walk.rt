@@ -105,8 +105,8 @@ impl Walk {
         self.is_after_term
     }
 
-    /// The block at the front of the lines, if there is one that no line behind them changes: where
-    /// the input has ended none stands behind them. Its containers are open then.
+    /// The block at the front of the lines, if there is one that no line after them changes: where
+    /// the input has ended none stands after them. Its containers are open then.
     ///
     /// `content` gets the content of the block, as `add_content` has it, where that begins with a link
     /// reference definition, and else nothing.

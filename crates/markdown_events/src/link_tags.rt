@@ -105,9 +105,9 @@ fn target_of<'a, D: Definitions<'a>>(
     label: &str,
 ) -> Result<Target<'a>, AllocError>
     requires source { IsLinkSource source.now link.now }
-    ensures { IfOk result (λ target. (wanted : Written)
+    ensures { IfOk result (λ target. (expected : Written)
         → IsWrittenTarget source.now (D.targets definitions.now) link.now.text link.now.target
-        label.now wanted → seen_target target ≡ wanted) }
+        label.now expected → seen_target target ≡ expected) }
 {
     match &link.target {
         LinkTarget::Inline(destination, title) => Ok(Target {

@@ -176,9 +176,9 @@ const TEXTS: &[(&str, &str)] = &[
 #[test]
 fn events_of_examples(rt: HostRuntime) {
     let page = Page { rows: DEFINED };
-    for (text, wanted) in TEXTS {
+    for (text, expected) in TEXTS {
         let shown = shown(rt.alloc(), text, &page).expect(&rt, "memory");
-        assert_eq!(rt; (*text, shown.as_str()), (*text, *wanted));
+        assert_eq!(rt; (*text, shown.as_str()), (*text, *expected));
     }
 }
 

@@ -31,7 +31,7 @@ after_leading (b ∷ bs) = elim (cases_Bool (is_control_or_space b)) [
   | inr other ↦ rw other
 ]
 
--- the scheme that a colon ends behind the longest run
+-- the scheme that a colon ends after the longest run
 abbrev pub scheme_found : List ℕ → Option (List ℕ)
 scheme_found bytes =
     if begins_with (λ b. b == colon) (drop (prefix_len continues bytes) bytes)
@@ -72,7 +72,7 @@ pub begins_at : (p : ℕ → Bool) (bytes : List ℕ) → 0 < length bytes → b
 begins_at p [] some = absurd (omega arith)
 begins_at p (b ∷ bs) some = refl
 
--- Behind the leading ones, scheme start state is scheme state at a letter.
+-- After the leading ones, scheme start state is scheme state at a letter.
 pub start_at_letter : (url : List ℕ) → begins_with is_control_or_space url ≡ false
     → scheme_start_state (without_breaks url) ≡ (if begins_with is_letter url then scheme_found url else None)
 start_at_letter [] front = refl
@@ -98,7 +98,7 @@ no_more p [] (suc n) past = refl
 no_more p (b ∷ bs) zero past = absurd (omega arith)
 no_more p (b ∷ bs) (suc n) past = no_more p bs n (omega arith)
 
--- A letter is at the front, and a colon behind the longest run.
+-- A letter is at the front, and a colon after the longest run.
 pub written_found : (url : List ℕ) (n : ℕ) → begins_with is_control_or_space url ≡ false → 0 < length url
     → is_letter (get_or url 0 0) ≡ true → n ≡ prefix_len continues url → n < length url → get_or url n 0 ≡ colon
     → scheme_start_state (without_breaks url) ≡ Some (spelled (take n url))

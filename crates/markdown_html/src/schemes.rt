@@ -32,7 +32,7 @@ pub const DEFAULT_SCHEMES: &[&str] = &["http", "https", "mailto", "tel"];
 
 /// The setting for text by people who are not trusted: raw HTML is written as text, links and images
 /// lead to addresses of these schemes alone, and links say `rel="nofollow noopener"`. A caller who
-/// wants something else changes its fields, as `images_as_links`.
+/// needs something else changes its fields, as `images_as_links`.
 pub fn safe_setting<'a>(schemes: &'a [&'a str]) -> HtmlSetting<AllowedSchemes<'a>>
     ensures safe { IsSafeSetting (map (λ scheme. scheme.now) schemes.now)
         (seen_setting ⟦<AllowedSchemes<'a> as AllowedAddresses>⟧.allows result) }

@@ -38,7 +38,7 @@ pub fn scan_code_span(bytes: &[u8]) -> Option<CodeSpan>
 }
 
 // The code span that begins with all the backticks at the front, of which there are so many. All
-// behind them up to its end is passed over.
+// after them up to its end is passed over.
 pub(crate) fn span_behind(text: &Backticks, fence: usize, passed: &mut u128) -> Option<CodeSpan>
     requires opens { fence ≡ prefix_len is_backtick text.now }
     requires fits { length text.now < 2 ^ 64 }
@@ -62,7 +62,7 @@ pub(crate) fn span_behind(text: &Backticks, fence: usize, passed: &mut u128) -> 
     })
 }
 
-// The place of the first string of so many backticks behind one of them at the front.
+// The place of the first string of so many backticks after one of them at the front.
 fn find_string(text: &Backticks, fence: usize, passed: &mut u128) -> Option<usize>
     requires some { 0 < fence }
     requires opens { fence ≡ prefix_len is_backtick text.now }

@@ -32,7 +32,7 @@ pub fn scan_delimiter_run(text: &str, place: usize) -> Option<DelimiterRun>
     ensures found { SomeExactly (IsDelimiterRun text.now place) result }
     ensures only { IsOnly (IsDelimiterRun text.now place) result }
 
-    // Behind it a text may be cut.
+    // After it a text may be cut.
     ensures within { IfSome result (λ run. place + run.count ≤ length text.now) }
     ensures boundary { IfSome result (λ run. IsCharBoundary text.now (place + run.count)) }
 {

@@ -15,7 +15,7 @@ use markdown_values::values::LinkType;
 // How many bytes a label of a domain may have.
 const MOST_LABEL_BYTES: usize = 63;
 
-/// The length of the email address at the front of the bytes, behind which stands its `>`.
+/// The length of the email address at the front of the bytes, after which stands its `>`.
 pub fn scan_email_autolink_bytes(bytes: &[u8]) -> Option<usize>
     // The one address that stands there is answered.
     ensures found { SomeExactly (IsEmailAutolink bytes.now)
@@ -23,7 +23,7 @@ pub fn scan_email_autolink_bytes(bytes: &[u8]) -> Option<usize>
     ensures only { IsOnly (IsEmailAutolink bytes.now)
         (option_map (λ n. take n bytes.now) result) }
 
-    // A `>` is behind it, and a text may be cut on both sides of that.
+    // A `>` is after it, and a text may be cut on both sides of that.
     ensures within { IfSome result (λ n. n < length bytes.now) }
     ensures cut { IfSome result (λ n. slice_index bytes.now n ≡ greater_than_sign) }
     ensures before { IfSome result (λ n. IsUtf8 bytes.now → IsCharBoundary bytes.now n) }

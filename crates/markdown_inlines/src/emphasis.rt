@@ -224,7 +224,7 @@ fn find_opener(
     None
 }
 
-// Of the openers keeps those before an index, and behind them the opener there, of which so many
+// Of the openers keeps those before an index, and after them the opener there, of which so many
 // delimiters are used, if it has any left.
 fn keep(openers: &mut Vec<Delimiters>, index: usize, opener: Delimiters, count: usize)
     requires within { index < length openers.old.items }

@@ -66,7 +66,7 @@ impl<'a> CodeSpans<'a> {
     }
 }
 
-// The code span that begins at a place, where the last strings behind a place before it are known. The
+// The code span that begins at a place, where the last strings after a place before it are known. The
 // bytes that are passed over are added to a count.
 pub(crate) fn span_at(
     text: &Backticks,
@@ -101,7 +101,7 @@ pub(crate) fn span_at(
     span_behind(&rest, fence, passed)
 }
 
-// The code span that begins with the backtick at a place. Where there is none, all behind the place has
+// The code span that begins with the backtick at a place. Where there is none, all after the place has
 // been read, and the last strings there are put in. Nothing depends on what is in the buffer.
 pub(crate) fn first_span(
     text: &Backticks,

@@ -181,7 +181,7 @@ pub fn scan_label<'t>(
     ensures none { IfOk result (λ found. IfNone found ((close : ℕ) (name : List ℕ)
         → ¬ IsLabelAt text.entry.now from close name)) }
 
-    // Its bracket is in the text, which may be cut behind it.
+    // Its bracket is in the text, which may be cut after it.
     ensures within { IfOk result (λ found. IfSome found (λ r.
         (from ≤ r.0) × (r.0 < length text.entry.now))) }
     ensures boundary { IfOk result (λ found. IfSome found (λ r.

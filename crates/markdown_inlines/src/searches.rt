@@ -101,7 +101,7 @@ impl<'a> Searches<'a> {
         Ok(self.known_span(place))
     }
 
-    // The code span that begins at the place, where all behind a place before it has been read.
+    // The code span that begins at the place, where all after a place before it has been read.
     fn known_span(&mut self, place: usize) -> Option<CodeSpan>
         requires within { place ≤ length self.old.html.text }
         requires fits { self.old.codes < 2 ^ 100 }

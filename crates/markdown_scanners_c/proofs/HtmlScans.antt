@@ -1,4 +1,4 @@
--- What C is told of a scan of inline HTML under a guard, by what the scan answers.
+-- What C learns of a scan of inline HTML under a guard, by what the scan answers.
 use Rattle.std.proofs.Common.{ℕ, ◌≤◌, ◌<◌, ◌≡◌, List, [], ◌∷◌, ◌++◌, Option, Some, None, inl, inr, refl, sym, ap, subst, ◌∙◌, arith, zero-add}
 use Rattle.std.specs.Prelude.{◌≢◌, Result, Ok, Err, IfSome, IfOk, IfErr, OnOk, OnErr}
 use Rattle.markdown_scanners_tree.specs.declared.inline_html.HtmlScanGuard.{HtmlScanGuard}
@@ -10,13 +10,13 @@ use Rattle.markdown_scanners_tree.specs.inline_html.InlineHtml.{opening_at, open
 use Rattle.markdown_scanners_tree.specs.inline_html.run.KeptGuard.{first_guard, AreScanPlaces, guard_after_scans, bytes_scanned}
 use Rattle.markdown_scanners_tree.proofs.ForCallers.{opener-bounds, opener-there, IsTrueGuard-later, first-true, next_scan}
 use Rattle.markdown_scanners_c.specs.Finds.{IsFindEnd}
-use Rattle.markdown_scanners_c.specs.Guards.{scan_guard, new_guard, IsAnswerTold, IsGuardedEnd, IsTrueEnd, IsScanInTurn}
+use Rattle.markdown_scanners_c.specs.Guards.{scan_guard, new_guard, IsAnswerReturned, IsGuardedEnd, IsTrueEnd, IsScanInTurn}
 use Rattle.markdown_scanners_c.specs.declared.html.Guard.{Guard}
-use Rattle.markdown_scanners_c.specs.private.ScanTold.{scan_told}
+use Rattle.markdown_scanners_c.specs.private.ScanReturned.{scan_returned}
 
 -- the four numbers of a guard
-abbrev guard_told : HtmlScanGuard → Guard
-guard_told guard = record {
+abbrev guard_returned : HtmlScanGuard → Guard
+guard_returned guard = record {
   comment = guard.comment;
   cdata = guard.cdata;
   declaration = guard.declaration;
@@ -38,35 +38,35 @@ module _ (bytes : List ℕ) (place : ℕ) (old new : Guard) (answer : Result (Op
     pub finds : IsTrueGuard bytes (scan_guard old) place
         → IfOk answer (λ found. IsTrueScan bytes place found (scan_guard new))
 
--- the end that C is told of it
+-- the end that C gets of it
 module _ (bytes : List ℕ) (place : ℕ) (old new : Guard) where
-  told : (found : Option ℕ) (passed : ℕ) → IsAnswerTold found (scan_told (Ok found) passed)
-  told None passed = (refl, refl)
-  told (Some end) passed = (refl, refl)
+  returned : (found : Option ℕ) (passed : ℕ) → IsAnswerReturned found (scan_returned (Ok found) passed)
+  returned None passed = (refl, refl)
+  returned (Some end) passed = (refl, refl)
 
-  passed-told : (found : Option ℕ) (passed : ℕ) → (scan_told (Ok found) passed).passed ≡ passed
-  passed-told None passed = refl
-  passed-told (Some end) passed = refl
+  passed-returned : (found : Option ℕ) (passed : ℕ) → (scan_returned (Ok found) passed).passed ≡ passed
+  passed-returned None passed = refl
+  passed-returned (Some end) passed = refl
 
   pub guarded : (answer : Result (Option ℕ) HtmlStop) (text : CountedBytes) → IsScan bytes place old new answer text
-      → IsGuardedEnd bytes place old new (scan_told answer text.passed)
+      → IsGuardedEnd bytes place old new (scan_returned answer text.passed)
   guarded (Err why) text scan =
-      inl (scan.refused.1, ap guard_told scan.unchanged.1, refl, refl, ap (λ t. t.passed) scan.unchanged.0)
+      inl (scan.refused.1, ap guard_returned scan.unchanged.1, refl, refl, ap (λ t. t.passed) scan.unchanged.0)
   guarded (Ok found) text scan = inr (
     scan.opened,
     record {
-      answers = subst (λ a. IsAnswerTold a (scan_told (Ok found) text.passed)) scan.answers (told found text.passed);
+      answers = subst (λ a. IsAnswerReturned a (scan_returned (Ok found) text.passed)) scan.answers (returned found text.passed);
       guards = scan.guards;
-      counts = passed-told found text.passed ∙ ap (λ t. t.passed) scan.counts ∙ zero-add _;
+      counts = passed-returned found text.passed ∙ ap (λ t. t.passed) scan.counts ∙ zero-add _;
     },
   )
 
-  find_told : (found : Option ℕ) (passed : ℕ) → opener_before bytes place ≢ None → found ≡ find_at bytes place
-      → IsFindEnd bytes place (scan_told (Ok found) passed)
-  find_told None passed opened finds = inr (inl (refl, refl, opened, sym finds))
-  find_told (Some end) passed opened finds = inr (inr (refl, sym finds))
+  find_returned : (found : Option ℕ) (passed : ℕ) → opener_before bytes place ≢ None → found ≡ find_at bytes place
+      → IsFindEnd bytes place (scan_returned (Ok found) passed)
+  find_returned None passed opened finds = inr (inl (refl, refl, opened, sym finds))
+  find_returned (Some end) passed opened finds = inr (inr (refl, sym finds))
 
-  outside : (found : Option ℕ) (passed later : ℕ) → (scan_told (Ok found) passed).end ≤ later
+  outside : (found : Option ℕ) (passed later : ℕ) → (scan_returned (Ok found) passed).end ≤ later
       → IfSome found (λ end. end ≤ later)
   outside None passed later after = tt
   outside (Some end) passed later after = after
@@ -75,7 +75,7 @@ module _ (bytes : List ℕ) (place : ℕ) (old new : Guard) where
   true_end : (answer : Result (Option ℕ) HtmlStop) (text : CountedBytes) → IsScan bytes place old new answer text
       → (opener_before bytes place ≢ None → IsTrueGuard bytes (scan_guard old) place)
       → ((later : ℕ) → place < later → IsTrueGuard bytes (scan_guard old) later)
-      → IsTrueEnd bytes place new (scan_told answer text.passed)
+      → IsTrueEnd bytes place new (scan_returned answer text.passed)
   true_end (Err why) text scan here there = record {
     finds = inl (refl, refl, scan.refused.1);
     stays_true = λ later after past. rw scan.unchanged.1 (there later after);
@@ -83,18 +83,18 @@ module _ (bytes : List ℕ) (place : ℕ) (old new : Guard) where
   true_end (Ok found) text scan here there =
       let is = scan.finds (here scan.opened) in
       record {
-        finds = find_told found text.passed scan.opened is.finds;
+        finds = find_returned found text.passed scan.opened is.finds;
         stays_true = λ later after past. is.stays_true later after (outside found text.passed later past);
       }
 
   pub ends : (answer : Result (Option ℕ) HtmlStop) (text : CountedBytes) → IsScan bytes place old new answer text
-      → IsTrueGuard bytes (scan_guard old) place → IsTrueEnd bytes place new (scan_told answer text.passed)
+      → IsTrueGuard bytes (scan_guard old) place → IsTrueEnd bytes place new (scan_returned answer text.passed)
   ends answer text scan is =
       true_end answer text scan (λ opened. is)
       (λ later after. IsTrueGuard-later bytes (scan_guard old) place later (omega (arith, after)) is)
 
   pub ends_first : (answer : Result (Option ℕ) HtmlStop) (text : CountedBytes) → IsScan bytes place old new answer text
-      → old ≡ new_guard → IsTrueEnd bytes place new (scan_told answer text.passed)
+      → old ≡ new_guard → IsTrueEnd bytes place new (scan_returned answer text.passed)
   ends_first answer text scan first =
       true_end answer text scan
       (λ opened.
@@ -105,12 +105,12 @@ module _ (bytes : List ℕ) (place : ℕ) (old new : Guard) where
   -- a scan at the last of rising places outside earlier finds, under the guard that the others leave
   pub in_turn : (answer : Result (Option ℕ) HtmlStop) (text : CountedBytes) → IsScan bytes place old new answer text
       → (earlier : List ℕ) → AreScanPlaces bytes (earlier ++ place ∷ []) → scan_guard old ≡ guard_after_scans bytes first_guard earlier
-      → IsScanInTurn bytes earlier place new (scan_told answer text.passed)
+      → IsScanInTurn bytes earlier place new (scan_returned answer text.passed)
   in_turn (Err why) text scan earlier free same = absurd ((next_scan bytes earlier place free).opened scan.refused.1)
   in_turn (Ok found) text scan earlier free same =
       let next = next_scan bytes earlier place free in
-      let counts : (scan_told (Ok found) text.passed).passed ≡ bytes_scanned bytes (guard_after_scans bytes first_guard earlier) place =
-      passed-told found text.passed ∙ ap (λ t. t.passed) scan.counts ∙ zero-add _ ∙ ap (λ g. bytes_scanned bytes g place) same in
+      let counts : (scan_returned (Ok found) text.passed).passed ≡ bytes_scanned bytes (guard_after_scans bytes first_guard earlier) place =
+      passed-returned found text.passed ∙ ap (λ t. t.passed) scan.counts ∙ zero-add _ ∙ ap (λ g. bytes_scanned bytes g place) same in
       record {
         finds = (ends (Ok found) text scan (rw same next.true_guard)).finds;
         guards = scan.guards ∙ ap (λ g. guard_after_scan opening_at bytes g place) same ∙ sym next.guards;

@@ -15,8 +15,8 @@ use Rattle.markdown_scanners_c.specs.Buffer.{IsChangedFront}
 use Rattle.markdown_scanners_c.specs.Labels.{IsGiven, IsStart}
 use Rattle.markdown_scanners_c.specs.Skips.{is_ascii_front, are_skips, are_ascii_skips, left_out, LeavesOut}
 use Rattle.markdown_scanners_c.specs.Status.{past_end}
-use Rattle.markdown_scanners_c.specs.private.LabelText.{ToldAscii, space_len}
-use Rattle.markdown_scanners_c.specs.private.Searched.{searched, told_skip}
+use Rattle.markdown_scanners_c.specs.private.LabelText.{ReturnedAscii, space_len}
+use Rattle.markdown_scanners_c.specs.private.Searched.{searched, returned_skip}
 use Rattle.markdown_scanners_c.specs.declared.skips.Skip.{Skip}
 use Rattle.markdown_scanners_c.proofs.Buffers.{front_changed, no_refused_place}
 use Rattle.markdown_scanners_c.proofs.SameKept.{AgreeOnRests, kept_too}
@@ -63,31 +63,31 @@ all_take test (suc m) (b ∷ xs) all =
     and_from _ _ parts.0 (all_take test m xs parts.1)
 
 module _ (skips : List Skip) (bytes : List ℕ) where
-  -- what is told is what a search finds, all of the rest where that is more, and is ASCII
-  told_is : (rest : List ℕ) (skip : ℕ) → ToldAscii skips bytes rest skip
-      → (skip ≡ told_skip skips bytes rest) × (is_ascii_front rest skip ≡ true)
-  told_is rest skip told =
-      let found = told_skip skips bytes rest in
+  -- what is returned is what a search finds, all of the rest where that is more, and is ASCII
+  returned_is : (rest : List ℕ) (skip : ℕ) → ReturnedAscii skips bytes rest skip
+      → (skip ≡ returned_skip skips bytes rest) × (is_ascii_front rest skip ≡ true)
+  returned_is rest skip returned =
+      let found = returned_skip skips bytes rest in
       elim (cases_Bool (is_ascii_front rest found)) [
         | inl front ↦
-            (let same : Some found ≡ Some skip = rw front at told in
+            (let same : Some found ≡ Some skip = rw front at returned in
             let is : found ≡ skip = cc in
             (sym is, subst (λ n. is_ascii_front rest n ≡ true) is front))
-        | inr other ↦ absurd (let lacks = rw other at told in cc)
+        | inr other ↦ absurd (let lacks = rw other at returned in cc)
       ]
 
-  pub told_front : (rest : List ℕ) (skip : ℕ) → ToldAscii skips bytes rest skip → IsAsciiFront rest skip
-  told_front rest skip told =
-      let parts = and_parts (nat_le skip (length rest)) _ (told_is rest skip told).1 in
+  pub returned_front : (rest : List ℕ) (skip : ℕ) → ReturnedAscii skips bytes rest skip → IsAsciiFront rest skip
+  returned_front rest skip returned =
+      let parts = and_parts (nat_le skip (length rest)) _ (returned_is rest skip returned).1 in
       (leb-true skip (length rest) parts.0, parts.1)
 
   -- with a table of a text that the bytes begin
   module _ (behind : List ℕ) (stand : are_skips skips (bytes ++ behind) ≡ true)
       (ascii : are_ascii_skips skips (bytes ++ behind) ≡ true) where
-    ascii_there : (p : ℕ) → let rest = drop p bytes in list_all (λ b. nat_lt b 128) (take (told_skip skips bytes rest) rest) ≡ true
+    ascii_there : (p : ℕ) → let rest = drop p bytes in list_all (λ b. nat_lt b 128) (take (returned_skip skips bytes rest) rest) ≡ true
     ascii_there p =
         let rest = drop p bytes in
-        let m = told_skip skips bytes rest in
+        let m = returned_skip skips bytes rest in
         let size = length-drop p bytes in
         elim (cases_lt (length bytes) p) [
           | inl past ↦
@@ -108,30 +108,30 @@ module _ (skips : List Skip) (bytes : List ℕ) where
               (subst (λ xs. list_all (λ b. nat_lt b 128) (take n xs) ≡ true) whole front.1)))
         ]
 
-    told_is_left_out : AgreeOnRests bytes (ToldAscii skips bytes) (LeavesOut skips bytes)
-    told_is_left_out p n told =
+    returned_is_left_out : AgreeOnRests bytes (ReturnedAscii skips bytes) (LeavesOut skips bytes)
+    returned_is_left_out p n returned =
         let rest = drop p bytes in
         let place = length bytes - length rest in
-        (left_out skips place, refl, omega (arith, (told_is rest n told).0, finds skips bytes behind stand place))
+        (left_out skips place, refl, omega (arith, (returned_is rest n returned).0, finds skips bytes behind stand place))
 
-    left_out_is_told : AgreeOnRests bytes (LeavesOut skips bytes) (ToldAscii skips bytes)
-    left_out_is_told p n leaves =
+    left_out_is_returned : AgreeOnRests bytes (LeavesOut skips bytes) (ReturnedAscii skips bytes)
+    left_out_is_returned p n leaves =
         let rest = drop p bytes in
-        let m = told_skip skips bytes rest in
+        let m = returned_skip skips bytes rest in
         let front : is_ascii_front rest m ≡ true = and_from _ _ (le-leb m (length rest) (omega arith)) (ascii_there p) in
         (m, rw front refl, omega (arith, leaves, finds skips bytes behind stand (length bytes - length rest)))
 
-    -- A label of what is told is one of what is left out, and the other way.
-    pub label_of_told : (p : ℕ) (t : Bool) (label : Label) → IsLabel (ToldAscii skips bytes) (drop p bytes) t label
+    -- A label of what is returned is one of what is left out, and the other way.
+    pub label_of_returned : (p : ℕ) (t : Bool) (label : Label) → IsLabel (ReturnedAscii skips bytes) (drop p bytes) t label
         → IsLabel (LeavesOut skips bytes) (drop p bytes) t label
-    label_of_told p t label is =
-        let too = kept_too bytes (ToldAscii skips bytes) (LeavesOut skips bytes) told_is_left_out 0 p is.skips is.answered in
+    label_of_returned p t label is =
+        let too = kept_too bytes (ReturnedAscii skips bytes) (LeavesOut skips bytes) returned_is_left_out 0 p is.skips is.answered in
         record { skips = too.0; answered = too.1; label_is = ap (label_of t) too.2 ∙ is.label_is }
 
-    pub label_as_told : (p : ℕ) (t : Bool) (label : Label) → IsLabel (LeavesOut skips bytes) (drop p bytes) t label
-        → IsLabel (ToldAscii skips bytes) (drop p bytes) t label
-    label_as_told p t label is =
-        let too = kept_too bytes (LeavesOut skips bytes) (ToldAscii skips bytes) left_out_is_told 0 p is.skips is.answered in
+    pub label_as_returned : (p : ℕ) (t : Bool) (label : Label) → IsLabel (LeavesOut skips bytes) (drop p bytes) t label
+        → IsLabel (ReturnedAscii skips bytes) (drop p bytes) t label
+    label_as_returned p t label is =
+        let too = kept_too bytes (LeavesOut skips bytes) (ReturnedAscii skips bytes) left_out_is_returned 0 p is.skips is.answered in
         record { skips = too.0; answered = too.1; label_is = ap (label_of t) too.2 ∙ is.label_is }
 
 -- ---- where a label stands

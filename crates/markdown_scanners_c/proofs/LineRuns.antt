@@ -39,10 +39,10 @@ pub run_next : (s s' : LineState) (known known' : KnownBreaks) (call : LineCall)
     → behind_answers made (state_run s known (call ∷ left))
     ≡ behind_answers (made ++ (answer ∷ [])) (state_run s' known' left)
 run_next s s' known known' call left answer made goes step learnt =
-    let told = (plain_step call (rest_of s)).answer in
+    let returned = (plain_step call (rest_of s)).answer in
     let later = state_run (columns_further (plain_step call (rest_of s)).taken s) (learnt_by_call call s known) left in
     ap (behind_answers made) (run_goes s known call left goes)
-    ∙ ap (λ answers. record later { answers = answers }) (sym (append_assoc made (told ∷ []) later.answers))
+    ∙ ap (λ answers. record later { answers = answers }) (sym (append_assoc made (returned ∷ []) later.answers))
     ∙ ap (λ it. behind_answers (made ++ (it ∷ [])) later) (sym step.answered)
     ∙ ap (λ it. behind_answers (made ++ (answer ∷ [])) (state_run it (learnt_by_call call s known) left)) (sym step.moved)
     ∙ ap (λ it. behind_answers (made ++ (answer ∷ [])) (state_run s' it left)) (sym learnt)
@@ -68,7 +68,7 @@ run_ends s known call left stop made h =
     ap (behind_answers made) (run_stops s known call left stop h)
     ∙ ap (λ answers. record none { answers = answers }) (append-nil made)
 
--- An answer more is written behind those that stand at the front of the buffer.
+-- An answer more is written after those that stand at the front of the buffer.
 pub answers_next : (made : List LineAnswer) (answer : LineAnswer) (old : List Answer) (index : ℕ)
     → length made ≡ index → index < length old
     → slice_set (map answer_of made ++ drop index old) index (answer_of answer)
@@ -104,7 +104,7 @@ asks_before_list calls index none inside =
 take_front : {A : Type 0} (xs ys : List A) (n : ℕ) → length xs ≡ n → take n (xs ++ ys) ≡ xs
 take_front xs ys n size = subst (λ k. take k (xs ++ ys) ≡ xs) size (take-append_seam xs ys)
 
--- One call more is made than so many, and an answer written behind theirs, the right one or not.
+-- One call more is made than so many, and an answer written after theirs, the right one or not.
 pub made_next : (made : List LineAnswer) (answer : LineAnswer) (run : StateRun) (s : LineState) (known : KnownBreaks)
     (call : LineCall) (left : List LineCall) (others : List Answer) (n : ℕ) → length made ≡ n
     → run ≡ behind_answers made (state_run s known (call ∷ left)) → line_refusal (s.pending == 0) call ≡ None
@@ -125,7 +125,7 @@ made_next made answer run s known call left others n size same goes =
           ∙ sym (ap (map answer_of) (ap (take n) whole ∙ take_front made _ n size));
     }
 
--- what is written behind the first answers leaves them
+-- what is written after the first answers leaves them
 pub still_made : (n : ℕ) (run : StateRun) (answers : List Answer) (index : ℕ) (answer : Answer) → n ≤ index
     → IsMadeTo n run answers → IsMadeTo n run (slice_set answers index answer)
 still_made n run answers index answer behind made =

@@ -62,7 +62,7 @@ cut_title start taken bytes rest same text two begins ends behind = (
   place_in start bytes rest same text taken (start + taken) refl behind,
 )
 
--- both ends of n bytes before a closing byte, and the place behind that
+-- both ends of n bytes before a closing byte, and the place after that
 pub cut_closed : (start n : ℕ) (bytes rest : List ℕ) → rest ≡ drop start bytes → IsTextPlace bytes start
     → (IsUtf8 rest → IsCharBoundary rest n) → (IsUtf8 rest → IsCharBoundary rest (n + 1))
     → IsCharBoundary bytes start × IsCharBoundary bytes (start + n) × IsCharBoundary bytes (start + n + 1)

@@ -35,7 +35,7 @@ module _ (bytes : List ℕ) (answers others : List ℕ → ℕ → Type 0) (agre
       let there : drop line source ≡ drop (p + line) bytes = drop-drop line p bytes in
       let other = agree (p + line) n (subst (λ r. answers r n) there are.1) in
       let m = other.0 in
-      let told : others rest m = subst (λ r. others r m) (sym there) other.1 in
+      let returned : others rest m = subst (λ r. others r m) (sym there) other.1 in
       let least : min m (length rest) ≡ min n (length rest) =
       subst (λ r. min m (length r) ≡ min n (length r)) (sym there) other.2 in
       let size = length-drop line source in
@@ -46,14 +46,14 @@ module _ (bytes : List ℕ) (answers others : List ℕ → ℕ → Type 0) (agre
             let later = subst (λ s. KeptToo (place + (line + n)) s ns) (sym next)
             (kept_too (place + (line + n)) (p + (line + n)) ns (subst (λ s. AreSkips answers s ns) next are.2)) in (
               n ∷ later.0,
-              (are.0, subst (others rest) same told, later.1),
+              (are.0, subst (others rest) same returned, later.1),
               ap (λ ks. kept_line place source ++ ks) later.2,
             ))
         | inr past ↦
             (let mine = kept_past answers (place + (line + n)) (line + n) source ns (omega (arith, past, size)) are.2 in
             let its = kept_past others (place + (line + m)) (line + m) source [] (omega (arith, past, least, size)) tt in (
               m ∷ [],
-              (are.0, told, tt),
+              (are.0, returned, tt),
               ap (λ ks. kept_line place source ++ ks) (its ∙ sym mine),
             ))
       ]

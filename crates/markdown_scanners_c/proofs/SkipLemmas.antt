@@ -24,7 +24,7 @@ module _ (size : ℕ) where
       let tests = and_parts (nat_le from skip.place) (nat_le (skip.place + skip.length) size) parts.0 in
       (leb-true _ _ tests.0, leb-true _ _ tests.1, parts.1)
 
-  -- each stands at the first place or behind it
+  -- each stands at the first place or after it
   above : (from : ℕ) (skips : List Skip) → stand_from from size skips ≡ true → (i : ℕ) → i < length skips → from ≤ place_at skips i
   above from [] stand i below = absurd (omega arith)
   above from (skip ∷ skips) stand zero below = (first from skip skips stand).0
@@ -43,8 +43,8 @@ module _ (size : ℕ) where
       (none_before (skip.place + max skip.length 1) skips place facts.2 (omega (arith, before, facts.0)))
 
   module _ (place : ℕ) where
-    -- The skip at an index is that of the place; or it stands before the place, and one behind it may be; or it stands
-    -- behind the place, and one before it may be.
+    -- The skip at an index is that of the place; or it stands before the place, and one after it may be; or it stands
+    -- after the place, and one before it may be.
     hit : (from : ℕ) (skips : List Skip) (i : ℕ) → stand_from from size skips ≡ true → i < length skips
         → place_at skips i ≡ place → left_out skips place ≡ (get_or skips i no_skip).length
     hit from [] i stand below same = absurd (omega (arith, below))

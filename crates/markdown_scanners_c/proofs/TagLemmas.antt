@@ -6,7 +6,7 @@ use Rattle.markdown_scanners_tree.specs.Kept.{KeptByte, AreSkips, line_len}
 use Rattle.markdown_scanners_tree.specs.scanners.html_tag.KeptTag.{IsKeptTag, place_after, tag_buffer}
 use Rattle.markdown_scanners_tree.proofs.RisingBytes.{Rises, kept_rises, rises_front, rises_length}
 use Rattle.markdown_scanners_c.specs.Skips.{are_skips, left_out, LeavesOut}
-use Rattle.markdown_scanners_c.specs.private.Searched.{told_skip}
+use Rattle.markdown_scanners_c.specs.private.Searched.{returned_skip}
 use Rattle.markdown_scanners_c.specs.declared.skips.Skip.{Skip}
 use Rattle.markdown_scanners_c.proofs.SameKept.{AgreeOnRests, kept_too}
 use Rattle.markdown_scanners_c.proofs.SkipLemmas.{finds}
@@ -39,19 +39,19 @@ tag_too bytes answers others agree p tag is =
     }
 
 -- what a search tells, and what a table in order leaves out
-abbrev pub Told : List Skip → List ℕ → List ℕ → ℕ → Type 0
-Told skips bytes rest skip = skip ≡ told_skip skips bytes rest
+abbrev pub Returned : List Skip → List ℕ → List ℕ → ℕ → Type 0
+Returned skips bytes rest skip = skip ≡ returned_skip skips bytes rest
 
 module _ (skips : List Skip) (bytes behind : List ℕ) (stand : are_skips skips (bytes ++ behind) ≡ true) where
-  pub told_is_left_out : AgreeOnRests bytes (Told skips bytes) (LeavesOut skips bytes)
-  told_is_left_out p n told =
+  pub returned_is_left_out : AgreeOnRests bytes (Returned skips bytes) (LeavesOut skips bytes)
+  returned_is_left_out p n returned =
       let place = length bytes - length (drop p bytes) in
-      (left_out skips place, refl, omega (arith, told, finds skips bytes behind stand place))
+      (left_out skips place, refl, omega (arith, returned, finds skips bytes behind stand place))
 
-  pub left_out_is_told : AgreeOnRests bytes (LeavesOut skips bytes) (Told skips bytes)
-  left_out_is_told p n leaves =
+  pub left_out_is_returned : AgreeOnRests bytes (LeavesOut skips bytes) (Returned skips bytes)
+  left_out_is_returned p n leaves =
       let rest = drop p bytes in
-      (told_skip skips bytes rest, refl, omega (arith, leaves, finds skips bytes behind stand (length bytes - length rest)))
+      (returned_skip skips bytes rest, refl, omega (arith, leaves, finds skips bytes behind stand (length bytes - length rest)))
 
 -- ---- how long the text of a tag is
 

@@ -1,4 +1,4 @@
--- How C is told whether something was found.
+-- How C learns whether something was found.
 use Rattle.std.specs.Prelude.{ℕ, List, ◌≡◌, ◌≤◌, ◌<◌, ◌-◌, ◌^◌, ◌⊎◌, length}
 use Rattle.markdown_values.specs.values.Headings.{heading_number}
 use Rattle.markdown_values.specs.declared.values.HeadingLevel.{HeadingLevel}

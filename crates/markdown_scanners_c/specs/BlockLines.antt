@@ -12,7 +12,7 @@ use Rattle.markdown_blocks.specs.declared.step.Step.{Step}
 use Rattle.markdown_blocks.specs.taken.Whole.{AreWhole}
 use Rattle.markdown_blocks.specs.walk.Walk.{IsStep}
 use Rattle.markdown_scanners_c.specs.Buffer.{IsWritten}
-use Rattle.markdown_scanners_c.specs.Pages.{block_quote, container_told, footnote, is_container, kind_told, of_kind, term_definition}
+use Rattle.markdown_scanners_c.specs.Pages.{block_quote, container_returned, footnote, is_container, kind_returned, of_kind, term_definition}
 use Rattle.markdown_scanners_c.specs.Status.{ok, nothing, no_memory, bad_kind, bad_state}
 use Rattle.markdown_scanners_c.specs.declared.block_lines.LineBlock.{LineBlock}
 use Rattle.markdown_scanners_c.specs.declared.block_lines.OpenBlocks.{OpenBlocks}
@@ -26,7 +26,7 @@ AreBlockExtensions extensions = extensions ≤ 3
 abbrev pub blocks_asked_by : ℕ → BlockExtensions
 blocks_asked_by extensions = record { footnotes = bit_and extensions 1 == 1; definition_lists = bit_and extensions 2 == 2; no_tables = false }
 
--- the container that is open: of an item or a definition of a term whose first line alone is read, and is blank behind its marker, `count`
+-- the container that is open: of an item or a definition of a term whose first line alone is read, and is blank after its marker, `count`
 -- is 1
 abbrev pub open_in : Block → Container
 open_in block =
@@ -36,22 +36,22 @@ open_in block =
     else Item (record { delimiter = block.byte; begun = block.count == 1; width = block.width; start = block.number })
 
 -- a container that is open, whose marker stands at the place, as C has it
-abbrev pub open_told : Container → ℕ → Block
-open_told Quote place = container_told Quote place
-open_told Footnote place = container_told Footnote place
-open_told (TermDefinition definition) place =
-    record (container_told (TermDefinition definition) place) { count = if definition.begun then 1 else 0 }
-open_told (Item item) place = record (container_told (Item item) place) { count = if item.begun then 1 else 0 }
+abbrev pub open_returned : Container → ℕ → Block
+open_returned Quote place = container_returned Quote place
+open_returned Footnote place = container_returned Footnote place
+open_returned (TermDefinition definition) place =
+    record (container_returned (TermDefinition definition) place) { count = if definition.begun then 1 else 0 }
+open_returned (Item item) place = record (container_returned (Item item) place) { count = if item.begun then 1 else 0 }
 
 -- containers that the rest of a line begins, one in the other, each with the place of its marker
-abbrev pub begun_told : LineState → List Container → List Block
-begun_told s [] = []
-begun_told s (c ∷ inner) = open_told c (marker_place s) ∷ begun_told (after_marker s) inner
+abbrev pub begun_returned : LineState → List Container → List Block
+begun_returned s [] = []
+begun_returned s (c ∷ inner) = open_returned c (marker_place s) ∷ begun_returned (after_marker s) inner
 
--- those that are open after a step: the ones that its line goes on with have no place, and behind them are those that it begins
-abbrev pub opened_told : Step → List Container → List Block
-opened_told step containers =
-    map (λ c. open_told c 0) (take step.kept containers) ++ begun_told step.start (drop step.kept containers)
+-- those that are open after a step: the ones that its line goes on with have no place, and after them are those that it begins
+abbrev pub opened_returned : Step → List Container → List Block
+opened_returned step containers =
+    map (λ c. open_returned c 0) (take step.kept containers) ++ begun_returned step.start (drop step.kept containers)
 
 -- so many of the caller's containers are open, each of these is one, and the state is a bit
 abbrev pub AreOpen : List Block → OpenBlocks → Type 0
@@ -72,8 +72,8 @@ AreLinesRead text has_ended lines =
     (count : ℕ) × MatchBool has_ended (count ≡ length text) (AreWhole text count) × (lines ≡ take count text)
 
 -- a block whose lines stand at the front of the text, as C has it
-abbrev pub step_told : Step → Block
-step_told step = record (of_kind (kind_told step.block.kind)) {
+abbrev pub step_returned : Step → Block
+step_returned step = record (of_kind (kind_returned step.block.kind)) {
   indent = step.indent;
   lines = step.block.taken.lines;
   bytes = step.block.taken.bytes;
@@ -85,35 +85,35 @@ abbrev pub no_line : ℕ → LineBlock
 no_line status = record { status = status; kept = 0; depth = 0 }
 
 -- what is written, where the status is that of an answer
-abbrev pub if_told : {A : Type 0} → LineBlock → A → A → A
-if_told told new old = if told.status == ok then new else old
+abbrev pub if_returned : {A : Type 0} → LineBlock → A → A → A
+if_returned returned new old = if returned.status == ok then new else old
 
--- what the caller keeps for the next call, if the block is told: how many containers are open now, and whether a term stands there
+-- what the caller keeps for the next call, if the block is returned: how many containers are open now, and whether a term stands there
 abbrev pub page_after : OpenBlocks → LineBlock → Between → OpenBlocks
-page_after page told after = if_told told (record page { depth = told.depth; state = if after.term then 1 else 0 }) page
+page_after page returned after = if_returned returned (record page { depth = returned.depth; state = if after.term then 1 else 0 }) page
 
--- The block at the front of the lines is told, whatever lines follow, and the containers that are open then are written, with the
+-- The block at the front of the lines is returned, whatever lines follow, and the containers that are open then are written, with the
 -- block; or there is no room for these.
-abbrev pub IsStepTold : Between → List ℕ → Bool → OpenBlocks → OpenBlocks → List Block → List Block → Block → Block → LineBlock → Type 0
-IsStepTold outer lines has_ended page kept old new before block told =
+abbrev pub IsStepReturned : Between → List ℕ → Bool → OpenBlocks → OpenBlocks → List Block → List Block → Block → Block → LineBlock → Type 0
+IsStepReturned outer lines has_ended page kept old new before block returned =
     (step : Step) × (after : Between)
     × ((more : List (List ℕ)) → (IsTrue has_ended → more ≡ []) → IsStep outer lines more step after)
-    × (told.kept ≡ step.kept) × (block ≡ if_told told (step_told step) before) × (kept ≡ page_after page told after)
-    × IsWritten (opened_told step after.containers) old new told.status told.depth
+    × (returned.kept ≡ step.kept) × (block ≡ if_returned returned (step_returned step) before) × (kept ≡ page_after page returned after)
+    × IsWritten (opened_returned step after.containers) old new returned.status returned.depth
 
--- Of the lines that are read the block at the front is told, or none of them is over; or memory was refused.
+-- Of the lines that are read the block at the front is returned, or none of them is over; or memory was refused.
 abbrev pub IsLineOf : Between → List ℕ → Bool → OpenBlocks → OpenBlocks → List Block → List Block → Block → Block → LineBlock → Type 0
-IsLineOf outer lines has_ended page kept old new before block told =
-    ((told ≡ no_line no_memory) × (kept ≡ page) × (new ≡ old) × (block ≡ before))
-    ⊎ ((told ≡ no_line nothing) × (kept ≡ page) × (new ≡ old) × (block ≡ before) × NoneIsOver outer lines has_ended)
-    ⊎ IsStepTold outer lines has_ended page kept old new before block told
+IsLineOf outer lines has_ended page kept old new before block returned =
+    ((returned ≡ no_line no_memory) × (kept ≡ page) × (new ≡ old) × (block ≡ before))
+    ⊎ ((returned ≡ no_line nothing) × (kept ≡ page) × (new ≡ old) × (block ≡ before) × NoneIsOver outer lines has_ended)
+    ⊎ IsStepReturned outer lines has_ended page kept old new before block returned
 
--- Some bit is no extension; or what is given as open can't be, or begins no container; or the block is told.
-unfoldable pub IsLineTold : List ℕ → Bool → OpenBlocks → OpenBlocks → List Block → List Block → Block → Block → LineBlock → Type 0
-IsLineTold text has_ended page kept old new before block told =
-    ((told ≡ no_line bad_kind) × (kept ≡ page) × (new ≡ old) × (block ≡ before) × ¬ AreBlockExtensions page.extensions)
-    ⊎ ((told ≡ no_line bad_state) × (kept ≡ page) × (new ≡ old) × (block ≡ before) × AreBlockExtensions page.extensions
+-- Some bit is no extension; or what is given as open can't be, or begins no container; or the block is returned.
+unfoldable pub IsLineReturned : List ℕ → Bool → OpenBlocks → OpenBlocks → List Block → List Block → Block → Block → LineBlock → Type 0
+IsLineReturned text has_ended page kept old new before block returned =
+    ((returned ≡ no_line bad_kind) × (kept ≡ page) × (new ≡ old) × (block ≡ before) × ¬ AreBlockExtensions page.extensions)
+    ⊎ ((returned ≡ no_line bad_state) × (kept ≡ page) × (new ≡ old) × (block ≡ before) × AreBlockExtensions page.extensions
     × ¬ AreOpen old page)
     ⊎ (AreBlockExtensions page.extensions × AreOpen old page
     × (lines : List ℕ) × AreLinesRead text has_ended lines
-    × IsLineOf (outer_in old page) lines has_ended page kept old new before block told)
+    × IsLineOf (outer_in old page) lines has_ended page kept old new before block returned)

@@ -3,7 +3,7 @@ use Rattle.std.specs.Prelude.{ℕ, List, ◌≡◌, ◌≢◌, ◌≤◌, ◌<�
 use Rattle.markdown_scanners_c.specs.Status.{ok, too_short}
 
 -- The text stands at the front of the buffer, whose other bytes are as they were; or it is longer than the buffer, in
--- which nothing has changed. Its length is told in both cases. The same of a list of structs.
+-- which nothing has changed. Its length is returned in both cases. The same of a list of structs.
 abbrev pub IsWritten : {A : Type 0} → List A → List A → List A → ℕ → ℕ → Type 0
 IsWritten text old new status needed =
     (needed ≡ length text)

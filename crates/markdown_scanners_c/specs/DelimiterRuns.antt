@@ -9,18 +9,18 @@ use Rattle.markdown_scanners_c.specs.declared.delimiter_runs.DelimiterRun.{Delim
 
 -- a status, and no run
 abbrev pub IsNoRun : ℕ → DelimiterRun → Type 0
-IsNoRun status told =
-    (told.status ≡ status) × (told.byte ≡ 0) × (told.can_open ≡ false) × (told.can_close ≡ false) × (told.count ≡ 0)
+IsNoRun status returned =
+    (returned.status ≡ status) × (returned.byte ≡ 0) × (returned.can_open ≡ false) × (returned.can_close ≡ false) × (returned.count ≡ 0)
 
--- the run that is told
-abbrev pub run_told : DelimiterRun → Run
-run_told told = record { byte = told.byte; count = told.count; can_open = told.can_open; can_close = told.can_close }
+-- the run that is returned
+abbrev pub run_returned : DelimiterRun → Run
+run_returned returned = record { byte = returned.byte; count = returned.count; can_open = returned.can_open; can_close = returned.can_close }
 
 -- No run begins at the place; or one does, beside which the bytes are no text; or one does, which is the longest of its byte
--- there, and of a text it is told too whether it can open and close emphasis.
-unfoldable pub IsToldRun : List ℕ → ℕ → DelimiterRun → Type 0
-IsToldRun bytes place told =
-    (IsNoRun nothing told × ((run : Run) → ¬ IsDelimiterRun bytes place run))
-    ⊎ (IsNoRun not_utf8 told × ¬ IsUtf8 bytes)
-    ⊎ ((told.status ≡ ok) × (0 < told.count) × (told.count ≡ prefix_len (λ b. b == told.byte) (drop place bytes))
-    × (IsUtf8 bytes → IsDelimiterRun bytes place (run_told told)))
+-- there, and of a text it is returned too whether it can open and close emphasis.
+unfoldable pub IsReturnedRun : List ℕ → ℕ → DelimiterRun → Type 0
+IsReturnedRun bytes place returned =
+    (IsNoRun nothing returned × ((run : Run) → ¬ IsDelimiterRun bytes place run))
+    ⊎ (IsNoRun not_utf8 returned × ¬ IsUtf8 bytes)
+    ⊎ ((returned.status ≡ ok) × (0 < returned.count) × (returned.count ≡ prefix_len (λ b. b == returned.byte) (drop place bytes))
+    × (IsUtf8 bytes → IsDelimiterRun bytes place (run_returned returned)))

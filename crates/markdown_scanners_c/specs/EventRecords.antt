@@ -166,7 +166,7 @@ texts_of events = flat_map (λ (event : RangedEvent). event_words event.0) event
 
 -- ---- records
 
--- an event whose texts stand behind so many bytes of others
+-- an event whose texts stand after so many bytes of others
 abbrev pub event_record : ℕ → RangedEvent → PageEvent
 event_record place event = record {
   kind = kind_number event.0;
@@ -183,7 +183,7 @@ event_record place event = record {
   label_length = length (event_label event.0);
 }
 
--- events, of which the first has its texts there, and each later one behind those of the one before
+-- events, of which the first has its texts there, and each later one after those of the one before
 abbrev pub records_from : ℕ → List RangedEvent → List PageEvent
 records_from place [] = []
 records_from place (event ∷ later) = event_record place event ∷ records_from (place + length (event_words event.0)) later

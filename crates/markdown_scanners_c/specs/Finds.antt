@@ -1,4 +1,4 @@
--- What C is told of a scan of inline HTML. (CommonMark 0.31.2, section 6.6, raw HTML)
+-- What C learns of a scan of inline HTML. (CommonMark 0.31.2, section 6.6, raw HTML)
 use Rattle.std.specs.Prelude.{ℕ, List, ◌≡◌, ◌≢◌, ◌⊎◌, None, Some}
 use Rattle.markdown_scanners_tree.specs.inline_html.InlineHtml.{find_at, opener_before}
 use Rattle.markdown_scanners_c.specs.Status.{ok, nothing, no_opener}

@@ -22,14 +22,14 @@ scan_guard guard = record {
 abbrev pub new_guard : Guard
 new_guard = record { comment = 0; cdata = 0; declaration = 0; processing = 0 }
 
--- an answer as C is told it
-abbrev pub IsAnswerTold : Option ℕ → End → Type 0
-IsAnswerTold None found = (found.status ≡ nothing) × (found.end ≡ 0)
-IsAnswerTold (Some end) found = (found.status ≡ ok) × (found.end ≡ end)
+-- an answer as C gets it
+abbrev pub IsAnswerReturned : Option ℕ → End → Type 0
+IsAnswerReturned None found = (found.status ≡ nothing) × (found.end ≡ 0)
+IsAnswerReturned (Some end) found = (found.status ≡ ok) × (found.end ≡ end)
 
 -- what a scan at the place, just after an opener, answers under the guard, leaves as the guard, and passes over
 pub record IsScanUnder (bytes : List ℕ) (place : ℕ) (old new : HtmlScanGuard) (found : End) : Type 0 where
-  pub answers : IsAnswerTold (answer_of_scan opening_at bytes old place) found
+  pub answers : IsAnswerReturned (answer_of_scan opening_at bytes old place) found
   pub guards : new ≡ guard_after_scan opening_at bytes old place
   pub counts : found.passed ≡ bytes_scanned bytes old place
 
@@ -41,12 +41,12 @@ IsGuardedEnd bytes place old new found =
     ⊎ ((opener_before bytes place ≢ None)
     × IsScanUnder bytes place (scan_guard old) (scan_guard new) found)
 
--- The find is told, and the guard is true at each later place that is not below its end.
+-- The find is returned, and the guard is true at each later place that is not below its end.
 pub record IsTrueEnd (bytes : List ℕ) (place : ℕ) (new : Guard) (found : End) : Type 0 where
   pub finds : IsFindEnd bytes place found
   pub stays_true : (later : ℕ) → place < later → found.end ≤ later → IsTrueGuard bytes (scan_guard new) later
 
--- A scan at the place, where scans at the earlier places left the guard: the find is told, the guard is as scans at all of
+-- A scan at the place, where scans at the earlier places left the guard: the find is returned, the guard is as scans at all of
 -- them leave it, and they pass over at most four bytes for each byte of the text, and eight for each scan.
 pub record IsScanInTurn (bytes earlier : List ℕ) (place : ℕ) (new : Guard) (found : End) : Type 0 where
   pub finds : IsFindEnd bytes place found

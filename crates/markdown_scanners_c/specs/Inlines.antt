@@ -1,4 +1,4 @@
--- The inlines of a text, as C is told of them. (CommonMark 0.31.2, chapter 6)
+-- The inlines of a text, as C gets them. (CommonMark 0.31.2, chapter 6)
 use Rattle.std.specs.Prelude.{ℕ, ◌≡◌, ◌≤◌, ◌+◌, ◌-◌, ◌==◌, bit_and, ◌⊎◌, List, map, get_or, Option, Some, None, if◌then◌else◌}
 use Rattle.std.specs.declared.ops.Range.{Range}
 use Rattle.std.specs.Str.{IsUtf8}
@@ -77,8 +77,8 @@ inline_at kind start len = record {
   label_length = 0;
 }
 
-abbrev pub piece_told : Piece → Inline
-piece_told piece = record (inline_at (piece_number piece.kind) piece.start (piece.end - piece.start)) {
+abbrev pub piece_returned : Piece → Inline
+piece_returned piece = record (inline_at (piece_number piece.kind) piece.start (piece.end - piece.start)) {
   count = backticks_of piece.kind;
 }
 
@@ -114,24 +114,24 @@ with_target text (T.Wiki target) it = record it {
 }
 
 -- the opener of a link or an image, with where all of it ends and where it leads
-abbrev pub link_told : Link → Inline
-link_told link =
+abbrev pub link_returned : Link → Inline
+link_returned link =
     with_target link.text link.target
     (record (inline_at (opener_number link) link.source.start (link.text.start - link.source.start)) { end = link.source.end })
 
 -- the opener with this link, which it has wherever it begins one
-abbrev pub opener_told : Option Link → Inline
-opener_told None = inline_at 0 0 0
-opener_told (Some link) = link_told link
+abbrev pub opener_returned : Option Link → Inline
+opener_returned None = inline_at 0 0 0
+opener_returned (Some link) = link_returned link
 
-abbrev pub inline_told : List (Option Link) → Found → Inline
-inline_told links (Leaf piece) = piece_told piece
-inline_told links (StartEmphasis place count) = inline_at (start_number count) place count
-inline_told links (EndEmphasis place count) = inline_at (end_number count) place count
-inline_told links (StartStrikethrough place count) = inline_at strikethrough place count
-inline_told links (EndStrikethrough place count) = inline_at strikethrough_end place count
-inline_told links (StartLink number) = opener_told (get_or links number None)
-inline_told links (EndLink piece) = inline_at link_end piece.start (piece.end - piece.start)
+abbrev pub inline_returned : List (Option Link) → Found → Inline
+inline_returned links (Leaf piece) = piece_returned piece
+inline_returned links (StartEmphasis place count) = inline_at (start_number count) place count
+inline_returned links (EndEmphasis place count) = inline_at (end_number count) place count
+inline_returned links (StartStrikethrough place count) = inline_at strikethrough place count
+inline_returned links (EndStrikethrough place count) = inline_at strikethrough_end place count
+inline_returned links (StartLink number) = opener_returned (get_or links number None)
+inline_returned links (EndLink piece) = inline_at link_end piece.start (piece.end - piece.start)
 
 -- The bits of `enum mds_inline_extension`, of which there are two.
 abbrev pub AreExtensions : ℕ → Type 0
@@ -142,13 +142,13 @@ abbrev pub asked_by : ℕ → InlineExtensions
 asked_by extensions = record { strikethrough = bit_and extensions 1 == 1; wikilinks = bit_and extensions 2 == 2 }
 
 -- Some bit is no extension; or the text or a label is not UTF-8; or memory was refused; or the inlines of the text are written.
-unfoldable pub IsTextTold : List ℕ → List View → ℕ → List Inline → List Inline → InlineCount → Type 0
-IsTextTold text labels extensions old new told =
-    ((told.status ≡ bad_kind) × (told.count ≡ 0) × (new ≡ old) × ¬ (AreExtensions extensions))
-    ⊎ ((told.status ≡ not_utf8) × (told.count ≡ 0) × (new ≡ old)
+unfoldable pub IsTextReturned : List ℕ → List View → ℕ → List Inline → List Inline → InlineCount → Type 0
+IsTextReturned text labels extensions old new returned =
+    ((returned.status ≡ bad_kind) × (returned.count ≡ 0) × (new ≡ old) × ¬ (AreExtensions extensions))
+    ⊎ ((returned.status ≡ not_utf8) × (returned.count ≡ 0) × (new ≡ old)
     × AreExtensions extensions × ¬ (IsUtf8 text × AreTexts labels))
-    ⊎ ((told.status ≡ no_memory) × (told.count ≡ 0) × (new ≡ old)
+    ⊎ ((returned.status ≡ no_memory) × (returned.count ≡ 0) × (new ≡ old)
     × AreExtensions extensions × IsUtf8 text × AreTexts labels)
     ⊎ ((inlines : List Found) × (links : List (Option Link)) × AreExtensions extensions × IsUtf8 text × AreTexts labels
     × AreInlines text (record { asked = asked_by extensions; known = known_in labels }) inlines links
-    × IsWritten (map (inline_told links) inlines) old new told.status told.count)
+    × IsWritten (map (inline_returned links) inlines) old new returned.status returned.count)

@@ -17,8 +17,8 @@ IsKeyText label old new text =
     (IsNoText no_memory text × (new ≡ old))
     ⊎ ((text.taken ≡ length label) × IsWritten (key_bytes label) old new text.status text.length)
 
--- The bytes are no text; or they are one, and its key is told.
-abbrev pub IsToldKey : List ℕ → List ℕ → List ℕ → Text → Type 0
-IsToldKey label old new text =
+-- The bytes are no text; or they are one, and its key is returned.
+abbrev pub IsReturnedKey : List ℕ → List ℕ → List ℕ → Text → Type 0
+IsReturnedKey label old new text =
     (IsNoText not_utf8 text × ¬ (IsUtf8 label) × (new ≡ old))
     ⊎ (IsUtf8 label × IsKeyText label old new text)

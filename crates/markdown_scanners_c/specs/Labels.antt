@@ -23,7 +23,7 @@ IsStart bytes label start =
     × (take (length label.text) (drop start bytes) ≡ label.text))
     ⊎ ((label.plain ≡ false) × (start ≡ none))
 
--- A label at the place, over lines of which the skips are left out. The bytes that it takes are UTF-8; those behind it may
+-- A label at the place, over lines of which the skips are left out. The bytes that it takes are UTF-8; those after it may
 -- be any.
 abbrev pub IsLabelAt : List Skip → List ℕ → ℕ → Bool → Label → Type 0
 IsLabelAt skips bytes start in_table label =
@@ -45,7 +45,7 @@ IsLabelText IsOne bytes start old new text =
     ⊎ ((label : Label) × IsOne label × (text.end ≡ start + label.len) × IsStart bytes label text.start
     × IsGiven label.plain label.text old new text.status text.length)
 
--- The place is past the end; or the label at it is told.
+-- The place is past the end; or the label at it is returned.
 abbrev pub IsScannedLabel : Bool → List Skip → List ℕ → ℕ → List ℕ → List ℕ → LabelText → Type 0
 IsScannedLabel in_table skips bytes start old new text =
     IsAnswerAt bytes start (IsNoLabelText past_end text × (new ≡ old))

@@ -5,7 +5,7 @@ use Rattle.markdown_scanners_c.specs.Buffer.{IsWritten}
 use Rattle.markdown_scanners_c.specs.Status.{too_short}
 
 -- The text is written as any other where a `size_t` holds its length; else no buffer holds it, nothing has changed, and
--- the largest length is told.
+-- the largest length is returned.
 abbrev pub IsWrittenRest : List ℕ → List ℕ → List ℕ → ℕ → ℕ → Type 0
 IsWrittenRest text old new status needed =
     (length text ≤ none → IsWritten text old new status needed)

@@ -1,4 +1,4 @@
--- Runs of calls on a line start, and what C is told of them. (CommonMark 0.31.2, section 2.2, tabs)
+-- Runs of calls on a line start, and what C learns of them. (CommonMark 0.31.2, section 2.2, tabs)
 use Rattle.std.specs.Prelude.{ℕ, Bool, true, false, List, ◌≡◌, ◌≤◌, ◌<◌, ◌==◌, ◌++◌, Option, None, Some, not, nat_lt, drop, length, map, take, if◌then◌else◌}
 use Rattle.std.specs.List.{list_all, prefix_len}
 use Rattle.markdown_scanners_tree.specs.declared.line.run.LineAnswer.{LineAnswer}
@@ -31,7 +31,7 @@ line_call call =
     else if call.kind == 4 then ItemCall call.number
     else DefinitionCall call.number
 
--- an answer as C is told it
+-- an answer as C gets it
 abbrev pub answer_of : LineAnswer → Answer
 answer_of (Flag flag) = record { found = flag; delimiter = 0; start = 0; number = 0 }
 answer_of (Count n) = record { found = true; delimiter = 0; start = 0; number = n }
@@ -64,13 +64,13 @@ abbrev pub run_at : List ℕ → Start → List Call → StateRun
 run_at bytes start calls = state_run (state_on bytes start) (known_breaks start) (map line_call calls)
 
 -- These answers stand at the front of the buffer, whose others are as they were, and how many they are and why no more
--- calls were made is told.
+-- calls were made is returned.
 abbrev pub AreAnswers : List LineAnswer → Option LineStop → List Answer → List Answer → LineEnds → Type 0
 AreAnswers made stop old new ends =
     (ends.status ≡ run_status stop) × (ends.count ≡ length made)
     × (new ≡ map answer_of made ++ drop (length made) old)
 
--- A run is told, and the line start is where it stopped.
+-- A run is returned, and the line start is where it stopped.
 pub record IsRun (bytes : List ℕ) (run : StateRun) (new : Start) (old_answers new_answers : List Answer)
     (ends : LineEnds) : Type 0 where
   pub answers : AreAnswers run.answers run.stop old_answers new_answers ends
@@ -95,7 +95,7 @@ abbrev pub IsFront : Start → Type 0
 IsFront start =
     (start.place ≡ 0) × (start.pending ≡ 0) × (start.phase ≡ 0) × (start.none_before ≡ 0) × (start.behind_break ≡ 0)
 
--- A run on the line with its tabs written out is told, and what is left of the line is what it leaves.
+-- A run on the line with its tabs written out is returned, and what is left of the line is what it leaves.
 pub record IsLineRun (bytes : List ℕ) (run : PlainRun) (new : Start) (old_answers new_answers : List Answer)
     (ends : LineEnds) : Type 0 where
   pub answers : AreAnswers run.answers run.stop old_answers new_answers ends

@@ -1,4 +1,4 @@
--- Line starts in the caller's storage, and what C is told of calls on them. (CommonMark 0.31.2, sections 2.2, tabs, and
+-- Line starts in the caller's storage, and what C learns of calls on them. (CommonMark 0.31.2, sections 2.2, tabs, and
 -- 5.1 to 5.3)
 use Rattle.std.specs.Prelude.{ℕ, Bool, false, List, ◌≤◌, Option, None, Some, if◌then◌else◌}
 use Rattle.markdown_values.specs.declared.values.BlockQuoteKind.{BlockQuoteKind}
@@ -45,33 +45,33 @@ abbrev pub no_columns : ℕ → Columns
 no_columns status = record { status = status; columns = 0 }
 
 -- columns, if there are any
-abbrev pub columns_told : Option ℕ → Columns
-columns_told None = no_columns nothing
-columns_told (Some columns) = record { status = ok; columns = columns }
+abbrev pub columns_returned : Option ℕ → Columns
+columns_returned None = no_columns nothing
+columns_returned (Some columns) = record { status = ok; columns = columns }
 
 -- a status, and no item
 abbrev pub no_item : ℕ → LineItem
 no_item status = record { status = status; delimiter = 0; start = 0; indent = 0 }
 
 -- a list item's marker, if there is one
-abbrev pub item_told : Option (ℕ × ℕ × ℕ) → LineItem
-item_told None = no_item nothing
-item_told (Some item) = record { status = ok; delimiter = item.0; start = item.1; indent = item.2 }
+abbrev pub item_returned : Option (ℕ × ℕ × ℕ) → LineItem
+item_returned None = no_item nothing
+item_returned (Some item) = record { status = ok; delimiter = item.0; start = item.1; indent = item.2 }
 
 -- a status, and no box
 abbrev pub no_task : ℕ → Task
 no_task status = record { status = status; checked = false }
 
 -- a task's box, if there is one
-abbrev pub task_told : Option Bool → Task
-task_told None = no_task nothing
-task_told (Some checked) = record { status = ok; checked = checked }
+abbrev pub task_returned : Option Bool → Task
+task_returned None = no_task nothing
+task_returned (Some checked) = record { status = ok; checked = checked }
 
 -- a status, and no alert
 abbrev pub no_alert : ℕ → Alert
 no_alert status = record { status = status; kind = 0 }
 
 -- an alert, if there is one
-abbrev pub alert_told : Option BlockQuoteKind → Alert
-alert_told None = no_alert nothing
-alert_told (Some kind) = record { status = ok; kind = alert_number kind }
+abbrev pub alert_returned : Option BlockQuoteKind → Alert
+alert_returned None = no_alert nothing
+alert_returned (Some kind) = record { status = ok; kind = alert_number kind }

@@ -12,27 +12,27 @@ use Rattle.markdown_scanners_c.specs.declared.page_events.EventCount.{EventCount
 
 -- a status, and no event
 abbrev pub IsNoEvent : ℕ → EventCount → Type 0
-IsNoEvent status told = (told.status ≡ status) × (told.count ≡ 0) × (told.length ≡ 0)
+IsNoEvent status returned = (returned.status ≡ status) × (returned.count ≡ 0) × (returned.length ≡ 0)
 
 -- Both buffers of a caller are as they were.
 abbrev pub AreKept : List PageEvent → List PageEvent → List ℕ → List ℕ → Type 0
 AreKept events new_events texts new_texts = (new_events ≡ events) × (new_texts ≡ texts)
 
 -- These events and their texts stand at the fronts of the two buffers; or one of the two is longer than its buffer, and both buffers are as
--- they were. How long the two are is told in both cases.
+-- they were. How long the two are is returned in both cases.
 abbrev pub AreBothWritten : List PageEvent → List ℕ → List PageEvent → List PageEvent → List ℕ → List ℕ → EventCount → Type 0
-AreBothWritten made words events new_events texts new_texts told =
-    (told.count ≡ length made) × (told.length ≡ length words)
-    × (((told.status ≡ ok) × (length made ≤ length events) × (length words ≤ length texts)
+AreBothWritten made words events new_events texts new_texts returned =
+    (returned.count ≡ length made) × (returned.length ≡ length words)
+    × (((returned.status ≡ ok) × (length made ≤ length events) × (length words ≤ length texts)
     × (new_events ≡ made ++ drop (length made) events) × (new_texts ≡ words ++ drop (length words) texts))
-    ⊎ ((told.status ≡ too_short) × AreKept events new_events texts new_texts
+    ⊎ ((returned.status ≡ too_short) × AreKept events new_events texts new_texts
     × ((length events < length made) ⊎ (length texts < length words))))
 
 -- Some option is not built; or the page is not UTF-8; or memory was refused; or the events of the page are written.
-unfoldable pub AreEventsTold : List ℕ → ℕ → List PageEvent → List PageEvent → List ℕ → List ℕ → EventCount → Type 0
-AreEventsTold page bits events new_events texts new_texts told =
-    (IsNoEvent bad_kind told × AreKept events new_events texts new_texts × ¬ (AreBuilt bits))
-    ⊎ (IsNoEvent not_utf8 told × AreKept events new_events texts new_texts × AreBuilt bits × ¬ (IsUtf8 page))
-    ⊎ (IsNoEvent no_memory told × AreKept events new_events texts new_texts × AreBuilt bits × IsUtf8 page)
+unfoldable pub AreEventsReturned : List ℕ → ℕ → List PageEvent → List PageEvent → List ℕ → List ℕ → EventCount → Type 0
+AreEventsReturned page bits events new_events texts new_texts returned =
+    (IsNoEvent bad_kind returned × AreKept events new_events texts new_texts × ¬ (AreBuilt bits))
+    ⊎ (IsNoEvent not_utf8 returned × AreKept events new_events texts new_texts × AreBuilt bits × ¬ (IsUtf8 page))
+    ⊎ (IsNoEvent no_memory returned × AreKept events new_events texts new_texts × AreBuilt bits × IsUtf8 page)
     ⊎ ((given : List RangedEvent) × AreBuilt bits × IsUtf8 page × ArePageEvents page (asked_by (options_of bits)) given
-    × AreBothWritten (records_from 0 given) (texts_of given) events new_events texts new_texts told)
+    × AreBothWritten (records_from 0 given) (texts_of given) events new_events texts new_texts returned)

@@ -9,8 +9,8 @@ use Rattle.markdown_scanners_c.specs.declared.page_lists.PageList.{PageList}
 use Rattle.markdown_scanners_c.specs.declared.pages.BlockCount.{BlockCount}
 
 -- a list as C has it
-abbrev pub list_told : ListBlock → PageList
-list_told list = record {
+abbrev pub list_returned : ListBlock → PageList
+list_returned list = record {
   delimiter = list.delimiter;
   is_loose = list.is_loose;
   start = list.start;
@@ -20,7 +20,7 @@ list_told list = record {
 }
 
 -- The lists of a page are written, or memory was refused.
-abbrev pub AreListsTold : List ℕ → List PageList → List PageList → BlockCount → Type 0
-AreListsTold page old new told =
-    ((told.status ≡ no_memory) × (told.count ≡ 0) × (new ≡ old))
-    ⊎ ((lists : List ListBlock) × AreListsOf no_extensions page lists × IsWritten (map list_told lists) old new told.status told.count)
+abbrev pub AreListsReturned : List ℕ → List PageList → List PageList → BlockCount → Type 0
+AreListsReturned page old new returned =
+    ((returned.status ≡ no_memory) × (returned.count ≡ 0) × (new ≡ old))
+    ⊎ ((lists : List ListBlock) × AreListsOf no_extensions page lists × IsWritten (map list_returned lists) old new returned.status returned.count)

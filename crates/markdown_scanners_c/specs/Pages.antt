@@ -41,17 +41,17 @@ term_definition = 14
 
 -- of a leaf block the number of its kind; the level of a heading, or the start condition of HTML; the byte of a fence; and how many
 -- of it a fence has, or a table columns
-abbrev pub kind_told : BlockKind → Kind
-kind_told Blank = record { kind = 3; number = 0; byte = 0; count = 0 }
-kind_told Break = record { kind = 4; number = 0; byte = 0; count = 0 }
-kind_told (Heading level) = record { kind = 5; number = heading_number level; byte = 0; count = 0 }
-kind_told (Setext level) = record { kind = 6; number = heading_number level; byte = 0; count = 0 }
-kind_told Indented = record { kind = 7; number = 0; byte = 0; count = 0 }
-kind_told (Fenced count byte) = record { kind = 8; number = 0; byte = byte; count = count }
-kind_told (Html kind) = record { kind = 9; number = condition_number kind; byte = 0; count = 0 }
-kind_told (Table columns) = record { kind = 10; number = 0; byte = 0; count = columns }
-kind_told Definition = record { kind = 11; number = 0; byte = 0; count = 0 }
-kind_told Paragraph = record { kind = 12; number = 0; byte = 0; count = 0 }
+abbrev pub kind_returned : BlockKind → Kind
+kind_returned Blank = record { kind = 3; number = 0; byte = 0; count = 0 }
+kind_returned Break = record { kind = 4; number = 0; byte = 0; count = 0 }
+kind_returned (Heading level) = record { kind = 5; number = heading_number level; byte = 0; count = 0 }
+kind_returned (Setext level) = record { kind = 6; number = heading_number level; byte = 0; count = 0 }
+kind_returned Indented = record { kind = 7; number = 0; byte = 0; count = 0 }
+kind_returned (Fenced count byte) = record { kind = 8; number = 0; byte = byte; count = count }
+kind_returned (Html kind) = record { kind = 9; number = condition_number kind; byte = 0; count = 0 }
+kind_returned (Table columns) = record { kind = 10; number = 0; byte = 0; count = columns }
+kind_returned Definition = record { kind = 11; number = 0; byte = 0; count = 0 }
+kind_returned Paragraph = record { kind = 12; number = 0; byte = 0; count = 0 }
 
 -- these numbers in a block, which stands nowhere
 abbrev pub of_kind : Kind → Block
@@ -71,20 +71,20 @@ of_kind it = record {
 
 -- a container whose marker stands at the place: of a list item its bullet or delimiter, its start, and the indent of its text; and that of
 -- a definition of a term
-abbrev pub container_told : Container → ℕ → Block
-container_told Quote place = record (of_kind (record { kind = block_quote; number = 0; byte = 0; count = 0 })) { place = place }
-container_told Footnote place = record (of_kind (record { kind = footnote; number = 0; byte = 0; count = 0 })) { place = place }
-container_told (TermDefinition definition) place = record (of_kind (record { kind = term_definition; number = 0; byte = 0; count = 0 })) {
+abbrev pub container_returned : Container → ℕ → Block
+container_returned Quote place = record (of_kind (record { kind = block_quote; number = 0; byte = 0; count = 0 })) { place = place }
+container_returned Footnote place = record (of_kind (record { kind = footnote; number = 0; byte = 0; count = 0 })) { place = place }
+container_returned (TermDefinition definition) place = record (of_kind (record { kind = term_definition; number = 0; byte = 0; count = 0 })) {
   width = definition.width;
   place = place;
 }
-container_told (Item item) place = record (of_kind (record { kind = list_item; number = item.start; byte = item.delimiter; count = 0 })) {
+container_returned (Item item) place = record (of_kind (record { kind = list_item; number = item.start; byte = item.delimiter; count = 0 })) {
   width = item.width;
   place = place;
 }
 
-abbrev pub leaf_told : LeafBlock → Block
-leaf_told b = record (of_kind (kind_told b.kind)) {
+abbrev pub leaf_returned : LeafBlock → Block
+leaf_returned b = record (of_kind (kind_returned b.kind)) {
   indent = b.indent;
   line = b.line;
   lines = b.lines;
@@ -93,23 +93,23 @@ leaf_told b = record (of_kind (kind_told b.kind)) {
   place = b.place;
 }
 
-abbrev pub event_told : Event → Block
-event_told (starts container place) = container_told container place
-event_told (leaf b) = leaf_told b
-event_told ends = of_kind (record { kind = container_end; number = 0; byte = 0; count = 0 })
+abbrev pub event_returned : Event → Block
+event_returned (starts container place) = container_returned container place
+event_returned (leaf b) = leaf_returned b
+event_returned ends = of_kind (record { kind = container_end; number = 0; byte = 0; count = 0 })
 
 -- The events of a page are written, or memory was refused.
 abbrev pub IsPageAnswer : List ℕ → List Block → List Block → BlockCount → Type 0
 IsPageAnswer page old new answer =
     ((answer.status ≡ no_memory) × (answer.count ≡ 0) × (new ≡ old))
-    ⊎ ((events : List Event) × IsEventsOf no_extensions page events × IsWritten (map event_told events) old new answer.status answer.count)
+    ⊎ ((events : List Event) × IsEventsOf no_extensions page events × IsWritten (map event_returned events) old new answer.status answer.count)
 
 -- the kind that a block's numbers name
 abbrev pub kind_in : Block → Kind
 kind_in block = record { kind = block.kind; number = block.number; byte = block.byte; count = block.count }
 
 abbrev pub HasKind : Block → BlockKind → Type 0
-HasKind block kind = kind_told kind ≡ kind_in block
+HasKind block kind = kind_returned kind ≡ kind_in block
 
 -- a block begins a container, which is this, where a second line of it is read
 abbrev pub is_container : Block → Bool
@@ -137,8 +137,8 @@ IsNoLeaf block containers =
 
 -- The content of a leaf block is written, which stands in these containers and whose first line goes on with so many of them; or why
 -- it can't be had.
-unfoldable pub IsContentTold : List ℕ → Block → List Block → ℕ → List ℕ → List ℕ → Text → Type 0
-IsContentTold page block containers kept old new text =
+unfoldable pub IsContentReturned : List ℕ → Block → List Block → ℕ → List ℕ → List ℕ → Text → Type 0
+IsContentReturned page block containers kept old new text =
     (IsNoText past_end text × (new ≡ old) × ¬ StandsIn page block)
     ⊎ (IsNoText bad_kind text × (new ≡ old) × StandsIn page block × IsNoLeaf block containers)
     ⊎ (IsNoText no_memory text × (new ≡ old) × StandsIn page block × ¬ IsNoLeaf block containers)

@@ -11,9 +11,9 @@ use Rattle.markdown_scanners_c.specs.declared.reference_definitions.Definition.{
 
 -- a status, and no definition
 abbrev pub IsNoDefinition : ℕ → Definition → Type 0
-IsNoDefinition status told =
-    (told.status ≡ status) × (told.end ≡ 0) × (told.label_start ≡ 0) × (told.label_length ≡ 0)
-    × (told.destination_start ≡ 0) × (told.destination_length ≡ 0) × (told.title_start ≡ 0) × (told.title_length ≡ 0)
+IsNoDefinition status returned =
+    (returned.status ≡ status) × (returned.end ≡ 0) × (returned.label_start ≡ 0) × (returned.label_length ≡ 0)
+    × (returned.destination_start ≡ 0) × (returned.destination_length ≡ 0) × (returned.title_start ≡ 0) × (returned.title_length ≡ 0)
 
 -- Of a range of what stands from the place on: where it begins in all bytes, and how long it is.
 abbrev pub IsRangeAt : ℕ → Range ℕ → ℕ → ℕ → Type 0
@@ -25,15 +25,15 @@ IsTitleAt place None start length = (start ≡ none) × (length ≡ 0)
 IsTitleAt place (Some title) start length = IsRangeAt place title start length
 
 -- a definition, which begins at the place with at most so many parentheses in each other, or none
-unfoldable pub IsToldDefinition : ℕ → List ℕ → ℕ → Definition → Type 0
-IsToldDefinition most bytes place told =
-    (IsNoDefinition nothing told
+unfoldable pub IsReturnedDefinition : ℕ → List ℕ → ℕ → Definition → Type 0
+IsReturnedDefinition most bytes place returned =
+    (IsNoDefinition nothing returned
     × ((definition : ReferenceDefinition) → ¬ IsReferenceDefinition most (drop place bytes) definition))
     ⊎ ((definition : ReferenceDefinition) × IsReferenceDefinition most (drop place bytes) definition
-    × (told.status ≡ ok) × (told.end ≡ place + definition.len)
-    × IsRangeAt place definition.label told.label_start told.label_length
-    × IsRangeAt place definition.destination told.destination_start told.destination_length
-    × IsTitleAt place definition.title told.title_start told.title_length)
+    × (returned.status ≡ ok) × (returned.end ≡ place + definition.len)
+    × IsRangeAt place definition.label returned.label_start returned.label_length
+    × IsRangeAt place definition.destination returned.destination_start returned.destination_length
+    × IsTitleAt place definition.title returned.title_start returned.title_length)
 
 -- A text may be cut where so many bytes from the place on begin, and where they end.
 abbrev pub IsCutOut : List ℕ → ℕ → ℕ → Type 0
@@ -42,7 +42,7 @@ IsCutOut bytes start length = IsCharBoundary bytes start × IsCharBoundary bytes
 -- Where the bytes are a text and the place is between two of its characters, so are both ends of each part, and the end of
 -- all.
 abbrev pub AreCutFromText : List ℕ → ℕ → Definition → Type 0
-AreCutFromText bytes place told =
-    IsTextPlace bytes place → told.status ≡ ok
-    → IsCutOut bytes told.label_start told.label_length × IsCutOut bytes told.destination_start told.destination_length
-    × (told.title_start ≢ none → IsCutOut bytes told.title_start told.title_length) × IsCharBoundary bytes told.end
+AreCutFromText bytes place returned =
+    IsTextPlace bytes place → returned.status ≡ ok
+    → IsCutOut bytes returned.label_start returned.label_length × IsCutOut bytes returned.destination_start returned.destination_length
+    × (returned.title_start ≢ none → IsCutOut bytes returned.title_start returned.title_length) × IsCharBoundary bytes returned.end

@@ -1,4 +1,4 @@
--- Runs of scans of inline HTML, and what C is told of them. (CommonMark 0.31.2, section 6.6, raw HTML)
+-- Runs of scans of inline HTML, and what C learns of them. (CommonMark 0.31.2, section 6.6, raw HTML)
 use Rattle.std.specs.Prelude.{ℕ, List, ◌≡◌, ◌≤◌, ◌<◌, ◌++◌, ◌⊎◌, Option, None, Some, drop, length, map}
 use Rattle.markdown_scanners_tree.specs.declared.inline_html.HtmlStop.{HtmlStop}
 use Rattle.markdown_scanners_tree.specs.declared.inline_html.HtmlStop.TheVariants.{NoOpener, NotRising, InsideFind}

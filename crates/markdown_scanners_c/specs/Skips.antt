@@ -6,7 +6,7 @@ use Rattle.markdown_scanners_c.specs.Status.{ok, bad_skips}
 use Rattle.markdown_scanners_c.specs.declared.skips.Skip.{Skip}
 
 -- In a text of so many bytes the skips stand in order from a place on: each begins there or later and ends in the text,
--- and the next one begins behind its first byte, where it ends or later.
+-- and the next one begins after its first byte, where it ends or later.
 abbrev pub stand_from : ℕ → ℕ → List Skip → Bool
 stand_from from size [] = true
 stand_from from size (skip ∷ skips) =

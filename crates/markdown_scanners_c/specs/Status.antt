@@ -1,4 +1,4 @@
--- What a call comes to, as C is told: the numbers of `enum mds_status`.
+-- What a call comes to, as C gets it: the numbers of `enum mds_status`.
 use Rattle.std.specs.Prelude.{ℕ}
 
 -- an answer

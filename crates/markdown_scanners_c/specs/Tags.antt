@@ -27,7 +27,7 @@ IsTagText skips bytes start old new found =
     ⊎ ((tag : List KeptByte) × IsTagOver skips bytes start tag × (found.end ≡ start + place_after 0 tag)
     × IsWritten (tag_buffer tag) old new found.status found.length)
 
--- The place is past the end; or the tag is told.
+-- The place is past the end; or the tag is returned.
 abbrev pub IsScannedTag : List Skip → List ℕ → ℕ → List ℕ → List ℕ → Tag → Type 0
 IsScannedTag skips bytes start old new found =
     IsAnswerAt bytes start (IsNoTag past_end found × (new ≡ old)) (IsTagText skips bytes start old new found)

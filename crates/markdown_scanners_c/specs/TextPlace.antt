@@ -6,7 +6,7 @@ use Rattle.std.specs.Str.{IsUtf8, IsCharBoundary}
 abbrev pub IsTextPlace : List ℕ → ℕ → Type 0
 IsTextPlace bytes place = IsUtf8 bytes × IsCharBoundary bytes place
 
--- What a call comes to that is given bytes and a place in them: the place is past the end, and this is told; or else what
+-- What a call comes to that is given bytes and a place in them: the place is past the end, and this is returned; or else what
 -- the bytes have there.
 abbrev pub IsAnswerAt : List ℕ → ℕ → Type 0 → Type 0 → Type 0
 IsAnswerAt bytes place Refused Answered =

@@ -1,4 +1,4 @@
--- The version of the library, as C is told.
+-- The version of the library, as C gets it.
 use Rattle.std.specs.Prelude.{ℕ, ◌+◌, ◌*◌}
 
 abbrev major : ℕ

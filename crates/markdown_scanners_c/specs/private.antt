@@ -1,7 +1,7 @@
 pub mod LabelRoom
 pub mod LabelText
 pub mod NoSpace
-pub mod ScanTold
+pub mod ScanReturned
 pub mod Searched
 pub mod Sides
 pub mod SureRun

@@ -2,14 +2,14 @@
 //! chapters 3, 4 and 5)
 ghost use Rattle.std.specs.Prelude.{◌≡◌, ◌≤◌, ◌<◌, ◌⊎◌, ◌↔◌, ◌++◌, [], length, map, IsTrue, MatchBool, IfOk, OnOk, if◌then◌else◌};
 ghost use Rattle.markdown_blocks.specs.taken.Whole.{AreWhole};
-ghost use Rattle.markdown_scanners_c.specs.BlockLines.{AreOpen, IsLineOf, IsLineTold, blocks_asked_by, if_told, no_line};
-ghost use Rattle.markdown_scanners_c.specs.BlockLines.{begun_told, open_in, open_told, opened_told, outer_in, step_told};
+ghost use Rattle.markdown_scanners_c.specs.BlockLines.{AreOpen, IsLineOf, IsLineReturned, blocks_asked_by, if_returned, no_line};
+ghost use Rattle.markdown_scanners_c.specs.BlockLines.{begun_returned, open_in, open_returned, opened_returned, outer_in, step_returned};
 ghost use Rattle.markdown_scanners_c.specs.Buffer.{IsWritten};
 ghost use Rattle.markdown_scanners_c.specs.Status.{ok, no_memory, nothing};
 
 use crate::pages::{
-    BLOCK_QUOTE, Block, BlockCount, FOOTNOTE, TERM_DEFINITION, are_containers, container_told,
-    kind_told, of_kind, write_front,
+    BLOCK_QUOTE, Block, BlockCount, FOOTNOTE, TERM_DEFINITION, are_containers, container_returned,
+    kind_returned, of_kind, write_front,
 };
 use crate::status::{BAD_KIND, BAD_STATE, NO_MEMORY, NOTHING, OK};
 use markdown_blocks::containers::{BlockExtensions, Container, DefinitionItem, ListItem};
@@ -46,7 +46,7 @@ pub struct LineBlock {
 /// The block at the front of the text, if there is one that nothing after the text changes; its
 /// containers are open then.
 #[unsafe(no_mangle)]
-#[tactic(auto, unfolding(crate::specs::BlockLines::IsLineTold))]
+#[tactic(auto, unfolding(crate::specs::BlockLines::IsLineReturned))]
 pub extern "C" fn mds_block_line(
     alloc: Global,
     text: &[u8],
@@ -55,9 +55,9 @@ pub extern "C" fn mds_block_line(
     page: &mut OpenBlocks,
     block: &mut Block,
 ) -> LineBlock
-    ensures line { IsLineTold text.now has_ended page.old page.new containers.old containers.new
+    ensures line { IsLineReturned text.now has_ended page.old page.new containers.old containers.new
         block.old block.new result }
-    ensures depth { page.new.depth ≡ if_told result result.depth page.old.depth }
+    ensures depth { page.new.depth ≡ if_returned result result.depth page.old.depth }
     ensures extensions { page.new.extensions ≡ page.old.extensions }
     ensures some { result.status ≡ ok → 0 < block.new.bytes }
     ensures within { result.status ≡ ok → block.new.bytes ≤ length text.now }
@@ -97,7 +97,7 @@ fn are_open(containers: &[Block], page: &OpenBlocks) -> bool
     are_containers(&containers[..page.depth])
 }
 
-// How many bytes at the front of the text are lines that no byte behind it changes.
+// How many bytes at the front of the text are lines that no byte after it changes.
 fn front_of(text: &[u8], has_ended: bool) -> usize
     ensures front { MatchBool has_ended (result ≡ length text.now) (AreWhole text.now result) }
     ensures within { result ≤ length text.now }
@@ -162,14 +162,20 @@ fn open_in(block: &Block) -> Container
 }
 
 // A container that is open, whose marker stands at the place, as C has it.
-fn open_told(container: Container, place: usize) -> Block
-    ensures { result ≡ open_told container place }
+fn open_returned(container: Container, place: usize) -> Block
+    ensures { result ≡ open_returned container place }
 {
-    let told = container_told(container, place);
+    let returned = container_returned(container, place);
     match container {
-        Container::Item(item) if item.begun => Block { count: 1, ..told },
-        Container::TermDefinition(d) if d.begun => Block { count: 1, ..told },
-        _ => told,
+        Container::Item(item) if item.begun => Block {
+            count: 1,
+            ..returned
+        },
+        Container::TermDefinition(d) if d.begun => Block {
+            count: 1,
+            ..returned
+        },
+        _ => returned,
     }
 }
 
@@ -185,7 +191,7 @@ fn write_line(
 ) -> LineBlock
     ensures line { IsLineOf walk lines.now has_ended page.old page.new containers.old
         containers.new block.old block.new result }
-    ensures depth { page.new.depth ≡ if_told result result.depth page.old.depth }
+    ensures depth { page.new.depth ≡ if_returned result result.depth page.old.depth }
     ensures extensions { page.new.extensions ≡ page.old.extensions }
     ensures some { result.status ≡ ok → 0 < block.new.bytes }
     ensures within { result.status ≡ ok → block.new.bytes ≤ length lines.now }
@@ -195,9 +201,9 @@ fn write_line(
     let mut content = Vec::new(alloc);
     match walk.next_block(alloc, &mut content, lines, has_ended) {
         Ok(Some(step)) => {
-            let told = write_step(alloc, step, walk.containers(), containers, block);
-            keep_open(page, &told, walk.is_after_term());
-            told
+            let returned = write_step(alloc, step, walk.containers(), containers, block);
+            keep_open(page, &returned, walk.is_after_term());
+            returned
         }
         Ok(None) => no_line(NOTHING),
         Err(_) => no_line(NO_MEMORY),
@@ -205,15 +211,15 @@ fn write_line(
 }
 
 // Keeps for the next call how many containers are open, and whether a term stands there, if the block
-// is told.
-fn keep_open(page: &mut OpenBlocks, told: &LineBlock, is_after_term: bool)
-    ensures { page.new ≡ if_told told.now (record page.old {
-      depth = told.now.depth;
+// is returned.
+fn keep_open(page: &mut OpenBlocks, returned: &LineBlock, is_after_term: bool)
+    ensures { page.new ≡ if_returned returned.now (record page.old {
+      depth = returned.now.depth;
       state = if is_after_term then 1 else 0;
     }) page.old }
 {
-    if told.status == OK {
-        page.depth = told.depth;
+    if returned.status == OK {
+        page.depth = returned.depth;
         page.state = u32::from(is_after_term);
     }
 }
@@ -230,19 +236,19 @@ fn write_step(
     ensures { ((result ≡ no_line no_memory) × (containers.new ≡ containers.old)
         × (block.new ≡ block.old))
         ⊎ ((result.kept ≡ step.entry.kept)
-        × (block.new ≡ if_told result (step_told step.entry) block.old)
-        × IsWritten (opened_told step.entry outer.now) containers.old containers.new
+        × (block.new ≡ if_returned result (step_returned step.entry) block.old)
+        × IsWritten (opened_returned step.entry outer.now) containers.old containers.new
         result.status result.depth) }
 {
-    let found = step_told(&step);
+    let found = step_returned(&step);
     let kept = step.kept;
-    let Ok(told) = opened_told(alloc, step, outer) else {
+    let Ok(returned) = opened_returned(alloc, step, outer) else {
         return no_line(NO_MEMORY);
     };
     let BlockCount {
         status,
         count: depth,
-    } = write_front(&told, containers);
+    } = write_front(&returned, containers);
     if status == OK {
         *block = found;
     }
@@ -254,54 +260,58 @@ fn write_step(
 }
 
 // The containers that are open after the step, as C has them.
-fn opened_told(
+fn opened_returned(
     alloc: Global,
     step: Step,
     containers: &[Container],
 ) -> Result<Vec<Block>, AllocError>
     requires { step.kept ≤ length containers.now }
-    ensures { IfOk result (λ told. told.items ≡ opened_told step.entry containers.now) }
+    ensures { IfOk result (λ returned. returned.items ≡ opened_returned step.entry containers.now) }
 {
     let kept = step.kept;
-    let mut told = kept_told(alloc, &containers[..kept])?;
-    add_begun(&mut told, step, &containers[kept..])?;
-    Ok(told)
+    let mut returned = kept_returned(alloc, &containers[..kept])?;
+    add_begun(&mut returned, step, &containers[kept..])?;
+    Ok(returned)
 }
 
 // Those that its line goes on with.
-fn kept_told(alloc: Global, containers: &[Container]) -> Result<Vec<Block>, AllocError>
-    ensures { IfOk result (λ told. told.items ≡ map (λ c. open_told c 0) containers.now) }
+fn kept_returned(alloc: Global, containers: &[Container]) -> Result<Vec<Block>, AllocError>
+    ensures { IfOk result (λ returned. returned.items ≡ map (λ c. open_returned c 0) containers.now) }
 {
     containers
         .iter()
-        .map(|container| open_told(*container, 0))
+        .map(|container| open_returned(*container, 0))
         .collect(alloc)
 }
 
 // Adds those that the step begins.
-fn add_begun(told: &mut Vec<Block>, step: Step, containers: &[Container]) -> Result<(), AllocError>
-    ensures { OnOk result (told.new.items
-        ≡ told.old.items ++ begun_told step.entry.start containers.now) }
+fn add_begun(
+    returned: &mut Vec<Block>,
+    step: Step,
+    containers: &[Container],
+) -> Result<(), AllocError>
+    ensures { OnOk result (returned.new.items
+        ≡ returned.old.items ++ begun_returned step.entry.start containers.now) }
 {
     let mut step = step;
     let mut rest = containers;
     while let [container, inner @ ..] = rest {
         let place = step.pass_marker();
-        told.push(open_told(*container, place))?;
+        returned.push(open_returned(*container, place))?;
         rest = inner;
     }
     Ok(())
 }
 
 // A block whose lines stand at the front of the text, as C has it.
-fn step_told(step: &Step) -> Block
-    ensures { result ≡ step_told step.now }
+fn step_returned(step: &Step) -> Block
+    ensures { result ≡ step_returned step.now }
 {
     Block {
         indent: step.indent,
         lines: step.block.taken.lines,
         bytes: step.block.taken.bytes,
         place: step.line.len().saturating_sub(step.text.len()),
-        ..of_kind(kind_told(step.block.kind))
+        ..of_kind(kind_returned(step.block.kind))
     }
 }

@@ -4,7 +4,7 @@ ghost use Rattle.std.specs.Char.{IsScalar};
 ghost use Rattle.std.specs.Str.{IsUtf8, IsCharBoundary};
 ghost use Rattle.markdown_inlines.specs.DelimiterRuns.{is_white_space, is_punctuation};
 ghost use Rattle.markdown_inlines.specs.declared.delimiter_runs.DelimiterRun.{DelimiterRun as Run};
-ghost use Rattle.markdown_scanners_c.specs.DelimiterRuns.{IsNoRun, IsToldRun};
+ghost use Rattle.markdown_scanners_c.specs.DelimiterRuns.{IsNoRun, IsReturnedRun};
 ghost use Rattle.markdown_scanners_c.specs.Status.{past_end};
 ghost use Rattle.markdown_scanners_c.specs.TextPlace.{IsAnswerAt};
 ghost use Rattle.markdown_scanners_c.specs.private.Sides.{begins_character};
@@ -38,11 +38,11 @@ fn no_run(status: u32) -> DelimiterRun
 
 /// The delimiter run that begins at the place, before which no unescaped byte of its kind stands.
 /// Beside it, the characters on both sides are read. (CommonMark 0.31.2, section 6.2)
-#[tactic(auto, unfolding(crate::specs::DelimiterRuns::IsToldRun))]
+#[tactic(auto, unfolding(crate::specs::DelimiterRuns::IsReturnedRun))]
 #[unsafe(no_mangle)]
 pub extern "C" fn mds_scan_delimiter_run(bytes: &[u8], place: usize) -> DelimiterRun
     ensures run { IsAnswerAt bytes.now place (IsNoRun past_end result)
-        (IsToldRun bytes.now place result) }
+        (IsReturnedRun bytes.now place result) }
     ensures within { result.count ≤ length bytes.now - place }
 {
     if place > bytes.len() {

@@ -41,7 +41,7 @@ pub(crate) fn add_event(
     texts: &mut String,
     event: (Event, Range<usize>),
 ) -> Result<(), AllocError>
-    ensures told { OnOk result (events.new.items ≡ events.old.items
+    ensures returned { OnOk result (events.new.items ≡ events.old.items
         ++ event_record (length (string_bytes texts.old)) (seen_event event.entry) ∷ []) }
     ensures words { OnOk result (string_bytes texts.new ≡ string_bytes texts.old
         ++ event_words (event_view cow_text event.entry.0)) }
@@ -52,7 +52,7 @@ pub(crate) fn add_event(
 
 // An event, whose texts are added.
 fn record_of(texts: &mut String, event: &(Event, Range<usize>)) -> Result<PageEvent, AllocError>
-    ensures told { IfOk result (λ told. told
+    ensures returned { IfOk result (λ returned. returned
         ≡ event_record (length (string_bytes texts.old)) (seen_event event.now)) }
     ensures words { OnOk result (string_bytes texts.new ≡ string_bytes texts.old
         ++ event_words (event_view cow_text event.now.0)) }

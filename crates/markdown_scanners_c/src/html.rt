@@ -15,10 +15,10 @@ ghost use Rattle.markdown_scanners_c.specs.Guards.{scan_guard, new_guard, IsGuar
 ghost use Rattle.markdown_scanners_c.specs.Skips.{are_skips};
 ghost use Rattle.markdown_scanners_c.specs.Status.{past_end, bad_kind};
 ghost use Rattle.markdown_scanners_c.specs.Tags.{IsNoTag, IsTagText, IsScannedTag};
-ghost use Rattle.markdown_scanners_c.specs.private.ScanTold.{scan_told};
-ghost use Rattle.markdown_scanners_c.specs.private.Searched.{told_skip};
+ghost use Rattle.markdown_scanners_c.specs.private.ScanReturned.{scan_returned};
+ghost use Rattle.markdown_scanners_c.specs.private.Searched.{returned_skip};
 
-use crate::skips::{Skip, told_skip};
+use crate::skips::{Skip, returned_skip};
 use crate::status::{BAD_KIND, NO_MEMORY, NO_OPENER, NONE, NOTHING, OK, PAST_END};
 use crate::texts::{Text, write_text};
 use markdown_scanners_tree::inline_html::{
@@ -30,7 +30,7 @@ use markdown_scanners_tree::scanners::{
 };
 use std::alloc::Global;
 
-/// Whether the bytes behind a `<` begin an HTML block by a name. (CommonMark 0.31.2, section 4.6,
+/// Whether the bytes after a `<` begin an HTML block by a name. (CommonMark 0.31.2, section 4.6,
 /// start condition 6)
 #[unsafe(no_mangle)]
 pub extern "C" fn mds_starts_html_block_type_6(bytes: &[u8]) -> bool
@@ -92,7 +92,7 @@ pub extern "C" fn mds_scan_html_tag(alloc: Global, bytes: &[u8]) -> usize
     }
 }
 
-/// `struct mds_tag` of C: the place behind a tag, and how many bytes its text has.
+/// `struct mds_tag` of C: the place after a tag, and how many bytes its text has.
 #[repr(C)]
 pub struct Tag {
     pub status: u32,
@@ -148,8 +148,8 @@ fn tag_text(alloc: Global, bytes: &[u8], start: usize, skips: &[Skip], buffer: &
     ensures kept { IsChangedFront buffer.old buffer.new result.status result.length }
 {
     let handler = |rest: &[u8]| -> usize
-        ensures { result ≡ told_skip skips.entry.now bytes.entry.now rest.now }
-    { told_skip(skips, bytes, rest) };
+        ensures { result ≡ returned_skip skips.entry.now bytes.entry.now rest.now }
+    { returned_skip(skips, bytes, rest) };
     match scan_html_block_inner(alloc, &bytes[start..], Some(&handler)) {
         Ok(Some((text, taken))) => {
             let Text {
@@ -233,12 +233,12 @@ pub extern "C" fn mds_scan_inline_html(bytes: &[u8], place: usize, guard: &mut G
     let mut stops = guard.to_scan();
     let found = scan_inline_html_counted(&mut text, place, &mut stops);
     *guard = Guard::of(&stops);
-    end_told(&found, text.passed() as usize)
+    end_returned(&found, text.passed() as usize)
 }
 
 // The answer of a scan that passed over so many bytes, as C has it.
-fn end_told(found: &Result<Option<usize>, HtmlStop>, passed: usize) -> End
-    ensures { result ≡ scan_told found.now passed }
+fn end_returned(found: &Result<Option<usize>, HtmlStop>, passed: usize) -> End
+    ensures { result ≡ scan_returned found.now passed }
 {
     let (status, end) = match found {
         Ok(Some(end)) => (OK, *end),

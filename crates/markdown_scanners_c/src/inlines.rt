@@ -5,8 +5,8 @@ ghost use Rattle.markdown_inlines.specs.Output.{AreInlines};
 ghost use Rattle.markdown_inlines.specs.declared.inlines.Inline.{Inline as Found};
 ghost use Rattle.markdown_inlines.specs.declared.links.Link.{Link};
 ghost use Rattle.markdown_scanners_c.specs.Buffer.{IsWritten};
-ghost use Rattle.markdown_scanners_c.specs.Inlines.{IsTextTold, asked_by, backticks_of, end_number, inline_at, inline_told};
-ghost use Rattle.markdown_scanners_c.specs.Inlines.{length_of, link_told, piece_number, piece_told, start_number};
+ghost use Rattle.markdown_scanners_c.specs.Inlines.{IsTextReturned, asked_by, backticks_of, end_number, inline_at, inline_returned};
+ghost use Rattle.markdown_scanners_c.specs.Inlines.{length_of, link_returned, piece_number, piece_returned, start_number};
 ghost use Rattle.markdown_scanners_c.specs.Inlines.{title_length, title_start, with_label, with_target};
 ghost use Rattle.markdown_scanners_c.specs.KnownLabels.{known_in};
 ghost use Rattle.markdown_scanners_c.specs.private.LabelRoom.{AreRoomy, HasRoom};
@@ -100,7 +100,7 @@ pub struct InlineCount {
 
 /// Writes the inlines of the content of a block, in order, where these labels are defined and these
 /// extensions are asked for.
-#[tactic(auto, unfolding(crate::specs::Inlines::IsTextTold))]
+#[tactic(auto, unfolding(crate::specs::Inlines::IsTextReturned))]
 #[unsafe(no_mangle)]
 pub extern "C" fn mds_scan_inlines(
     alloc: Global,
@@ -109,7 +109,7 @@ pub extern "C" fn mds_scan_inlines(
     extensions: u32,
     inlines: &mut [Inline],
 ) -> InlineCount
-    ensures inlines { IsTextTold text.now labels.now extensions inlines.old inlines.new result }
+    ensures inlines { IsTextReturned text.now labels.now extensions inlines.old inlines.new result }
 {
     if extensions > ASKS_ALL {
         return no_inlines(BAD_KIND);
@@ -120,8 +120,8 @@ pub extern "C" fn mds_scan_inlines(
     if !are_texts(labels) {
         return no_inlines(NOT_UTF8);
     }
-    match told_inlines(alloc, text, labels, asked_by(extensions)) {
-        Ok(told) => write_inlines(&told, inlines),
+    match returned_inlines(alloc, text, labels, asked_by(extensions)) {
+        Ok(returned) => write_inlines(&returned, inlines),
         Err(_) => no_inlines(NO_MEMORY),
     }
 }
@@ -144,65 +144,65 @@ fn asked_by(extensions: u32) -> InlineExtensions
 }
 
 // The inlines of a text.
-fn told_inlines(
+fn returned_inlines(
     alloc: Global,
     text: &str,
     labels: &[View<'_>],
     asked: InlineExtensions,
 ) -> Result<Vec<Inline>, AllocError>
-    ensures { IfOk result (λ told. (inlines : List Found) × (links : List (Option Link))
+    ensures { IfOk result (λ returned. (inlines : List Found) × (links : List (Option Link))
         × AreInlines text.now (record { asked = asked; known = known_in labels.now }) inlines links
-        × (told.items ≡ map (inline_told links) inlines)) }
+        × (returned.items ≡ map (inline_returned links) inlines)) }
 {
     let known = KnownLabels::new(alloc, labels)?;
     let found = find_inlines(alloc, text, &known, asked)?;
-    inlines_told(alloc, &found.links, &found.inlines)
+    inlines_returned(alloc, &found.links, &found.inlines)
 }
 
 // The inlines with these links, as C has them.
-fn inlines_told(
+fn inlines_returned(
     alloc: Global,
     links: &[Option<Link>],
     inlines: &[Found],
 ) -> Result<Vec<Inline>, AllocError>
     requires { AreRoomy links.now }
-    ensures { IfOk result (λ told. told.items ≡ map (inline_told links.now) inlines.now) }
+    ensures { IfOk result (λ returned. returned.items ≡ map (inline_returned links.now) inlines.now) }
 {
-    let mut told = Vec::new(alloc);
+    let mut returned = Vec::new(alloc);
     for inline in inlines {
-        told.push(inline_told(links, *inline))?;
+        returned.push(inline_returned(links, *inline))?;
     }
-    Ok(told)
+    Ok(returned)
 }
 
 // Writes the inlines at the front of the buffer, where there is room for them.
-fn write_inlines(told: &[Inline], inlines: &mut [Inline]) -> InlineCount
-    ensures { IsWritten told.now inlines.old inlines.new result.status result.count }
+fn write_inlines(returned: &[Inline], inlines: &mut [Inline]) -> InlineCount
+    ensures { IsWritten returned.now inlines.old inlines.new result.status result.count }
 {
-    let count = told.len();
+    let count = returned.len();
     if count > inlines.len() {
         return InlineCount {
             status: TOO_SHORT,
             count,
         };
     }
-    inlines[..count].copy_from_slice(told);
+    inlines[..count].copy_from_slice(returned);
     InlineCount { status: OK, count }
 }
 
 // An inline as C has it, by the links of its text.
-fn inline_told(links: &[Option<Link>], inline: Found) -> Inline
+fn inline_returned(links: &[Option<Link>], inline: Found) -> Inline
     requires { AreRoomy links.now }
-    ensures { result ≡ inline_told links.now inline }
+    ensures { result ≡ inline_returned links.now inline }
 {
     match inline {
-        Found::Leaf(piece) => piece_told(piece),
+        Found::Leaf(piece) => piece_returned(piece),
         Found::StartEmphasis(place, count) => inline_at(start_number(count), place, count),
         Found::EndEmphasis(place, count) => inline_at(end_number(count), place, count),
         Found::StartStrikethrough(place, count) => inline_at(STRIKETHROUGH, place, count),
         Found::EndStrikethrough(place, count) => inline_at(STRIKETHROUGH_END, place, count),
         Found::StartLink(number) => match links.get(number) {
-            Some(Some(link)) => link_told(link),
+            Some(Some(link)) => link_returned(link),
             _ => inline_at(TEXT, 0, 0),
         },
         Found::EndLink(piece) => {
@@ -232,8 +232,8 @@ fn inline_at(kind: u32, start: usize, length: usize) -> Inline
 }
 
 // A piece that holds no other inlines.
-fn piece_told(piece: Piece) -> Inline
-    ensures { result ≡ piece_told piece }
+fn piece_returned(piece: Piece) -> Inline
+    ensures { result ≡ piece_returned piece }
 {
     let length = piece.end.saturating_sub(piece.start);
     Inline {
@@ -284,23 +284,23 @@ fn end_number(count: usize) -> u32
 }
 
 // The opener of a link or an image, with where all of it ends and where it leads.
-fn link_told(link: &Link) -> Inline
+fn link_returned(link: &Link) -> Inline
     requires { HasRoom link.now }
-    ensures { result ≡ link_told link.now }
+    ensures { result ≡ link_returned link.now }
 {
     let kind = if link.is_image { IMAGE } else { LINK };
     let length = link.text.start.saturating_sub(link.source.start);
-    let told = Inline {
+    let returned = Inline {
         end: link.source.end,
         ..inline_at(kind, link.source.start, length)
     };
-    with_target(link, told)
+    with_target(link, returned)
 }
 
 // With where the link leads.
-fn with_target(link: &Link, told: Inline) -> Inline
+fn with_target(link: &Link, returned: Inline) -> Inline
     requires { HasRoom link.now }
-    ensures { result ≡ with_target link.now.text link.now.target told }
+    ensures { result ≡ with_target link.now.text link.now.target returned }
 {
     let text = &link.text;
     match &link.target {
@@ -310,32 +310,32 @@ fn with_target(link: &Link, told: Inline) -> Inline
             destination_length: length_of(destination),
             title_start: title_start(title),
             title_length: title_length(title),
-            ..told
+            ..returned
         },
         LinkTarget::Full(label) => {
             let length = length_of(label).saturating_sub(2);
-            with_label(FULL, label.start + 1, length, told)
+            with_label(FULL, label.start + 1, length, returned)
         }
-        LinkTarget::Collapsed => with_label(COLLAPSED, text.start, length_of(text), told),
-        LinkTarget::Shortcut => with_label(SHORTCUT, text.start, length_of(text), told),
+        LinkTarget::Collapsed => with_label(COLLAPSED, text.start, length_of(text), returned),
+        LinkTarget::Shortcut => with_label(SHORTCUT, text.start, length_of(text), returned),
         LinkTarget::Wiki(target) => Inline {
             target: WIKI,
             destination_start: target.start,
             destination_length: length_of(target),
-            ..told
+            ..returned
         },
     }
 }
 
 // With what stands between the brackets of the link's label.
-fn with_label(target: u32, start: usize, length: usize, told: Inline) -> Inline
-    ensures { result ≡ with_label target start length told }
+fn with_label(target: u32, start: usize, length: usize, returned: Inline) -> Inline
+    ensures { result ≡ with_label target start length returned }
 {
     Inline {
         target,
         label_start: start,
         label_length: length,
-        ..told
+        ..returned
     }
 }
 

@@ -2,7 +2,7 @@
 ghost use Rattle.std.specs.Prelude.{◌≡◌, ◌≢◌, ◌≤◌, ◌*◌, IsAscii, length, map};
 ghost use Rattle.std.specs.Char.{to_ascii_lowercase};
 ghost use Rattle.markdown_scanners_c.specs.Buffer.{IsWritten};
-ghost use Rattle.markdown_scanners_c.specs.Keys.{IsKeyText, IsToldKey};
+ghost use Rattle.markdown_scanners_c.specs.Keys.{IsKeyText, IsReturnedKey};
 ghost use Rattle.markdown_scanners_c.specs.Status.{no_memory};
 
 use crate::status::{NO_MEMORY, NOT_UTF8, OK};
@@ -13,7 +13,7 @@ use std::alloc::Global;
 /// Writes the key of a label, its full case folding. (CommonMark 0.31.2, section 6.3)
 #[unsafe(no_mangle)]
 pub extern "C" fn mds_label_key(alloc: Global, text: &[u8], buffer: &mut [u8]) -> Text
-    ensures key { IsToldKey text.now buffer.old buffer.new result }
+    ensures key { IsReturnedKey text.now buffer.old buffer.new result }
     ensures room { result.length ≤ 3 * length text.now }
     ensures no_memory { IsAscii text.now → result.status ≢ no_memory }
 {

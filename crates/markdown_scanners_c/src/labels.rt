@@ -9,16 +9,16 @@ ghost use Rattle.markdown_scanners_c.specs.Keys.{key_bytes};
 ghost use Rattle.markdown_scanners_c.specs.Labels.{IsGiven, IsLabelAt, IsNoLabelText, IsLabelText, IsScannedLabel, match_status};
 ghost use Rattle.markdown_scanners_c.specs.Skips.{are_skips, are_ascii_skips};
 ghost use Rattle.markdown_scanners_c.specs.Status.{ok, not_utf8, past_end};
-ghost use Rattle.markdown_scanners_c.specs.private.LabelText.{told_ascii, space_len};
+ghost use Rattle.markdown_scanners_c.specs.private.LabelText.{returned_ascii, space_len};
 
-use crate::skips::{Skip, told_ascii};
+use crate::skips::{Skip, returned_ascii};
 use crate::status::{NO_MEMORY, NONE, NOT_UTF8, NOTHING, OK, PAST_END};
 use crate::texts::{Text, write_text};
 use markdown_scanners_tree::linklabel::{LinkLabel, scan_link_label_bytes};
 use markdown_values::strings::CowStr;
 use std::alloc::Global;
 
-/// `struct mds_label` of C: the place behind a label, its text, and where it stands in the input, if
+/// `struct mds_label` of C: the place after a label, its text, and where it stands in the input, if
 /// it does.
 #[repr(C)]
 pub struct LabelText {
@@ -89,8 +89,8 @@ fn label_at(
 {
     let rest = &bytes[start..];
     let handler = |rest: &[u8]| -> Option<usize>
-        ensures { result ≡ told_ascii skips.entry.now bytes.entry.now rest.now }
-    { told_ascii(skips, bytes, rest) };
+        ensures { result ≡ returned_ascii skips.entry.now bytes.entry.now rest.now }
+    { returned_ascii(skips, bytes, rest) };
     match scan_link_label_bytes(alloc, rest, &handler, is_in_table) {
         Ok(Some((taken, label))) => {
             let place = start_of(&label, rest, start);

@@ -36,13 +36,13 @@ pub extern "C" fn mds_line_rest(bytes: &[u8], start: &Start, buffer: &mut [u8]) 
         Err(needed) => Text {
             status: TOO_SHORT,
             taken,
-            length: length_told(needed),
+            length: length_returned(needed),
         },
     }
 }
 
 // A length as far as a `size_t` goes.
-fn length_told(length: u128) -> usize
+fn length_returned(length: u128) -> usize
     ensures fits { length ≤ usize.MAX → result ≡ length }
     ensures large { usize.MAX < length → result ≡ usize.MAX }
 {

@@ -126,7 +126,7 @@ fn made_run(
     requires { length calls.now ≤ length answers.old }
 
     // Where what is known is true of the line from the place on, and up to the first MDS_LIST.
-    ensures told { IsSure line.old breaks.old calls.now result.count
+    ensures returned { IsSure line.old breaks.old calls.now result.count
         → AreAnswers (state_run line.old breaks.old (map line_call calls.now)).answers
         (state_run line.old breaks.old (map line_call calls.now)).stop
         answers.old answers.new result }

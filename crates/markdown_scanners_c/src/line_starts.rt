@@ -6,8 +6,8 @@ ghost use Rattle.markdown_scanners_tree.specs.Bytes.{begins_with, is_at_line_end
 ghost use Rattle.markdown_scanners_tree.specs.line.KnownBreaks.{learnt_by_marker};
 ghost use Rattle.markdown_scanners_tree.specs.line.Outcome.{after_all_space, after_quote, alert_outcome, definition_outcome, item_outcome, task_outcome};
 ghost use Rattle.markdown_scanners_tree.specs.line.State.{IsLineState, after_space, space_within, unscanned};
-ghost use Rattle.markdown_scanners_c.specs.LineStarts.{state_on, known_breaks, IsTrueStart, OfState, IsNext, found_status, no_columns, columns_told};
-ghost use Rattle.markdown_scanners_c.specs.LineStarts.{no_item, item_told, no_task, task_told, no_alert, alert_told};
+ghost use Rattle.markdown_scanners_c.specs.LineStarts.{state_on, known_breaks, IsTrueStart, OfState, IsNext, found_status, no_columns, columns_returned};
+ghost use Rattle.markdown_scanners_c.specs.LineStarts.{no_item, item_returned, no_task, task_returned, no_alert, alert_returned};
 ghost use Rattle.markdown_scanners_c.specs.private.NoSpace.{HasNoSpace};
 ghost use Rattle.markdown_scanners_c.specs.Status.{ok, nothing, bad_state, too_large};
 
@@ -276,7 +276,7 @@ pub extern "C" fn mds_line_list(bytes: &[u8], start: &mut Start, indent: usize) 
 
     // Where what is known of the line is true.
     ensures answer { OfState bytes.now start.old (λ s. indent ≤ usize.MAX - 16
-        → IsTrueStart bytes.now start.old → result ≡ item_told (item_outcome indent s).answer) }
+        → IsTrueStart bytes.now start.old → result ≡ item_returned (item_outcome indent s).answer) }
     ensures state { OfState bytes.now start.old (λ s. indent ≤ usize.MAX - 16
         → IsTrueStart bytes.now start.old
         → state_on bytes.now start.new ≡ (item_outcome indent s).state) }
@@ -309,7 +309,7 @@ pub extern "C" fn mds_line_list(bytes: &[u8], start: &mut Start, indent: usize) 
 
 // A list item as C has it.
 fn item_of(item: Option<(u8, u64, usize)>) -> LineItem
-    ensures { result ≡ item_told item }
+    ensures { result ≡ item_returned item }
 {
     match item {
         Some((delimiter, start, indent)) => LineItem {
@@ -330,7 +330,7 @@ pub extern "C" fn mds_line_definition(bytes: &[u8], start: &mut Start, indent: u
     ensures large { IsLineState (state_on bytes.now start.old) → usize.MAX - 16 < indent
         → (result ≡ no_columns too_large) × (start.new ≡ start.old) }
     ensures answer { OfState bytes.now start.old (λ s. indent ≤ usize.MAX - 16
-        → result ≡ columns_told (definition_outcome indent s).answer) }
+        → result ≡ columns_returned (definition_outcome indent s).answer) }
     ensures state { OfState bytes.now start.old (λ s. indent ≤ usize.MAX - 16
         → state_on bytes.now start.new ≡ (definition_outcome indent s).state) }
     ensures next { OfState bytes.now start.old (λ s. IsNext bytes.now start.old start.new) }
@@ -349,7 +349,7 @@ pub extern "C" fn mds_line_definition(bytes: &[u8], start: &mut Start, indent: u
 
 // Columns as C has them.
 fn columns_of(columns: Option<usize>) -> Columns
-    ensures { result ≡ columns_told columns }
+    ensures { result ≡ columns_returned columns }
 {
     match columns {
         Some(columns) => Columns {
@@ -373,7 +373,7 @@ pub extern "C" fn mds_line_task(bytes: &[u8], start: &mut Start) -> Task
     ensures refused { ¬ IsLineState (state_on bytes.now start.old)
         → (result ≡ no_task bad_state) × (start.new ≡ start.old) }
     ensures answer { OfState bytes.now start.old (λ s.
-        result ≡ task_told (task_outcome s).answer) }
+        result ≡ task_returned (task_outcome s).answer) }
     ensures state { OfState bytes.now start.old (λ s.
         state_on bytes.now start.new ≡ (task_outcome s).state) }
     ensures next { OfState bytes.now start.old (λ s. IsNext bytes.now start.old start.new) }
@@ -399,7 +399,7 @@ fn no_task(status: u32) -> Task
 
 // A task list marker as C has it.
 fn task_of(checked: Option<bool>) -> Task
-    ensures { result ≡ task_told checked }
+    ensures { result ≡ task_returned checked }
 {
     match checked {
         Some(checked) => Task {
@@ -423,7 +423,7 @@ pub extern "C" fn mds_line_alert(bytes: &[u8], start: &mut Start) -> Alert
     ensures refused { ¬ IsLineState (state_on bytes.now start.old)
         → (result ≡ no_alert bad_state) × (start.new ≡ start.old) }
     ensures answer { OfState bytes.now start.old (λ s.
-        result ≡ alert_told (alert_outcome s).answer) }
+        result ≡ alert_returned (alert_outcome s).answer) }
     ensures state { OfState bytes.now start.old (λ s.
         state_on bytes.now start.new ≡ (alert_outcome s).state) }
     ensures next { OfState bytes.now start.old (λ s. IsNext bytes.now start.old start.new) }
@@ -446,7 +446,7 @@ fn no_alert(status: u32) -> Alert
 
 // An alert as C has it.
 fn alert_of(kind: Option<BlockQuoteKind>) -> Alert
-    ensures { result ≡ alert_told kind }
+    ensures { result ≡ alert_returned kind }
 {
     match kind {
         Some(kind) => Alert {

@@ -117,7 +117,7 @@ pub extern "C" fn mds_scan_line(bytes: &[u8]) -> usize
     scan_line(bytes)
 }
 
-/// The place behind the first LF, or the length; a CR ends no line here.
+/// The place after the first LF, or the length; a CR ends no line here.
 #[unsafe(no_mangle)]
 pub extern "C" fn mds_scan_nextline(bytes: &[u8]) -> usize
     ensures line { result ≡ next_line bytes.now }

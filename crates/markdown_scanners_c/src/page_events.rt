@@ -6,7 +6,7 @@ ghost use Rattle.markdown_events.specs.page.Given.{Gives};
 ghost use Rattle.markdown_events.specs.page.PageEvents.{ArePageEvents};
 ghost use Rattle.markdown_events.specs.page.Settings.{asked_by};
 ghost use Rattle.markdown_scanners_c.specs.EventRecords.{records_from, texts_of};
-ghost use Rattle.markdown_scanners_c.specs.PageEvents.{AreBothWritten, AreEventsTold};
+ghost use Rattle.markdown_scanners_c.specs.PageEvents.{AreBothWritten, AreEventsReturned};
 ghost use Rattle.markdown_scanners_c.specs.PageHtml.{options_of};
 ghost use Rattle.markdown_scanners_c.specs.Status.{ok, too_short};
 
@@ -27,7 +27,7 @@ pub struct EventCount {
 }
 
 /// Writes the events of a page, in order, and their texts.
-#[tactic(auto, unfolding(crate::specs::PageEvents::AreEventsTold))]
+#[tactic(auto, unfolding(crate::specs::PageEvents::AreEventsReturned))]
 #[unsafe(no_mangle)]
 pub extern "C" fn mds_events(
     alloc: Global,
@@ -36,7 +36,7 @@ pub extern "C" fn mds_events(
     events: &mut [PageEvent],
     texts: &mut [u8],
 ) -> EventCount
-    ensures events { AreEventsTold text.now options
+    ensures events { AreEventsReturned text.now options
         events.old events.new texts.old texts.new result }
     ensures utf8 { result.status ≡ ok → IsUtf8 (take result.length texts.new) }
 {

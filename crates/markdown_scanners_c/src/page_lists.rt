@@ -1,7 +1,7 @@
 //! The lists of a page. (CommonMark 0.31.2, section 5.3)
 ghost use Rattle.std.specs.Prelude.{◌≡◌, ◌⊎◌, map, IfOk};
 ghost use Rattle.markdown_scanners_c.specs.Buffer.{IsWritten};
-ghost use Rattle.markdown_scanners_c.specs.PageLists.{AreListsTold, list_told};
+ghost use Rattle.markdown_scanners_c.specs.PageLists.{AreListsReturned, list_returned};
 ghost use Rattle.markdown_scanners_c.specs.Status.{no_memory};
 
 use crate::pages::{BlockCount, write_front};
@@ -24,7 +24,7 @@ pub struct PageList {
 /// Writes the lists of a page, each where it ends.
 #[unsafe(no_mangle)]
 pub extern "C" fn mds_scan_lists(alloc: Global, page: &[u8], lists: &mut [PageList]) -> BlockCount
-    ensures lists { AreListsTold page.now lists.old lists.new result }
+    ensures lists { AreListsReturned page.now lists.old lists.new result }
 {
     match lists_of_page(alloc, page) {
         Ok(found) => write_lists(alloc, &found, lists),
@@ -38,10 +38,10 @@ pub extern "C" fn mds_scan_lists(alloc: Global, page: &[u8], lists: &mut [PageLi
 // Writes the lists.
 fn write_lists(alloc: Global, found: &[ListBlock], lists: &mut [PageList]) -> BlockCount
     ensures { ((result.status ≡ no_memory) × (result.count ≡ 0) × (lists.new ≡ lists.old))
-        ⊎ IsWritten (map list_told found.now) lists.old lists.new result.status result.count }
+        ⊎ IsWritten (map list_returned found.now) lists.old lists.new result.status result.count }
 {
-    match lists_told(alloc, found) {
-        Ok(told) => write_front(&told, lists),
+    match lists_returned(alloc, found) {
+        Ok(returned) => write_front(&returned, lists),
         Err(_) => BlockCount {
             status: NO_MEMORY,
             count: 0,
@@ -50,15 +50,15 @@ fn write_lists(alloc: Global, found: &[ListBlock], lists: &mut [PageList]) -> Bl
 }
 
 // The lists, as C has them.
-fn lists_told(alloc: Global, found: &[ListBlock]) -> Result<Vec<PageList>, AllocError>
-    ensures { IfOk result (λ told. told.items ≡ map list_told found.now) }
+fn lists_returned(alloc: Global, found: &[ListBlock]) -> Result<Vec<PageList>, AllocError>
+    ensures { IfOk result (λ returned. returned.items ≡ map list_returned found.now) }
 {
-    found.iter().map(|list| list_told(list)).collect(alloc)
+    found.iter().map(|list| list_returned(list)).collect(alloc)
 }
 
 // A list as C has it.
-fn list_told(list: &ListBlock) -> PageList
-    ensures { result ≡ list_told list.now }
+fn list_returned(list: &ListBlock) -> PageList
+    ensures { result ≡ list_returned list.now }
 {
     PageList {
         delimiter: list.delimiter,

@@ -13,8 +13,8 @@ ghost use Rattle.markdown_blocks.specs.events.Events.{Event, IsEventsOf, seen_ev
 ghost use Rattle.markdown_scanners_c.specs.Buffer.{IsWritten};
 ghost use Rattle.markdown_scanners_c.specs.Status.{no_memory};
 ghost use Rattle.markdown_scanners_c.specs.Texts.{IsNoText};
-ghost use Rattle.markdown_scanners_c.specs.Pages.{HasKind, IsContentTold, IsPageAnswer, StandsIn};
-ghost use Rattle.markdown_scanners_c.specs.Pages.{container_in, container_told, event_told, is_container, kind_told, leaf_told, of_kind};
+ghost use Rattle.markdown_scanners_c.specs.Pages.{HasKind, IsContentReturned, IsPageAnswer, StandsIn};
+ghost use Rattle.markdown_scanners_c.specs.Pages.{container_in, container_returned, event_returned, is_container, kind_returned, leaf_returned, of_kind};
 
 use crate::status::{BAD_KIND, NO_MEMORY, OK, PAST_END, TOO_SHORT};
 use crate::texts::{Text, no_text, write_text};
@@ -96,8 +96,8 @@ pub(crate) struct Kind {
 pub extern "C" fn mds_scan_blocks(alloc: Global, page: &[u8], blocks: &mut [Block]) -> BlockCount
     ensures blocks { IsPageAnswer page.now blocks.old blocks.new result }
 {
-    match told_blocks(alloc, page) {
-        Ok(told) => write_front(&told, blocks),
+    match returned_blocks(alloc, page) {
+        Ok(returned) => write_front(&returned, blocks),
         Err(_) => BlockCount {
             status: NO_MEMORY,
             count: 0,
@@ -106,47 +106,47 @@ pub extern "C" fn mds_scan_blocks(alloc: Global, page: &[u8], blocks: &mut [Bloc
 }
 
 // The blocks of a page.
-fn told_blocks(alloc: Global, page: &[u8]) -> Result<Vec<Block>, AllocError>
-    ensures { IfOk result (λ told. (events : List Event) × IsEventsOf no_extensions page.now events
-        × (told.items ≡ map event_told events)) }
+fn returned_blocks(alloc: Global, page: &[u8]) -> Result<Vec<Block>, AllocError>
+    ensures { IfOk result (λ returned. (events : List Event) × IsEventsOf no_extensions page.now events
+        × (returned.items ≡ map event_returned events)) }
 {
-    let mut told = Vec::new(alloc);
+    let mut returned = Vec::new(alloc);
     let mut blocks = Blocks::new(alloc, page);
     while let Some(event) = blocks.next(alloc)? {
-        told.push(event_told(event))?;
+        returned.push(event_returned(event))?;
     }
-    Ok(told)
+    Ok(returned)
 }
 
 /// Writes these at the front of the buffer, where there is room for them.
-pub(crate) fn write_front<T: Copy>(told: &[T], buffer: &mut [T]) -> BlockCount
-    ensures { IsWritten told.now buffer.old buffer.new result.status result.count }
+pub(crate) fn write_front<T: Copy>(returned: &[T], buffer: &mut [T]) -> BlockCount
+    ensures { IsWritten returned.now buffer.old buffer.new result.status result.count }
 {
-    let count = told.len();
+    let count = returned.len();
     if count > buffer.len() {
         return BlockCount {
             status: TOO_SHORT,
             count,
         };
     }
-    buffer[..count].copy_from_slice(told);
+    buffer[..count].copy_from_slice(returned);
     BlockCount { status: OK, count }
 }
 
 // An event as C has it.
-fn event_told(event: BlockEvent) -> Block
-    ensures { result ≡ event_told (seen_event event.entry) }
+fn event_returned(event: BlockEvent) -> Block
+    ensures { result ≡ event_returned (seen_event event.entry) }
 {
     match event {
-        BlockEvent::Start(container, place) => container_told(container, place),
-        BlockEvent::Block(leaf) => leaf_told(leaf),
+        BlockEvent::Start(container, place) => container_returned(container, place),
+        BlockEvent::Block(leaf) => leaf_returned(leaf),
         BlockEvent::End => of_kind(plain_kind(CONTAINER_END)),
     }
 }
 
 // A container that begins at the place, as C has it.
-pub(crate) fn container_told(container: Container, place: usize) -> Block
-    ensures { result ≡ container_told container place }
+pub(crate) fn container_returned(container: Container, place: usize) -> Block
+    ensures { result ≡ container_returned container place }
 {
     match container {
         Container::Quote => Block {
@@ -178,8 +178,8 @@ pub(crate) fn container_told(container: Container, place: usize) -> Block
 }
 
 // A leaf block as C has it.
-fn leaf_told(leaf: Leaf) -> Block
-    ensures { result ≡ leaf_told (seen_leaf leaf.entry) }
+fn leaf_returned(leaf: Leaf) -> Block
+    ensures { result ≡ leaf_returned (seen_leaf leaf.entry) }
 {
     Block {
         indent: leaf.indent,
@@ -188,7 +188,7 @@ fn leaf_told(leaf: Leaf) -> Block
         start: leaf.start,
         bytes: leaf.bytes,
         place: leaf.place,
-        ..of_kind(kind_told(leaf.kind))
+        ..of_kind(kind_returned(leaf.kind))
     }
 }
 
@@ -234,8 +234,8 @@ fn numbered_kind(kind: u32, number: u32) -> Kind
 }
 
 // The kind of a leaf block, as C has it.
-pub(crate) fn kind_told(kind: BlockKind) -> Kind
-    ensures { result ≡ kind_told kind }
+pub(crate) fn kind_returned(kind: BlockKind) -> Kind
+    ensures { result ≡ kind_returned kind }
 {
     match kind {
         BlockKind::Blank => plain_kind(BLANK),
@@ -262,7 +262,7 @@ pub(crate) fn kind_told(kind: BlockKind) -> Kind
 
 /// Writes the content of a leaf block of the page, which stands in these containers; its first line
 /// goes on with `kept` of them, and begins the others.
-#[tactic(auto, unfolding(crate::specs::Pages::IsContentTold))]
+#[tactic(auto, unfolding(crate::specs::Pages::IsContentReturned))]
 #[unsafe(no_mangle)]
 pub extern "C" fn mds_block_content(
     alloc: Global,
@@ -272,7 +272,7 @@ pub extern "C" fn mds_block_content(
     kept: usize,
     buffer: &mut [u8],
 ) -> Text
-    ensures content { IsContentTold page.now block.now containers.now kept
+    ensures content { IsContentReturned page.now block.now containers.now kept
         buffer.old buffer.new result }
 {
     let Some(lines) = lines_in(page, block) else {
@@ -325,11 +325,11 @@ fn kind_in(block: &Block) -> Option<BlockKind>
     ensures none { IfNone result ((kind : LeafKind) → ¬ HasKind block.now kind) }
 {
     let kind = likely_kind(block)?;
-    let told = kind_told(kind);
-    if told.kind == block.kind
-        && told.number == block.number
-        && told.byte == block.byte
-        && told.count == block.count
+    let returned = kind_returned(kind);
+    if returned.kind == block.kind
+        && returned.number == block.number
+        && returned.byte == block.byte
+        && returned.count == block.count
     {
         Some(kind)
     } else {

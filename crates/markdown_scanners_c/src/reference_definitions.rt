@@ -2,7 +2,7 @@
 ghost use Rattle.std.specs.Prelude.{◌≡◌, ◌≢◌, ◌≤◌, ◌<◌, ◌⊎◌, ◌+◌, length, IfSome};
 ghost use Rattle.std.specs.Str.{IsCharBoundary};
 ghost use Rattle.markdown_scanners_c.specs.Answers.{none};
-ghost use Rattle.markdown_scanners_c.specs.ReferenceDefinitions.{IsNoDefinition, IsToldDefinition, IsTitleAt, AreCutFromText};
+ghost use Rattle.markdown_scanners_c.specs.ReferenceDefinitions.{IsNoDefinition, IsReturnedDefinition, IsTitleAt, AreCutFromText};
 ghost use Rattle.markdown_scanners_c.specs.Status.{ok, past_end};
 ghost use Rattle.markdown_scanners_c.specs.TextPlace.{IsAnswerAt};
 
@@ -41,7 +41,7 @@ fn no_definition(status: u32) -> Definition
 }
 
 /// The link reference definition that begins at the place. (CommonMark 0.31.2, section 4.7)
-#[tactic(auto, unfolding(crate::specs::ReferenceDefinitions::IsToldDefinition))]
+#[tactic(auto, unfolding(crate::specs::ReferenceDefinitions::IsReturnedDefinition))]
 #[unsafe(no_mangle)]
 pub extern "C" fn mds_scan_reference_definition(
     bytes: &[u8],
@@ -49,7 +49,7 @@ pub extern "C" fn mds_scan_reference_definition(
     max_next: usize,
 ) -> Definition
     ensures definition { IsAnswerAt bytes.now start (IsNoDefinition past_end result)
-        (IsToldDefinition (max_next + 1) bytes.now start result) }
+        (IsReturnedDefinition (max_next + 1) bytes.now start result) }
     ensures in_order { (result.status ≡ ok → start < result.label_start)
         × (result.label_start + result.label_length ≤ result.destination_start)
         × (result.destination_start + result.destination_length ≤ result.end)

@@ -1,8 +1,8 @@
 //! What is left out of a text at the starts of its lines.
 ghost use Rattle.std.specs.Prelude.{◌≡◌, ◌+◌, ◌&&◌, ℕ, true, nat_le, drop};
 ghost use Rattle.markdown_scanners_c.specs.Skips.{stand_from, are_skips, left_out, is_ascii_front, are_ascii_skips, skips_status};
-ghost use Rattle.markdown_scanners_c.specs.private.LabelText.{told_ascii};
-ghost use Rattle.markdown_scanners_c.specs.private.Searched.{searched, told_skip};
+ghost use Rattle.markdown_scanners_c.specs.private.LabelText.{returned_ascii};
+ghost use Rattle.markdown_scanners_c.specs.private.Searched.{searched, returned_skip};
 
 use crate::status::{BAD_SKIPS, OK};
 
@@ -40,7 +40,7 @@ fn are_skips(skips: &[Skip], bytes: &[u8]) -> bool
     true
 }
 
-// Whether the skip begins at the place or behind it, and ends within so many bytes.
+// Whether the skip begins at the place or after it, and ends within so many bytes.
 fn stands(skip: Skip, from: usize, size: usize) -> bool
     ensures { result ≡ (nat_le from skip.place && nat_le (skip.place + skip.length) size) }
 {
@@ -98,8 +98,8 @@ pub(crate) fn searched(skips: &[Skip], place: usize) -> usize
 }
 
 /// How many bytes of a rest of the text a table leaves out, all of them where it names more.
-pub(crate) fn told_skip(skips: &[Skip], bytes: &[u8], rest: &[u8]) -> usize
-    ensures { result ≡ told_skip skips.now bytes.now rest.now }
+pub(crate) fn returned_skip(skips: &[Skip], bytes: &[u8], rest: &[u8]) -> usize
+    ensures { result ≡ returned_skip skips.now bytes.now rest.now }
 {
     let place = bytes.len().saturating_sub(rest.len());
     searched(skips, place).min(rest.len())
@@ -107,10 +107,10 @@ pub(crate) fn told_skip(skips: &[Skip], bytes: &[u8], rest: &[u8]) -> usize
 
 /// How many bytes of a rest of the text a table leaves out, all of them where it names more, if they
 /// are ASCII.
-pub(crate) fn told_ascii(skips: &[Skip], bytes: &[u8], rest: &[u8]) -> Option<usize>
-    ensures { result ≡ told_ascii skips.now bytes.now rest.now }
+pub(crate) fn returned_ascii(skips: &[Skip], bytes: &[u8], rest: &[u8]) -> Option<usize>
+    ensures { result ≡ returned_ascii skips.now bytes.now rest.now }
 {
-    let count = told_skip(skips, bytes, rest);
+    let count = returned_skip(skips, bytes, rest);
     if is_ascii_front(rest, count) {
         Some(count)
     } else {

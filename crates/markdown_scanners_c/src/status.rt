@@ -1,4 +1,4 @@
-//! What a call comes to, as C is told.
+//! What a call comes to, as C gets it.
 
 /// An answer.
 pub(crate) const OK: u32 = 0;

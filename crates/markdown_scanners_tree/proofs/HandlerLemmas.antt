@@ -16,7 +16,7 @@ use Rattle.markdown_scanners_tree.proofs.PrefixLemmas.{both_true}
 use denote.Param.Always.{always_fn}
 use denote.Ref.{Bor}
 
--- behind an ASCII byte a text may be cut
+-- after an ASCII byte a text may be cut
 pub cut_behind_ascii : (rest : List ℕ) (skip : ℕ) → IsUtf8 rest → skip ≤ length rest → 0 < skip
     → get_or rest (skip - 1) 0 < 128 → IsCharBoundary rest skip
 cut_behind_ascii rest skip utf8 within some ascii =
@@ -29,7 +29,7 @@ last_ascii (b ∷ rest) zero inside all = ltb-true b 128 (both_true (nat_lt b 12
 last_ascii (b ∷ rest) (suc k) inside all =
     last_ascii rest k (omega (arith, inside)) (both_true (nat_lt b 128) (list_all (λ c. nat_lt c 128) (take (suc k) rest)) all).1
 
--- and behind an ASCII front
+-- and after an ASCII front
 pub cut_behind_front : (rest : List ℕ) (skip : ℕ) → IsUtf8 rest → IsAsciiFront rest skip → IsCharBoundary rest skip
 cut_behind_front rest zero utf8 front = IsCharBoundary-start rest utf8
 cut_behind_front rest (suc k) utf8 front =
@@ -58,7 +58,7 @@ steady_at_ascii g f one ascii = record {
   inside = λ rest skip utf8 answers some. cut_behind_front rest skip utf8 (ascii rest skip utf8 answers);
 }
 
--- an ASCII front, and that a text may be cut behind it
+-- an ASCII front, and that a text may be cut after it
 pub ruleset ascii_fronts = (cut_behind_ascii, cut_behind_front, front_found)
 
 -- a handler that may always be called may be called after the line endings of a text

@@ -28,10 +28,10 @@ module _ {T : Type 0} (P : T → Type 0) where
   SomeExactly-none None none holds = holds
   SomeExactly-none (Some x) none holds = cc
 
-  pub SomeExactly-told : (answer : Option T) (test : Bool) → test ≡ is_some answer → SomeExactly P answer
+  pub SomeExactly-given : (answer : Option T) (test : Bool) → test ≡ is_some answer → SomeExactly P answer
       → IsTrue test ↔ ((x : T) × P x)
-  SomeExactly-told None test is none = (λ t. absurd (let gone = sym is ∙ t in cc), λ x. absurd (none x.0 x.1))
-  SomeExactly-told (Some x) test is holds = (λ t. (x, holds), λ _. is)
+  SomeExactly-given None test is none = (λ t. absurd (let gone = sym is ∙ t in cc), λ x. absurd (none x.0 x.1))
+  SomeExactly-given (Some x) test is holds = (λ t. (x, holds), λ _. is)
 
   -- the same answer to another question
   pub SomeExactly-map : (Q : T → Type 0) (answer : Option T) → ((x : T) → P x → Q x)

@@ -80,7 +80,7 @@ impl<'a> LineStart<'a> {
     }
 
     /// The line start at a place of the bytes with these columns pending, where the column of the
-    /// place modulo four is `phase`: as `bytes_scanned`, `remaining_space` and `phase` have told
+    /// place modulo four is `phase`: as `bytes_scanned`, `remaining_space` and `phase` have given
     /// them. None where no line start has such numbers.
     pub fn resumed(
         bytes: &'a [u8],

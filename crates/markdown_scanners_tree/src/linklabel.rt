@@ -177,7 +177,7 @@ pub fn scan_link_label_rest<'t, F: Fn(&[u8]) -> Option<usize>>(
     ensures reads_back { IfOk result (λ found. IfSome found (λ r. is_in_table ≡ false
         → ends_in_backslash (cow_text r.1) ≡ false → ReadsBack (cow_text r.1))) }
 
-    // Memory is wanted only for a label that doesn't stand in the text as it is.
+    // Memory is needed only for a label that doesn't stand in the text as it is.
     ensures borrowed { (label : Label)
         → IsLabel (Skips F.Fn handler.now) text.entry.now is_in_table label
         → label.plain ≡ true → IsOk result }
@@ -235,7 +235,7 @@ pub fn scan_link_label_bytes<'t, F: Fn(&[u8]) -> Option<usize>>(
     ensures reads_back { IfOk result (λ found. IfSome found (λ r. is_in_table ≡ false
         → ends_in_backslash (cow_text r.1) ≡ false → ReadsBack (cow_text r.1))) }
 
-    // Memory is wanted only for a label that doesn't stand in the bytes as it is.
+    // Memory is needed only for a label that doesn't stand in the bytes as it is.
     ensures borrowed { (label : Label)
         → IsLabelInBytes (Skips F.Fn handler.now) bytes.entry.now is_in_table label
         → label.plain ≡ true → IsOk result }

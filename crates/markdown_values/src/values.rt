@@ -81,7 +81,7 @@ impl<'a> CodeBlockKind<'a> {
     }
 }
 
-/// The kind of an alert: a block quote that begins with a line as `[!NOTE]`, in any case. Wants
+/// The kind of an alert: a block quote that begins with a line as `[!NOTE]`, in any case. Needs
 /// `ENABLE_GFM`.
 #[derive(Clone, Copy, Debug, PartialEq, Eq, PartialOrd, Ord, Hash)]
 pub enum BlockQuoteKind {
@@ -124,9 +124,9 @@ impl BlockQuoteKind {
 /// The kind of a metadata block, by the lines that enclose it.
 #[derive(Clone, Copy, Debug, PartialEq, Eq, PartialOrd, Ord, Hash)]
 pub enum MetadataBlockKind {
-    /// Three hyphens. Wants `ENABLE_YAML_STYLE_METADATA_BLOCKS`.
+    /// Three hyphens. Needs `ENABLE_YAML_STYLE_METADATA_BLOCKS`.
     YamlStyle,
-    /// Three plus signs. Wants `ENABLE_PLUSES_DELIMITED_METADATA_BLOCKS`.
+    /// Three plus signs. Needs `ENABLE_PLUSES_DELIMITED_METADATA_BLOCKS`.
     PlusesStyle,
 }
 
@@ -257,9 +257,9 @@ pub enum LinkType {
     Autolink,
     /// `<name@host>`
     Email,
-    /// `[[page]]`. Wants `ENABLE_WIKILINKS`.
+    /// `[[page]]`. Needs `ENABLE_WIKILINKS`.
     WikiLink {
-        /// Whether a text stands behind a pipe, as in `[[page|text]]`.
+        /// Whether a text stands after a pipe, as in `[[page|text]]`.
         has_pothole: bool,
     },
 }

@@ -1,6 +1,6 @@
 //! What the program says of itself.
 
-/// What is written on standard error behind the name of an option that is not known.
+/// What is written on standard error after the name of an option that is not known.
 pub const USAGE: &str = "
 usage: cmark_blocks [--json] [--footnotes] [--definition-lists] [--] [FILE ..]
        cmark_blocks -h | --help | --version

@@ -112,7 +112,7 @@ pub(crate) fn push_kind_json(
     }
 }
 
-// Adds a number behind a text.
+// Adds a number after a text.
 fn push_number(text: &mut String, before: &str, number: usize) -> Result<(), AllocError>
     ensures { OnOk result (string_bytes text.new
         ≡ string_bytes text.old ++ (before.now ++ decimal number)) }

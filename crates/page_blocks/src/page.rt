@@ -3,8 +3,8 @@ ghost use Rattle.std.specs.Prelude.{◌≡◌, ◌<◌, ◌≤◌, ◌+◌, ◌-
 ghost use Rattle.std.specs.Prelude.{length, take, drop, IsTrue, MatchBool, IfOk, IfSome, IfNone, OnOk, string_bytes};
 ghost use Rattle.markdown_scanners_tree.specs.scanners.TextLines.{lines_of};
 ghost use Rattle.markdown_blocks.specs.taken.Whole.{AreWhole};
-ghost use Rattle.page_blocks.specs.page.Going.{HasTold, Tells};
-ghost use Rattle.page_blocks.specs.page.Told.{TellsPage, the_front};
+ghost use Rattle.page_blocks.specs.page.Going.{HasPrinted, Prints};
+ghost use Rattle.page_blocks.specs.page.Printed.{PrintsPage, the_front};
 ghost use Rattle.page_blocks.specs.printer.Printers.{printed_of};
 
 use crate::printer::Printer;
@@ -15,25 +15,25 @@ use markdown_blocks::walk::Walk;
 use markdown_blocks::whole::whole_lines;
 use std::alloc::{AllocError, Global};
 
-/// How far a page is told: the open containers, the content of a block that may begin with a link
+/// How far a page is printed: the open containers, the content of a block that may begin with a link
 /// reference definition, and the lines.
 #[derive(Drop)]
-pub(crate) struct Telling {
+pub(crate) struct Printing {
     walk: Walk,
     content: Vec<u8>,
     pub(crate) printer: Printer,
 }
 
-impl Telling {
-    /// Nothing is told of a page.
-    pub(crate) fn new(alloc: Global, form: Form, extensions: BlockExtensions) -> Telling
-        ensures told { (page : List ℕ) → HasTold page [] result (lines_of page) }
+impl Printing {
+    /// Nothing is printed of a page.
+    pub(crate) fn new(alloc: Global, form: Form, extensions: BlockExtensions) -> Printing
+        ensures printed { (page : List ℕ) → HasPrinted page [] result (lines_of page) }
         ensures form { result.printer.form ≡ form }
         ensures asked { result.walk.extensions ≡ extensions }
         ensures at { printed_of result.printer ≡ the_front }
         ensures nothing { string_bytes result.printer.text ≡ [] }
     {
-        Telling {
+        Printing {
             walk: Walk::new_ext(alloc, extensions),
             content: Vec::new(alloc),
             printer: Printer::new(alloc, form),
@@ -42,7 +42,7 @@ impl Telling {
 
     /// Tells the blocks at the front of the text that end there whatever bytes follow it, and all
     /// of the page where the input has ended. Answers how many bytes the blocks have.
-    pub(crate) fn tell(
+    pub(crate) fn print(
         &mut self,
         alloc: Global,
         text: &[u8],
@@ -50,12 +50,12 @@ impl Telling {
     ) -> Result<usize, AllocError>
         requires lines { self.old.printer.at.lines + length text.now ≤ usize.MAX }
         requires bytes { self.old.printer.at.bytes + length text.now ≤ usize.MAX }
-        ensures told { IfOk result (λ count. ¬ IsTrue has_ended → (more : List ℕ)
-            → Tells self.old (lines_of (text.now ++ more))
+        ensures printed { IfOk result (λ count. ¬ IsTrue has_ended → (more : List ℕ)
+            → Prints self.old (lines_of (text.now ++ more))
             self.new (lines_of (drop count text.now ++ more))) }
         ensures ended { OnOk result (IsTrue has_ended → (page written : List ℕ)
-            → HasTold page written self.old (lines_of text.now)
-            → TellsPage self.old.walk.extensions self.old.printer.form page
+            → HasPrinted page written self.old (lines_of text.now)
+            → PrintsPage self.old.walk.extensions self.old.printer.form page
             (written ++ string_bytes self.new.printer.text)) }
         ensures within { IfOk result (λ count. count ≤ length text.now) }
         ensures lines { IfOk result (λ count. ¬ IsTrue has_ended →
@@ -67,7 +67,7 @@ impl Telling {
             (self.new.walk.extensions ≡ self.old.walk.extensions) }
     {
         let (lines, _) = text.split_at(front_of(text, has_ended));
-        let count = self.tell_lines(alloc, lines, has_ended)?;
+        let count = self.print_lines(alloc, lines, has_ended)?;
         if has_ended {
             let depth = self.walk.containers().len();
             self.printer.print_end(alloc, depth)?;
@@ -76,7 +76,7 @@ impl Telling {
     }
 
     // The same of whole lines.
-    fn tell_lines(
+    fn print_lines(
         &mut self,
         alloc: Global,
         lines: &[u8],
@@ -84,9 +84,9 @@ impl Telling {
     ) -> Result<usize, AllocError>
         requires lines { self.old.printer.at.lines + length lines.now ≤ usize.MAX }
         requires bytes { self.old.printer.at.bytes + length lines.now ≤ usize.MAX }
-        ensures told { IfOk result (λ count.
+        ensures printed { IfOk result (λ count.
             (more : List (List ℕ)) → (IsTrue has_ended → more ≡ [])
-            → Tells self.old (lines_of lines.now ++ more)
+            → Prints self.old (lines_of lines.now ++ more)
             self.new (lines_of (drop count lines.now) ++ more)) }
         ensures all { IfOk result (λ count. IsTrue has_ended → count ≡ length lines.now) }
         ensures within { IfOk result (λ count. count ≤ length lines.now) }
@@ -99,15 +99,15 @@ impl Telling {
             (self.new.walk.extensions ≡ self.old.walk.extensions) }
     {
         let mut count = 0;
-        while let Some(more) = self.tell_block(alloc, &lines[count..], has_ended)? {
+        while let Some(more) = self.print_block(alloc, &lines[count..], has_ended)? {
             count += more;
         }
         Ok(count)
     }
 
-    // Tells the block at the front of the lines, if there is one that no line behind them changes.
+    // Tells the block at the front of the lines, if there is one that no line after them changes.
     // Answers how many bytes it has.
-    fn tell_block(
+    fn print_block(
         &mut self,
         alloc: Global,
         lines: &[u8],
@@ -115,9 +115,9 @@ impl Telling {
     ) -> Result<Option<usize>, AllocError>
         requires lines { self.old.printer.at.lines + length lines.now ≤ usize.MAX }
         requires bytes { self.old.printer.at.bytes + length lines.now ≤ usize.MAX }
-        ensures told { IfOk result (λ found. IfSome found (λ count.
+        ensures printed { IfOk result (λ found. IfSome found (λ count.
             (more : List (List ℕ)) → (IsTrue has_ended → more ≡ [])
-            → Tells self.old (lines_of lines.now ++ more)
+            → Prints self.old (lines_of lines.now ++ more)
             self.new (lines_of (drop count lines.now) ++ more))) }
         ensures some { IfOk result (λ found. IfSome found (λ count. 0 < count)) }
         ensures within { IfOk result (λ found. IfSome found (λ count.
@@ -149,7 +149,7 @@ impl Telling {
     }
 }
 
-// How many bytes at the front of the text are lines that no byte behind it changes.
+// How many bytes at the front of the text are lines that no byte after it changes.
 fn front_of(text: &[u8], has_ended: bool) -> usize
     ensures front { MatchBool has_ended (result ≡ length text.now) (AreWhole text.now result) }
     ensures within { result ≤ length text.now }

@@ -2,7 +2,7 @@
 ghost use Rattle.std.specs.Prelude.{◌≡◌, ◌++◌, [], OnOk, string_bytes};
 ghost use Rattle.markdown_blocks.specs.events.Events.{seen_event};
 ghost use Rattle.page_blocks.specs.definition.Definition.{shown_of};
-ghost use Rattle.page_blocks.specs.page.Told.{after, ended_line, event_lines, last_lines, the_front};
+ghost use Rattle.page_blocks.specs.page.Printed.{after, ended_line, event_lines, last_lines, the_front};
 ghost use Rattle.page_blocks.specs.printer.Printers.{HasPrinted, printed_of};
 
 use crate::definition::{Definition, definition_of};

@@ -3,9 +3,9 @@ ghost use Rattle.std.specs.Prelude.{◌≡◌, ◌++◌, IfOk, OnOk, string_byte
 ghost use Rattle.std.specs.Option.{option_map};
 ghost use Rattle.markdown_blocks.specs.events.Events.{seen_leaf};
 ghost use Rattle.page_blocks.specs.definition.Definition.{seen_definition};
-ghost use Rattle.page_blocks.specs.page.Told.{kind_told, container_told, front_told, size_told, line_end};
-ghost use Rattle.page_blocks.specs.page.Told.{column_of, place_of, container_line, end_line, leaf_line, list_line};
-ghost use Rattle.page_blocks.specs.page.Told.{kind_text, container_text, fence_text, info_text, list_text, tightness, title_of};
+ghost use Rattle.page_blocks.specs.page.Printed.{kind_printed, container_printed, front_printed, size_printed, line_end};
+ghost use Rattle.page_blocks.specs.page.Printed.{column_of, place_of, container_line, end_line, leaf_line, list_line};
+ghost use Rattle.page_blocks.specs.page.Printed.{kind_text, container_text, fence_text, info_text, list_text, tightness, title_of};
 
 use crate::definition::Definition;
 use crate::info::push_bytes;
@@ -163,7 +163,7 @@ fn column_of(start: usize, place: usize) -> u128
 
 // Adds what stands at the front of a line.
 fn push_front(text: &mut String, form: Form, front: Front) -> Result<(), AllocError>
-    ensures { OnOk result (string_bytes text.new ≡ string_bytes text.old ++ front_told form front) }
+    ensures { OnOk result (string_bytes text.new ≡ string_bytes text.old ++ front_printed form front) }
 {
     match form {
         Form::Words => write!(text, "{} {} {} ", front.first, front.last, front.depth),
@@ -174,7 +174,7 @@ fn push_front(text: &mut String, form: Form, front: Front) -> Result<(), AllocEr
 // Adds how many bytes a block's lines have.
 fn push_size(text: &mut String, form: Form, bytes: usize) -> Result<(), AllocError>
     ensures { OnOk result (string_bytes text.new
-        ≡ string_bytes text.old ++ size_told form bytes) }
+        ≡ string_bytes text.old ++ size_printed form bytes) }
 {
     match form {
         Form::Words => Ok(()),
@@ -203,7 +203,7 @@ fn push_kind(
     written: Option<Definition>,
 ) -> Result<(), AllocError>
     ensures { OnOk result (string_bytes text.new ≡ string_bytes text.old
-        ++ kind_told form kind words.now (option_map seen_definition written.entry)) }
+        ++ kind_printed form kind words.now (option_map seen_definition written.entry)) }
 {
     match form {
         Form::Words => push_kind_text(text, kind, words),
@@ -214,7 +214,7 @@ fn push_kind(
 // Adds a container, with what is known of its marker.
 fn push_marker(text: &mut String, form: Form, container: Container) -> Result<(), AllocError>
     ensures { OnOk result (string_bytes text.new
-        ≡ string_bytes text.old ++ container_told form container) }
+        ≡ string_bytes text.old ++ container_printed form container) }
 {
     match form {
         Form::Words => push_container_text(text, container),
@@ -265,7 +265,7 @@ fn push_fenced(text: &mut String, count: usize, byte: u8, info: &[u8]) -> Result
     push_info(text, info)
 }
 
-// Adds an info string behind a space, unless it is empty.
+// Adds an info string after a space, unless it is empty.
 fn push_info(text: &mut String, info: &[u8]) -> Result<(), AllocError>
     ensures { OnOk result (string_bytes text.new ≡ string_bytes text.old ++ info_text info.now) }
 {

@@ -8,11 +8,11 @@ ghost use Rattle.page_programs.specs.Stops.{IfWrite, IsWrite, stop_parts, unknow
 ghost use Rattle.page_programs.specs.Words.{pages_of, request_of, unknown_of};
 ghost use Rattle.page_programs.specs.declared.stops.Stop.{Stop};
 ghost use Rattle.page_programs.specs.declared.words.Request.TheVariants.{Pages, Help, Version};
-ghost use Rattle.page_blocks.specs.page.Told.{IsToldTo, IsBegunTo, title_of};
+ghost use Rattle.page_blocks.specs.page.Printed.{IsPrintedTo, IsBegunTo, title_of};
 ghost use Rattle.page_blocks.specs.words.Words.{extensions_of, form_of, own_options};
 
 use crate::help::{HELP, USAGE, VERSION};
-use crate::page::Telling;
+use crate::page::Printing;
 use crate::printing::make_title;
 use crate::words::{Form, extensions_of, form_of};
 use markdown_blocks::containers::BlockExtensions;
@@ -58,16 +58,16 @@ pub fn run_program<R: StepReader, F: OpensFiles, W: StepWriter, V: StepWriter>(
         (input.new ≡ input.old) × (files.new ≡ files.old) }
 
     // Pages.
-    ensures told { result ≡ 0 → request_of words.now ≡ Pages →
+    ensures printed { result ≡ 0 → request_of words.now ≡ Pages →
         PrintsAll (title_of (form_of words.now) (length (pages_of words.now)))
-        (IsToldTo (extensions_of words.now) (form_of words.now))
+        (IsPrintedTo (extensions_of words.now) (form_of words.now))
         (IsBegunTo (extensions_of words.now) (form_of words.now))
         R.remaining R.reads F.opens F.File.remaining F.File.reads
         (pages_of words.now)
         input.old files.old (W.contents output.old)
         input.new files.new (W.contents output.new) None }
 
-    // At status 0 nothing is written to the faults; at 3 it is told why, as far as they take it.
+    // At status 0 nothing is written to the faults; at 3 the reason is, as far as they take it.
     ensures done { result ≡ 0 → faults.new ≡ faults.old }
     ensures stopped { result ≡ 3 → (name : List ℕ) × (stop : Stop)
         × AreGiven V.writes faults.old (stop_parts (codes "cmark_blocks") name stop) faults.new
@@ -75,7 +75,7 @@ pub fn run_program<R: StepReader, F: OpensFiles, W: StepWriter, V: StepWriter>(
         × ((request_of words.now ≡ Help) ⊎ (request_of words.now ≡ Version) → IsWrite stop)
         × (request_of words.now ≡ Pages →
         PrintsAll (title_of (form_of words.now) (length (pages_of words.now)))
-        (IsToldTo (extensions_of words.now) (form_of words.now))
+        (IsPrintedTo (extensions_of words.now) (form_of words.now))
         (IsBegunTo (extensions_of words.now) (form_of words.now))
         R.remaining R.reads F.opens F.File.remaining F.File.reads
         (pages_of words.now)
@@ -113,11 +113,11 @@ struct Blocks {
 }
 
 impl PrintsPages for Blocks {
-    ghost use Rattle.page_blocks.specs.page.Told.{IsToldTo, IsBegunTo, title_of};
+    ghost use Rattle.page_blocks.specs.page.Printed.{IsPrintedTo, IsBegunTo, title_of};
 
     ghost titles = { λ it. title_of it.form };
 
-    ghost prints = { λ it. IsToldTo it.extensions it.form };
+    ghost prints = { λ it. IsPrintedTo it.extensions it.form };
 
     ghost begins = { λ it. IsBegunTo it.extensions it.form };
 
@@ -132,12 +132,12 @@ impl PrintsPages for Blocks {
         input: &mut R,
         output: &mut W,
     ) -> Result<(), Stop> {
-        tell_page(alloc, self.extensions, self.form, title, input, output)
+        print_page(alloc, self.extensions, self.form, title, input, output)
     }
 }
 
 // Writes the title, and the lines of the blocks and lists of the input, in this form.
-fn tell_page<R: StepReader, W: StepWriter>(
+fn print_page<R: StepReader, W: StepWriter>(
     alloc: Global,
     extensions: BlockExtensions,
     form: Form,
@@ -145,8 +145,8 @@ fn tell_page<R: StepReader, W: StepWriter>(
     input: &mut R,
     output: &mut W,
 ) -> Result<(), Stop>
-    ensures told { IfOk result (λ _. IfSome (R.remaining input.old) (λ bytes.
-        IsToldTo extensions form title.now bytes (W.contents output.old) (W.contents output.new))) }
+    ensures printed { IfOk result (λ _. IfSome (R.remaining input.old) (λ bytes.
+        IsPrintedTo extensions form title.now bytes (W.contents output.old) (W.contents output.new))) }
     ensures read { IfOk result (λ _. IsAtEnd (R.remaining input.new)) }
     ensures ended { IfOk result (λ _. HasEnded R.reads input.new) }
     ensures begun { IfErr result (λ stop. ¬ IsWrite stop →
@@ -160,15 +160,15 @@ fn tell_page<R: StepReader, W: StepWriter>(
 {
     write_text(output, title)?;
     let mut unread = Unread::new(alloc);
-    let mut telling = Telling::new(alloc, form, extensions);
+    let mut printing = Printing::new(alloc, form, extensions);
     loop {
         let has_ended = unread.read_more(input)?;
-        let count = telling.tell(alloc, &unread.text, has_ended)?;
-        write_text(output, telling.printer.text.as_str())?;
+        let count = printing.print(alloc, &unread.text, has_ended)?;
+        write_text(output, printing.printer.text.as_str())?;
         if has_ended {
             return Ok(());
         }
-        telling.printer.text.clear();
+        printing.printer.text.clear();
         unread.drop_front(count);
     }
 }

@@ -5,7 +5,7 @@ ghost use Rattle.page_blocks.specs.words.Words.{extensions_of, form_of};
 use markdown_blocks::containers::BlockExtensions;
 use page_programs::words::has_option;
 
-/// How a block is told.
+/// How a block is printed.
 #[derive(Clone, Copy)]
 pub(crate) enum Form {
     /// By words.
@@ -14,7 +14,7 @@ pub(crate) enum Form {
     Json,
 }
 
-/// How the words ask for blocks to be told.
+/// How the words ask for blocks to be printed.
 pub(crate) fn form_of(words: &[&str]) -> Form
     ensures { result ≡ form_of words.now }
 {

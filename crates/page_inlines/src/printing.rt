@@ -1,7 +1,7 @@
 //! The lines of blocks and of their inlines.
 ghost use Rattle.std.specs.Prelude.{◌≡◌, ◌++◌, ◌+◌, ◌<◌, IsTrue, List, ℕ, length, slice_range, OnOk, string_bytes};
 ghost use Rattle.markdown_blocks.specs.events.Events.{seen_leaf};
-ghost use Rattle.page_blocks.specs.page.Told.{kind_text};
+ghost use Rattle.page_blocks.specs.page.Printed.{kind_text};
 ghost use Rattle.page_inlines.specs.printing.Lines.{has_inlines, block_line, place_of, front, span, quoted, piece_word};
 ghost use Rattle.page_inlines.specs.printing.Lines.{emphasis_word, title_text, target_text, link_word, link_text, opened_text};
 ghost use Rattle.page_inlines.specs.printing.Lines.{emphasis_text, piece_text, end_text, inline_line};

@@ -59,7 +59,7 @@ pub fn run_program<R: StepReader, F: OpensFiles, W: StepWriter, V: StepWriter>(
         input.old files.old (W.contents output.old)
         input.new files.new (W.contents output.new) None }
 
-    // At status 0 nothing is written to the faults; at 3 it is told why, as far as they take it.
+    // At status 0 nothing is written to the faults; at 3 the reason is, as far as they take it.
     ensures done { result ≡ 0 → faults.new ≡ faults.old }
     ensures stopped { result ≡ 3 → (name : List ℕ) × (stop : Stop)
         × AreGiven V.writes faults.old (stop_parts (codes "cmark_inlines") name stop) faults.new

@@ -7,7 +7,7 @@ use Rattle.program_faults.specs.Steps.{AreReads, HasEnded, HasFailed}
 use Rattle.program_faults.specs.declared.reasons.Reason.{Reason}
 use Rattle.page_programs.specs.declared.stops.Stop.{Stop}
 use Rattle.page_programs.specs.declared.stops.Stop.TheVariants.{Read, Write, Memory}
-use Rattle.page_programs.specs.Runs.{IsTold, Prints, not_begun, stop_of}
+use Rattle.page_programs.specs.Runs.{IsPrinted, Prints, not_begun, stop_of}
 use Rattle.page_programs.specs.Stops.{IsWrite}
 
 module _ {R T : Type 0} (title : List ℕ → List ℕ)
@@ -34,7 +34,7 @@ module _ {R O F T : Type 0} (by_input : List ℕ → R → R → Option (List �
     (by_file : List ℕ → O → O → Option (List ℕ) → Option (List ℕ) → Option Stop → Type 0) where
   -- memory is refused before the page
   pub page_refused : (r : Result T Stop) → IsErrAnd r (λ stop. stop ≡ Memory) → (name : List ℕ) (input : R) (files : F) (out : Option (List ℕ))
-      → IsTold by_input opens by_file name input files out input files out (stop_of r)
+      → IsPrinted by_input opens by_file name input files out input files out (stop_of r)
   page_refused (Ok t) is name input files out = absurd is
   page_refused (Err stop) is name input files out =
-      subst (λ s. IsTold by_input opens by_file name input files out input files out (Some s)) (sym is) (not_begun name input files out)
+      subst (λ s. IsPrinted by_input opens by_file name input files out input files out (Some s)) (sym is) (not_begun name input files out)

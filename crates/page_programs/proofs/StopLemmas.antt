@@ -1,4 +1,4 @@
--- Where the reader of the output has not left, a line is told.
+-- Where the reader of the output has not left, a line is printed.
 use Rattle.std.proofs.Common.{◌≡◌, ◌≢◌, refl, false}
 use Rattle.program_faults.specs.declared.reasons.Reason.{Reason}
 use Rattle.program_faults.specs.declared.reasons.Reason.TheVariants as reason

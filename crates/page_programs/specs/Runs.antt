@@ -21,42 +21,42 @@ module _ {R : Type 0} (title : List ℕ → List ℕ)
   -- it stopped. Then they grew by what is printed before a stop, unless a write failed. Where it can't be read the last read failed, or
   -- there were as many reads as are made.
   abbrev pub PageEnds : List ℕ → R → R → Option (List ℕ) → Option (List ℕ) → Option Stop → Type 0
-  PageEnds heading old new out told None =
-      IfSome (remaining old) (λ page. prints heading page out told) × IsAtEnd (remaining new) × HasEnded reads new
-  PageEnds heading old new out told (Some (Read why)) =
-      begins heading (remaining old) (remaining new) out told × (HasFailed reads why new ⊎ AreReads reads 281474976710655 old new)
-  PageEnds heading old new out told (Some (Write why)) = ⊤
-  PageEnds heading old new out told (Some Memory) = begins heading (remaining old) (remaining new) out told
+  PageEnds heading old new out printed None =
+      IfSome (remaining old) (λ page. prints heading page out printed) × IsAtEnd (remaining new) × HasEnded reads new
+  PageEnds heading old new out printed (Some (Read why)) =
+      begins heading (remaining old) (remaining new) out printed × (HasFailed reads why new ⊎ AreReads reads 281474976710655 old new)
+  PageEnds heading old new out printed (Some (Write why)) = ⊤
+  PageEnds heading old new out printed (Some Memory) = begins heading (remaining old) (remaining new) out printed
 
   -- the same of the page of this name; and nothing but reads was done
   abbrev pub Prints : List ℕ → R → R → Option (List ℕ) → Option (List ℕ) → Option Stop → Type 0
-  Prints name old new out told stop = PageEnds (title name) old new out told stop × (count : ℕ) × AreReads reads count old new
+  Prints name old new out printed stop = PageEnds (title name) old new out printed stop × (count : ℕ) × AreReads reads count old new
 
 module _ {R O F : Type 0} (by_input : List ℕ → R → R → Option (List ℕ) → Option (List ℕ) → Option Stop → Type 0)
     (opens : F → List ℕ → Result O Reason → F → Type 0)
     (by_file : List ℕ → O → O → Option (List ℕ) → Option (List ℕ) → Option Stop → Type 0) where
   -- What the page of a name came to: `-` is standard input, and any other name that of a file. Memory may be refused before it.
-  pub data IsTold : List ℕ → R → F → Option (List ℕ) → R → F → Option (List ℕ) → Option Stop → Type 0 where
-    from_input : (name : List ℕ) (old new : R) (files : F) (out told : Option (List ℕ)) (stop : Option Stop)
-        → bytes_eq name dash ≡ true → by_input name old new out told stop → IsTold name old files out new files told stop
-    from_file : (name : List ℕ) (input : R) (old new : F) (out told : Option (List ℕ)) (stop : Option Stop) (opened last : O)
-        → bytes_eq name dash ≡ false → opens old name (Ok opened) new → by_file name opened last out told stop
-        → IsTold name input old out input new told stop
+  pub data IsPrinted : List ℕ → R → F → Option (List ℕ) → R → F → Option (List ℕ) → Option Stop → Type 0 where
+    from_input : (name : List ℕ) (old new : R) (files : F) (out printed : Option (List ℕ)) (stop : Option Stop)
+        → bytes_eq name dash ≡ true → by_input name old new out printed stop → IsPrinted name old files out new files printed stop
+    from_file : (name : List ℕ) (input : R) (old new : F) (out printed : Option (List ℕ)) (stop : Option Stop) (opened last : O)
+        → bytes_eq name dash ≡ false → opens old name (Ok opened) new → by_file name opened last out printed stop
+        → IsPrinted name input old out input new printed stop
     not_opened : (name : List ℕ) (input : R) (old new : F) (out : Option (List ℕ)) (why : Reason)
-        → bytes_eq name dash ≡ false → opens old name (Err why) new → IsTold name input old out input new out (Some (Read why))
-    not_begun : (name : List ℕ) (input : R) (files : F) (out : Option (List ℕ)) → IsTold name input files out input files out (Some Memory)
+        → bytes_eq name dash ≡ false → opens old name (Err why) new → IsPrinted name input old out input new out (Some (Read why))
+    not_begun : (name : List ℕ) (input : R) (files : F) (out : Option (List ℕ)) → IsPrinted name input files out input files out (Some Memory)
 
   -- The pages of names, one after another, up to the first that stopped. Memory may be refused before each.
-  pub data AreTold : List (List ℕ) → R → F → Option (List ℕ) → R → F → Option (List ℕ) → Option (List ℕ × Stop) → Type 0 where
-    none_left : (input : R) (files : F) (out : Option (List ℕ)) → AreTold [] input files out input files out None
-    told : (name : List ℕ) (names : List (List ℕ)) (input next last : R) (files more most : F) (out longer longest : Option (List ℕ))
-        (end : Option (List ℕ × Stop)) → IsTold name input files out next more longer None
-        → AreTold names next more longer last most longest end → AreTold (name ∷ names) input files out last most longest end
+  pub data ArePrinted : List (List ℕ) → R → F → Option (List ℕ) → R → F → Option (List ℕ) → Option (List ℕ × Stop) → Type 0 where
+    none_left : (input : R) (files : F) (out : Option (List ℕ)) → ArePrinted [] input files out input files out None
+    printed : (name : List ℕ) (names : List (List ℕ)) (input next last : R) (files more most : F) (out longer longest : Option (List ℕ))
+        (end : Option (List ℕ × Stop)) → IsPrinted name input files out next more longer None
+        → ArePrinted names next more longer last most longest end → ArePrinted (name ∷ names) input files out last most longest end
     stopped : (name : List ℕ) (names : List (List ℕ)) (input next : R) (files more : F) (out longer : Option (List ℕ)) (stop : Stop)
-        → IsTold name input files out next more longer (Some stop)
-        → AreTold (name ∷ names) input files out next more longer (Some (name, stop))
+        → IsPrinted name input files out next more longer (Some stop)
+        → ArePrinted (name ∷ names) input files out next more longer (Some (name, stop))
     no_memory : (name : List ℕ) (names : List (List ℕ)) (input : R) (files : F) (out : Option (List ℕ))
-        → AreTold names input files out input files out (Some (name, Memory))
+        → ArePrinted names input files out input files out (Some (name, Memory))
 
 module _ {R O F : Type 0} (title : List ℕ → List ℕ)
     (prints : List ℕ → List ℕ → Option (List ℕ) → Option (List ℕ) → Type 0)
@@ -66,8 +66,8 @@ module _ {R O F : Type 0} (title : List ℕ → List ℕ)
     (file_remaining : O → Option (List ℕ)) (file_reads : O → Result (List ℕ) Reason → O → Type 0) where
   -- the page of a name is printed, or it stopped
   abbrev pub PrintsNamed : List ℕ → R → F → Option (List ℕ) → R → F → Option (List ℕ) → Option Stop → Type 0
-  PrintsNamed = IsTold (Prints title prints begins remaining reads) opens (Prints title prints begins file_remaining file_reads)
+  PrintsNamed = IsPrinted (Prints title prints begins remaining reads) opens (Prints title prints begins file_remaining file_reads)
 
   -- the pages of names are printed, up to the first that stopped
   abbrev pub PrintsAll : List (List ℕ) → R → F → Option (List ℕ) → R → F → Option (List ℕ) → Option (List ℕ × Stop) → Type 0
-  PrintsAll = AreTold (Prints title prints begins remaining reads) opens (Prints title prints begins file_remaining file_reads)
+  PrintsAll = ArePrinted (Prints title prints begins remaining reads) opens (Prints title prints begins file_remaining file_reads)

@@ -1,4 +1,4 @@
--- What is told of a stop.
+-- What is printed of a stop.
 use Rattle.std.specs.Prelude.{ℕ, Bool, true, false, List, [], ◌∷◌, ◌++◌, ⊤, codes, if◌then◌else◌}
 use Rattle.std.specs.Str.{bytes_eq}
 use Rattle.program_faults.specs.Reasons.{reason_line}
@@ -21,7 +21,7 @@ is_left _ = false
 abbrev pub write_parts : List ℕ → Reason → List (List ℕ)
 write_parts program why = if is_left why then [] else program ∷ codes ": write error" ∷ reason_line why ∷ []
 
--- The parts of the line with which this program tells of a stop at the page of this name. Nothing is told where the reader of the
+-- The parts of the line with which this program tells of a stop at the page of this name. Nothing is printed where the reader of the
 -- output has left.
 abbrev pub stop_parts : List ℕ → List ℕ → Stop → List (List ℕ)
 stop_parts program name (Read why) = program ∷ codes ": " ∷ shown_name name ∷ reason_line why ∷ []

@@ -1,4 +1,4 @@
--- Cells of a row and those that it lacks.
+-- Cells of a row and those that are missing.
 use Rattle.std.proofs.Common.{ℕ, zero, suc, List, [], ◌∷◌, ◌≡◌, ◌↔◌, ◌-◌, ◌<◌, drop, length, refl, ap, arith}
 use Rattle.page_tables.specs.Cells.{filled}
 use Rattle.page_tables.specs.Columns.{widened}

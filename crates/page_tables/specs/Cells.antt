@@ -16,7 +16,7 @@ cell_text text cell = slice_range text cell.start cell.end
 abbrev pub cell_texts : List ℕ → List (List ℕ)
 cell_texts text = map (cell_text text) (cells_of text)
 
--- at least so many cells: those that a row lacks are empty
+-- at least so many cells: those that are missing in a row are empty
 abbrev pub filled : ℕ → List (List ℕ) → List (List ℕ)
 filled columns [] = replicate columns []
 filled columns (cell ∷ cells) = cell ∷ filled (columns - 1) cells

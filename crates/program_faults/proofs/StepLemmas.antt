@@ -9,17 +9,17 @@ use Rattle.std.specs.Prelude.{Result, Ok, Err}
 use Rattle.program_faults.specs.declared.reasons.Reason.{Reason}
 use Rattle.program_faults.specs.Steps.{AreReads, no_read, read, IsGiven, nothing_left, refused, failed, taken}
 
--- what a slice takes from a place on is all that is behind it
+-- what a slice takes from a place on is all that is after it
 whole_rest : (bytes : List ℕ) (i : ℕ) → take (length bytes - i) (drop i bytes) ≡ drop i bytes
 whole_rest bytes i = take_all (length bytes - i) (drop i bytes) (omega (arith, length-drop i bytes))
 
 -- a write took some of the rest of a line
-pub told-more : (old middle new : Option (List ℕ)) (line rest : List ℕ) (count : ℕ) → AppendsBefore old middle line rest
+pub printed-more : (old middle new : Option (List ℕ)) (line rest : List ℕ) (count : ℕ) → AppendsBefore old middle line rest
     → Appends middle new (take count rest) → AppendsBefore old new line (take (length rest - count) (drop count rest))
-told-more None middle new line rest count before more = tt
-told-more (Some xs) None new line rest count before more = absurd before
-told-more (Some xs) (Some ys) None line rest count before more = absurd more
-told-more (Some xs) (Some ys) (Some zs) line rest count (prefix, all, grown) more = (
+printed-more None middle new line rest count before more = tt
+printed-more (Some xs) None new line rest count before more = absurd before
+printed-more (Some xs) (Some ys) None line rest count before more = absurd more
+printed-more (Some xs) (Some ys) (Some zs) line rest count (prefix, all, grown) more = (
   prefix ++ take count rest,
   all ∙ ap (λ r. prefix ++ r) (sym (take-append-drop count rest)) ∙ sym (append_assoc prefix (take count rest) (drop count rest))
       ∙ ap (λ r. (prefix ++ take count rest) ++ r) (sym (whole_rest rest count)),
@@ -27,24 +27,24 @@ told-more (Some xs) (Some ys) (Some zs) line rest count (prefix, all, grown) mor
 )
 
 -- all of a line is left at the start
-pub told-none : (at : Option (List ℕ)) (line : List ℕ) → AppendsBefore at at line line
-told-none None line = tt
-told-none (Some xs) line = ([], refl, sym (append-nil xs))
+pub printed-none : (at : Option (List ℕ)) (line : List ℕ) → AppendsBefore at at line line
+printed-none None line = tt
+printed-none (Some xs) line = ([], refl, sym (append-nil xs))
 
 -- a write took none of it
-pub told-kept : (old middle new : Option (List ℕ)) (line rest : List ℕ) → AppendsBefore old middle line rest → Keeps middle new
+pub printed-kept : (old middle new : Option (List ℕ)) (line rest : List ℕ) → AppendsBefore old middle line rest → Keeps middle new
     → AppendsBefore old new line rest
-told-kept None middle new line rest before keeps = tt
-told-kept (Some xs) None new line rest before keeps = absurd before
-told-kept (Some xs) (Some ys) None line rest before keeps = absurd keeps
-told-kept (Some xs) (Some ys) (Some zs) line rest (prefix, all, grown) keeps = (prefix, all, keeps ∙ grown)
+printed-kept None middle new line rest before keeps = tt
+printed-kept (Some xs) None new line rest before keeps = absurd before
+printed-kept (Some xs) (Some ys) None line rest before keeps = absurd keeps
+printed-kept (Some xs) (Some ys) (Some zs) line rest (prefix, all, grown) keeps = (prefix, all, keeps ∙ grown)
 
 -- nothing is left of it
-pub told-whole : (old new : Option (List ℕ)) (line rest : List ℕ) → (length rest == 0) ≡ true → AppendsBefore old new line rest → Appends old new line
-told-whole old new line (b ∷ rest) empty before = absurd (omega (arith, eqb-true (length (b ∷ rest)) 0 empty))
-told-whole None new line [] empty before = tt
-told-whole (Some xs) None line [] empty before = absurd before
-told-whole (Some xs) (Some ys) line [] empty (prefix, all, grown) = grown ∙ ap (λ l. xs ++ l) (sym (all ∙ append-nil prefix))
+pub printed-whole : (old new : Option (List ℕ)) (line rest : List ℕ) → (length rest == 0) ≡ true → AppendsBefore old new line rest → Appends old new line
+printed-whole old new line (b ∷ rest) empty before = absurd (omega (arith, eqb-true (length (b ∷ rest)) 0 empty))
+printed-whole None new line [] empty before = tt
+printed-whole (Some xs) None line [] empty before = absurd before
+printed-whole (Some xs) (Some ys) line [] empty (prefix, all, grown) = grown ∙ ap (λ l. xs ++ l) (sym (all ∙ append-nil prefix))
 
 module _ {W : Type 0} (writes : W → List ℕ → Result ℕ Reason → W → Type 0) where
   pub given-nothing : (at : W) (rest : List ℕ) → (length rest == 0) ≡ true → IsGiven writes at rest at

@@ -25,11 +25,11 @@ abbrev pub AppendsPrefix : Option (List ℕ) → Option (List ℕ) → List ℕ 
 AppendsPrefix old new bs = (rest : List ℕ) × AppendsBefore old new bs rest
 
 -- the bytes are known, and they grew by bs
-abbrev pub Tells : Option (List ℕ) → Option (List ℕ) → List ℕ → Type 0
-Tells None new bs = ⊥
-Tells (Some xs) None bs = ⊥
-Tells (Some xs) (Some ys) bs = ys ≡ xs ++ bs
+abbrev pub Prints : Option (List ℕ) → Option (List ℕ) → List ℕ → Type 0
+Prints None new bs = ⊥
+Prints (Some xs) None bs = ⊥
+Prints (Some xs) (Some ys) bs = ys ≡ xs ++ bs
 
--- the line that tells of this fault was told
-abbrev pub TellsFault : Fault → Option (List ℕ) → Option (List ℕ) → Type 0
-TellsFault fault old new = Tells old new (fault_line fault)
+-- the line that tells of this fault was printed
+abbrev pub PrintsFault : Fault → Option (List ℕ) → Option (List ℕ) → Type 0
+PrintsFault fault old new = Prints old new (fault_line fault)

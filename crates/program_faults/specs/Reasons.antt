@@ -22,7 +22,7 @@ reason_of kind.InvalidInput = Invalid
 reason_of kind.OutOfMemory = Memory
 reason_of _ = Other
 
--- what is said of it behind a name, in the words of POSIX
+-- what is said of it after a name, in the words of POSIX
 abbrev pub reason_text : Reason → List ℕ
 reason_text NotFound = codes "No such file or directory"
 reason_text Denied = codes "Permission denied"

@@ -36,7 +36,7 @@ pub enum Reason {
 }
 
 impl Reason {
-    /// What is said of it behind a name, with a line feed.
+    /// What is said of it after a name, with a line feed.
     pub fn line(self) -> &'static str
         ensures { result.now ≡ reason_line self }
     {

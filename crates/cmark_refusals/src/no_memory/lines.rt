@@ -64,7 +64,7 @@ fn rests(output: Stdout) -> Result<(), Stop> {
     tell_two(output, written, buffer)
 }
 
-// Behind the quote's marker in `>\t- x`.
+// After the quote's marker in `>\t- x`.
 fn resumed(output: Stdout) -> Result<(), Stop> {
     let mut breaks = KnownBreaks::new();
     tell(output, breaks.begins_break(b">\t- x", 2))?;

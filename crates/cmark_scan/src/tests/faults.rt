@@ -83,8 +83,8 @@ fn reports_an_endless_reader(rt: HostRuntime) {
     let mut input = EndlessReader::new();
     let run = (["line"].as_slice(), &mut input);
     assert_fault(&rt, rt.alloc(), run, 0, b"read fault\n");
-    let wanted = (1_048_576, false);
-    assert_same(&rt, (input.reads, input.asked_for_less_or_more), wanted);
+    let expected = (1_048_576, false);
+    assert_same(&rt, (input.reads, input.asked_for_less_or_more), expected);
 }
 
 // A run over a text and a writer that fails reports it, after one write.

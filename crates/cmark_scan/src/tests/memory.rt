@@ -15,13 +15,13 @@ fn is_done(rt: &impl Abort, alloc: Global, (words, mut input, printed): Run) -> 
     let mut faults = ArrayWriter::new();
     let status = run_program(alloc, words, &mut input, &mut output, &mut faults);
     let is_done = status == 0;
-    let wanted: (&[u8], End<'_>) = if is_done {
+    let expected: (&[u8], End<'_>) = if is_done {
         (printed.as_bytes(), DONE)
     } else {
         (b"", (3, b"out of memory\n"))
     };
     let found = (output.taken(), (status, faults.taken()));
-    assert_same(rt, (words, found), (words, wanted));
+    assert_same(rt, (words, found), (words, expected));
     is_done
 }
 

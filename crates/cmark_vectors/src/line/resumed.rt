@@ -54,7 +54,7 @@ fn tabs_go_on_from_the_column(rt: HostRuntime) {
 // The bullet or delimiter of an item, its number, and the indent of its content.
 type Item = Option<(u8, u64, usize)>;
 
-// Before which place no thematic break begins, and behind which one does.
+// Before which place no thematic break begins, and after which one does.
 fn known(breaks: &KnownBreaks) -> (usize, usize) {
     (breaks.none_before, breaks.behind_break)
 }

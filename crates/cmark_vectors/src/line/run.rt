@@ -308,11 +308,11 @@ fn run_markers(rt: &impl Abort, alloc: Global, part: &[u8], count: usize, last: 
 }
 
 // So many calls are answered so, and none is refused.
-fn are_all_answered(run: &LineRun, calls: usize, scanned: usize, wanted: &LineAnswer) -> bool {
+fn are_all_answered(run: &LineRun, calls: usize, scanned: usize, expected: &LineAnswer) -> bool {
     run.answers.len() == calls
         && run.scanned == scanned
         && run.stop.is_none()
-        && run.answers.iter().all(|answer| *answer == *wanted)
+        && run.answers.iter().all(|answer| *answer == *expected)
 }
 
 const MARKER: LineAnswer = LineAnswer::List(Some((b'-', 0, 2)));

@@ -54,9 +54,9 @@ fn lent(tag: &Option<(Vec<u8>, usize)>) -> Tag<'_> {
     }
 }
 
-fn assert_tag(rt: &impl Abort, alloc: Global, data: &[u8], skips: Skips, wanted: Tag<'_>) {
+fn assert_tag(rt: &impl Abort, alloc: Global, data: &[u8], skips: Skips, expected: Tag<'_>) {
     let tag = made(rt, scan_tag(alloc, data, skips));
-    assert_answer(rt, &data, lent(&tag), wanted);
+    assert_answer(rt, &data, lent(&tag), expected);
 }
 
 const ALL_SKIPPED: [(&[u8], Tag<'static>); 5] = [

@@ -24,8 +24,8 @@ fn places(bytes: &[u8]) -> Option<Places> {
 }
 
 fn assert_rows(rt: &impl Abort, rows: &[Row]) {
-    for (bytes, wanted) in rows {
-        assert_answer(rt, bytes, &places(bytes), wanted);
+    for (bytes, expected) in rows {
+        assert_answer(rt, bytes, &places(bytes), expected);
     }
 }
 

@@ -52,7 +52,7 @@ fn passes_a_closure_on(rt: HostRuntime) {
 }
 
 // Bytes, how many of them from one end a closure accepts that accepts each `a`, and about which
-// bytes it is asked: the digits of a number behind a first 1.
+// bytes it is asked: the digits of a number after a first 1.
 type Asked = (&'static [u8], usize, u64);
 
 fn asked(bytes: &[u8]) -> (usize, u64) {

@@ -4,9 +4,9 @@ use markdown_scanners_tree::scanners::{scan_line, scan_lines};
 use std::process::Abort;
 
 // The lines of the text are these, and none follows, whenever it is asked.
-fn assert_lines(rt: &impl Abort, text: &[u8], wanted: &[&[u8]]) {
+fn assert_lines(rt: &impl Abort, text: &[u8], expected: &[&[u8]]) {
     let mut lines = scan_lines(text);
-    for line in wanted {
+    for line in expected {
         assert_answer(rt, line, lines.next(), Some(*line));
     }
     for _ in 0..2 {

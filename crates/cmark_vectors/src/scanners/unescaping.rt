@@ -10,10 +10,10 @@ const KNOWN: EntityTable = EntityTable {
 };
 
 // The text has memory of its own, and reads as this one.
-fn assert_boxed(rt: &impl Abort, alloc: Global, text: &str, is_in_table: bool, wanted: &str) {
+fn assert_boxed(rt: &impl Abort, alloc: Global, text: &str, is_in_table: bool, expected: &str) {
     let found = made(rt, unescape(alloc, CowStr::from(text), is_in_table, &KNOWN));
     assert_answer(rt, &text, matches!(&found, CowStr::Boxed(_)), true);
-    assert_answer(rt, &text, found.as_str(), wanted);
+    assert_answer(rt, &text, found.as_str(), expected);
 }
 
 // A text, whether it is in a table, and what it means.
@@ -28,8 +28,8 @@ const BOXED: [(&str, bool, &str); 5] = [
 // However short it is.
 #[test]
 fn texts_that_change_are_boxed(rt: HostRuntime) {
-    for (text, is_in_table, wanted) in BOXED {
-        assert_boxed(&rt, rt.alloc(), text, is_in_table, wanted);
+    for (text, is_in_table, expected) in BOXED {
+        assert_boxed(&rt, rt.alloc(), text, is_in_table, expected);
     }
 }
 

@@ -110,12 +110,12 @@ fn assert_children(
     rt: &impl Abort,
     alloc: Global,
     cut: Result<Tree<Piece>, AllocError>,
-    wanted_focus: Option<usize>,
-    wanted: &[(usize, usize)],
+    expected_focus: Option<usize>,
+    expected: &[(usize, usize)],
 ) {
     let mut tree = made(rt, cut);
-    assert_same(rt, focus(&tree), wanted_focus);
-    assert_elements(rt, ranges(alloc, &mut tree), wanted);
+    assert_same(rt, focus(&tree), expected_focus);
+    assert_elements(rt, ranges(alloc, &mut tree), expected);
 }
 
 #[test]

@@ -1,5 +1,5 @@
 //! Definitions of terms, where `--definition-lists` asks for them.
-use super::{Row, assert_rows, assert_told};
+use super::{Row, assert_printed, assert_rows};
 
 // By the rules that `--help` states.
 const ASKED: &[Row] = &[
@@ -22,8 +22,8 @@ const ASKED: &[Row] = &[
 const NOT_ASKED: &[Row] = &[(b"apple\n: red\n", "1 2 0 paragraph\n")];
 
 #[test]
-fn definitions_of_terms_are_told_where_they_are_asked_for(rt: HostRuntime) {
-    assert_told(&rt, rt.alloc(), &["--definition-lists"], ASKED);
+fn definitions_of_terms_are_printed_where_they_are_asked_for(rt: HostRuntime) {
+    assert_printed(&rt, rt.alloc(), &["--definition-lists"], ASKED);
     assert_rows(&rt, rt.alloc(), NOT_ASKED);
 }
 
@@ -37,5 +37,5 @@ const OBJECTS: &[Row] = &[(
 
 #[test]
 fn definitions_of_terms_are_objects(rt: HostRuntime) {
-    assert_told(&rt, rt.alloc(), &["--definition-lists", "--json"], OBJECTS);
+    assert_printed(&rt, rt.alloc(), &["--definition-lists", "--json"], OBJECTS);
 }

@@ -1,5 +1,5 @@
 //! Link reference definitions, alone and before text and underlines. (CommonMark 0.31.2, sections 4.3 and 4.7)
-use super::{Blocks, Row, assert_rows, assert_told};
+use super::{Blocks, Row, assert_printed, assert_rows};
 use crate::asserts::made;
 use crate::runs::{DONE, assert_run};
 use std::alloc::{AllocError, Global};
@@ -61,7 +61,7 @@ fn definitions_are_lines_of_their_own(rt: HostRuntime) {
     assert_rows(&rt, rt.alloc(), EXAMPLES);
 }
 
-// An underline behind definitions alone is text, and one behind that makes a heading of it.
+// An underline after definitions alone is text, and one after that makes a heading of it.
 const UNDERLINES: &[Row] = &[
     (b"[a]: /b\n===\nc\n", "1 1 0 definition\n2 3 0 paragraph\n"),
     (b"[a]: /b\n===\n===\n", "1 1 0 definition\n2 3 0 setext 1\n"),
@@ -108,7 +108,7 @@ fn hyphens_behind_definitions_are_a_break(rt: HostRuntime) {
     assert_rows(&rt, rt.alloc(), BREAKS);
 }
 
-// A title over lines, and what is none: the definition ends a line earlier, or there is none.
+// A title over lines, and what is not one: the definition ends a line earlier, or there is none.
 const TITLES: &[Row] = &[
     (
         b"[a]: /b\n\"c\nd\"\n===\n",
@@ -262,5 +262,5 @@ const JSON: &[Row] = &[
 
 #[test]
 fn json_has_what_is_written_in_definitions(rt: HostRuntime) {
-    assert_told(&rt, rt.alloc(), &["--json"], JSON);
+    assert_printed(&rt, rt.alloc(), &["--json"], JSON);
 }

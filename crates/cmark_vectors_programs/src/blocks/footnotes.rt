@@ -1,5 +1,5 @@
 //! Footnote definitions, where `--footnotes` asks for them.
-use super::{Row, assert_rows, assert_told};
+use super::{Row, assert_printed, assert_rows};
 
 // As cmark-gfm 0.29.0.gfm.6 finds them.
 const ASKED: &[Row] = &[
@@ -24,8 +24,8 @@ const NOT_ASKED: &[Row] = &[(
 )];
 
 #[test]
-fn footnote_definitions_are_told_where_they_are_asked_for(rt: HostRuntime) {
-    assert_told(&rt, rt.alloc(), &["--footnotes"], ASKED);
+fn footnote_definitions_are_printed_where_they_are_asked_for(rt: HostRuntime) {
+    assert_printed(&rt, rt.alloc(), &["--footnotes"], ASKED);
     assert_rows(&rt, rt.alloc(), NOT_ASKED);
 }
 
@@ -40,5 +40,5 @@ const OBJECTS: &[Row] = &[(
 
 #[test]
 fn footnote_definitions_are_objects(rt: HostRuntime) {
-    assert_told(&rt, rt.alloc(), &["--footnotes", "--json"], OBJECTS);
+    assert_printed(&rt, rt.alloc(), &["--footnotes", "--json"], OBJECTS);
 }

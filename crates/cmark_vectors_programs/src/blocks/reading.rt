@@ -1,18 +1,18 @@
-//! Runs of the program over readers that give a page in parts, or fail behind a part of it.
-use super::{Blocks, PAGE, Row, TOLD};
+//! Runs of the program over readers that give a page in parts, or fail after a part of it.
+use super::{Blocks, PAGE, PRINTED, Row};
 use crate::asserts::made;
 use crate::runs::{DONE, Parts, assert_run};
 use std::alloc::{AllocError, Global};
 use std::process::Abort;
 
-// What is told of a page that is read in parts: at most so many bytes at the first read, and at
+// What is printed of a page that is read in parts: at most so many bytes at the first read, and at
 // each later one.
-fn assert_told(
+fn assert_printed(
     rt: &impl Abort,
     alloc: Global,
     page: &[u8],
     (size, later): (usize, usize),
-    told: &str,
+    printed: &str,
 ) {
     let mut input = Parts {
         rest: page,
@@ -20,13 +20,13 @@ fn assert_told(
         later,
         fails: false,
     };
-    assert_run::<Blocks, _>(rt, alloc, &[], &mut input, told, DONE);
+    assert_run::<Blocks, _>(rt, alloc, &[], &mut input, printed, DONE);
 }
 
-// The pages, and what is told of them: every kind of block; lines that end in CR LF and in CR;
-// blank lines behind indented code, and behind the line that ends it.
+// The pages, and what is printed of them: every kind of block; lines that end in CR LF and in CR;
+// blank lines after indented code, and after the line that ends it.
 const PAGES: &[Row] = &[
-    (PAGE, TOLD),
+    (PAGE, PRINTED),
     (
         b"a\r\n\r\nb\r\n---\r\n",
         "1 1 0 paragraph\n2 2 0 blank\n3 4 0 setext 2\n",
@@ -48,26 +48,26 @@ const PAGES: &[Row] = &[
 
 #[test]
 fn a_byte_a_read_tells_the_same(rt: HostRuntime) {
-    for (page, told) in PAGES {
-        assert_told(&rt, rt.alloc(), page, (1, 1), told);
+    for (page, printed) in PAGES {
+        assert_printed(&rt, rt.alloc(), page, (1, 1), printed);
     }
 }
 
 // The same of a page in two parts, at each place where it can be cut.
-fn assert_told_cut(rt: &impl Abort, alloc: Global, page: &[u8], told: &str) {
+fn assert_printed_cut(rt: &impl Abort, alloc: Global, page: &[u8], printed: &str) {
     for size in 1..page.len() {
-        assert_told(rt, alloc, page, (size, page.len()), told);
+        assert_printed(rt, alloc, page, (size, page.len()), printed);
     }
 }
 
 #[test]
 fn a_page_cut_at_any_place_tells_the_same(rt: HostRuntime) {
-    for (page, told) in PAGES {
-        assert_told_cut(&rt, rt.alloc(), page, told);
+    for (page, printed) in PAGES {
+        assert_printed_cut(&rt, rt.alloc(), page, printed);
     }
 }
 
-// Of what was read before a fault, the blocks are told whose end is read.
+// Of what was read before a fault, the blocks are printed whose end is read.
 const BEFORE_FAULTS: &[Row] = &[
     (b"", ""),
     (b"# a\n", ""),
@@ -80,8 +80,8 @@ const BEFORE_FAULTS: &[Row] = &[
     (b"a\n---", ""),
 ];
 
-// What is told of a page behind which a read fails.
-fn assert_told_before_a_fault(rt: &impl Abort, alloc: Global, page: &[u8], told: &str) {
+// What is printed of a page after which a read fails.
+fn assert_printed_before_a_fault(rt: &impl Abort, alloc: Global, page: &[u8], printed: &str) {
     let mut input = Parts {
         rest: page,
         size: page.len(),
@@ -92,13 +92,13 @@ fn assert_told_before_a_fault(rt: &impl Abort, alloc: Global, page: &[u8], told:
         3,
         b"cmark_blocks: standard input: Input/output error\n".as_slice(),
     );
-    assert_run::<Blocks, _>(rt, alloc, &[], &mut input, told, end);
+    assert_run::<Blocks, _>(rt, alloc, &[], &mut input, printed, end);
 }
 
 #[test]
 fn a_read_fault_leaves_the_first_blocks(rt: HostRuntime) {
-    for (page, told) in BEFORE_FAULTS {
-        assert_told_before_a_fault(&rt, rt.alloc(), page, told);
+    for (page, printed) in BEFORE_FAULTS {
+        assert_printed_before_a_fault(&rt, rt.alloc(), page, printed);
     }
 }
 
@@ -112,6 +112,6 @@ fn long_page(alloc: Global) -> Result<Vec<u8>, AllocError> {
 #[test]
 fn a_block_is_longer_than_many_reads(rt: HostRuntime) {
     let page = made(&rt, long_page(rt.alloc()));
-    let told = "1 100000 0 paragraph\n100001 100001 0 blank\n100002 100002 0 heading 1\n";
-    assert_told(&rt, rt.alloc(), &page, (1, 999), told);
+    let printed = "1 100000 0 paragraph\n100001 100001 0 blank\n100002 100002 0 heading 1\n";
+    assert_printed(&rt, rt.alloc(), &page, (1, 999), printed);
 }

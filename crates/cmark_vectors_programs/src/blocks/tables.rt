@@ -1,5 +1,5 @@
 //! Tables of GitHub Flavored Markdown 0.29, section 4.10.
-use super::{Row, assert_rows, assert_told};
+use super::{Row, assert_printed, assert_rows};
 
 // The examples of the section.
 const TABLES: &[Row] = &[
@@ -32,7 +32,7 @@ const TABLES: &[Row] = &[
 ];
 
 #[test]
-fn tables_are_told_with_their_columns(rt: HostRuntime) {
+fn tables_are_printed_with_their_columns(rt: HostRuntime) {
     assert_rows(&rt, rt.alloc(), TABLES);
 }
 
@@ -111,5 +111,5 @@ const JSON: &[Row] = &[(
 
 #[test]
 fn json_has_the_columns(rt: HostRuntime) {
-    assert_told(&rt, rt.alloc(), &["--json"], JSON);
+    assert_printed(&rt, rt.alloc(), &["--json"], JSON);
 }

@@ -41,7 +41,7 @@ fn pieces_are_joined_to_their_text(rt: HostRuntime) {
         &rt,
         cut_inlines(rt.alloc(), text, &LABELS, InlineExtensions::none()),
     );
-    let wanted = [
+    let expected = [
         piece(PieceKind::Text, 0, 2),
         run(true, 2),
         piece(PieceKind::Text, 3, 4),
@@ -56,7 +56,7 @@ fn pieces_are_joined_to_their_text(rt: HostRuntime) {
         piece(PieceKind::Email, 28, 33),
         piece(PieceKind::Html, 33, 36),
     ];
-    assert_same(&rt, cut.pieces.as_slice(), &wanted);
+    assert_same(&rt, cut.pieces.as_slice(), &expected);
     let emphasis = [Emphasis {
         opening: 2,
         closing: 4,
@@ -82,7 +82,7 @@ fn openers_have_their_links(rt: HostRuntime) {
             target,
         })
     };
-    let wanted = [
+    let expected = [
         None,
         link(false, 2..12, 3..4, LinkTarget::Inline(6..7, Some(9..10))),
         link(true, 12..22, 14..15, LinkTarget::Full(16..22)),
@@ -90,7 +90,7 @@ fn openers_have_their_links(rt: HostRuntime) {
         link(false, 27..30, 28..29, LinkTarget::Shortcut),
         None,
     ];
-    assert_same(&rt, cut.links.as_slice(), wanted.as_slice());
+    assert_same(&rt, cut.links.as_slice(), expected.as_slice());
     let closer = Some(piece(PieceKind::Closer, 4, 12));
     assert_same(&rt, cut.pieces.get(4).copied(), closer);
 }
@@ -139,7 +139,7 @@ fn inlines_stand_in_order(rt: HostRuntime) {
         find_inlines(rt.alloc(), text, &LABELS, InlineExtensions::none()),
     );
     let leaf = |start: usize, end: usize| Inline::Leaf(piece(PieceKind::Text, start, end));
-    let wanted = [
+    let expected = [
         leaf(0, 1),
         Inline::StartEmphasis(1, 2),
         leaf(3, 4),
@@ -151,7 +151,7 @@ fn inlines_stand_in_order(rt: HostRuntime) {
         leaf(13, 14),
         Inline::Leaf(piece(PieceKind::Closer, 14, 15)),
     ];
-    assert_same(&rt, found.inlines.as_slice(), &wanted);
+    assert_same(&rt, found.inlines.as_slice(), &expected);
     assert_same(&rt, found.links.len(), 1);
 }
 
@@ -179,12 +179,12 @@ fn a_finder_goes_from_text_to_text(rt: HostRuntime) {
         &rt,
         finder.find(rt.alloc(), "a *b*", &LABELS, STRIKETHROUGH),
     );
-    let wanted = [
+    let expected = [
         leaf(0, 2),
         Inline::StartEmphasis(2, 1),
         leaf(3, 4),
         Inline::EndEmphasis(4, 1),
     ];
-    assert_same(&rt, finder.inlines(), &wanted);
+    assert_same(&rt, finder.inlines(), &expected);
     assert_same(&rt, finder.links().len(), 0);
 }

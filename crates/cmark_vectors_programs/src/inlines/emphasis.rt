@@ -230,18 +230,18 @@ fn with_elements(alloc: Global, text: &str, emphasis: &[Emphasis]) -> Result<Str
 
 #[test]
 fn emphasis_stands_as_the_specification_has_it(rt: HostRuntime) {
-    for (text, wanted) in ROWS {
+    for (text, expected) in ROWS {
         let emphasis = made(&rt, emphasis_of(rt.alloc(), text));
-        assert_text(&rt, with_elements(rt.alloc(), text, &emphasis), wanted);
+        assert_text(&rt, with_elements(rt.alloc(), text, &emphasis), expected);
     }
 }
 
 // A quotation mark is written otherwise in HTML.
 #[test]
 fn texts_have_the_same_emphasis(rt: HostRuntime) {
-    for (text, wanted) in ROWS {
+    for (text, expected) in ROWS {
         if !text.contains('"') {
-            assert_text(&rt, html_of(rt.alloc(), text, &[]), wanted);
+            assert_text(&rt, html_of(rt.alloc(), text, &[]), expected);
         }
     }
 }

@@ -25,17 +25,17 @@ pub(super) type DefinedRow = (u32, &'static str, &'static [Definition], &'static
 
 /// Examples have their HTML.
 pub(super) fn assert_rows(rt: &impl Abort, alloc: Global, rows: &[Row]) {
-    for (number, text, wanted) in rows {
+    for (number, text, expected) in rows {
         let html = made(rt, html_of(alloc, text, &[]));
-        assert_same(rt, (*number, html.as_str()), (*number, *wanted));
+        assert_same(rt, (*number, html.as_str()), (*number, *expected));
     }
 }
 
 /// Examples have their HTML, with definitions.
 pub(super) fn assert_defined(rt: &impl Abort, alloc: Global, rows: &[DefinedRow]) {
-    for (number, text, definitions, wanted) in rows {
+    for (number, text, definitions, expected) in rows {
         let html = made(rt, html_of(alloc, text, definitions));
-        assert_same(rt, (*number, html.as_str()), (*number, *wanted));
+        assert_same(rt, (*number, html.as_str()), (*number, *expected));
     }
 }
 

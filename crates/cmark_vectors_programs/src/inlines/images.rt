@@ -1,7 +1,7 @@
 //! Rows of images: CommonMark 0.31.2, section 6.4.
 use super::html::{DefinedRow, Row, assert_defined, assert_rows};
 
-// Inline images, and what is none
+// Inline images, and what is not one
 const IMAGES: &[Row] = &[
     (
         572,

@@ -85,9 +85,9 @@ const SIDES: &[(&str, &str)] = &[("x*~~a*", "x*~~a*"), ("x *~ b*", "x <em>~ b</e
 #[test]
 fn tildes_strike_through(rt: HostRuntime) {
     for rows in [EXAMPLES, ROWS, PAIRS, SIDES] {
-        for (text, wanted) in rows {
+        for (text, expected) in rows {
             let html = html_with(rt.alloc(), text, &[], STRIKETHROUGH);
-            assert_text(&rt, html, wanted);
+            assert_text(&rt, html, expected);
         }
     }
 }
@@ -113,12 +113,12 @@ fn strikethrough_stands_in_order(rt: HostRuntime) {
             end,
         })
     };
-    let wanted = [
+    let expected = [
         leaf(0, 1),
         leaf(1, 3),
         Inline::StartStrikethrough(3, 2),
         leaf(5, 6),
         Inline::EndStrikethrough(6, 2),
     ];
-    assert_same(&rt, found.inlines.as_slice(), &wanted);
+    assert_same(&rt, found.inlines.as_slice(), &expected);
 }

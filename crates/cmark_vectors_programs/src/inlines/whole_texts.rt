@@ -276,9 +276,9 @@ const BREAKS: &[TextRow] = &[
 ];
 
 fn assert_texts(rt: &impl Abort, alloc: Global, rows: &[TextRow]) {
-    for (text, definitions, wanted) in rows {
+    for (text, definitions, expected) in rows {
         let html = made(rt, html_of(alloc, text, definitions));
-        assert_same(rt, (*text, html.as_str()), (*text, *wanted));
+        assert_same(rt, (*text, html.as_str()), (*text, *expected));
     }
 }
 

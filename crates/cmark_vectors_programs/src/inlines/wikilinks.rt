@@ -115,20 +115,24 @@ const UNASKED: &[(&str, &str)] = &[
 #[test]
 fn wikilinks_are_links(rt: HostRuntime) {
     for rows in [LINKS, TARGETS, NO_LINKS, NESTED] {
-        for (text, wanted) in rows {
+        for (text, expected) in rows {
             let html = html_with(rt.alloc(), text, &[], WIKILINKS);
-            assert_text(&rt, html, wanted);
+            assert_text(&rt, html, expected);
         }
     }
 }
 
 #[test]
 fn wikilinks_stand_before_labels(rt: HostRuntime) {
-    for (text, wanted) in BEFORE_LABELS {
-        assert_text(&rt, html_with(rt.alloc(), text, DEFINED, WIKILINKS), wanted);
+    for (text, expected) in BEFORE_LABELS {
+        assert_text(
+            &rt,
+            html_with(rt.alloc(), text, DEFINED, WIKILINKS),
+            expected,
+        );
     }
-    for (text, wanted) in UNASKED {
-        assert_text(&rt, html_of(rt.alloc(), text, DEFINED), wanted);
+    for (text, expected) in UNASKED {
+        assert_text(&rt, html_of(rt.alloc(), text, DEFINED), expected);
     }
 }
 
@@ -139,14 +143,14 @@ fn heads_of_wikilinks_are_openers(rt: HostRuntime) {
         cut_inlines(rt.alloc(), "[[a|b]]![[c]]", &NONE, WIKILINKS),
     );
     let piece = |kind, start, end| Piece { kind, start, end };
-    let wanted = [
+    let expected = [
         piece(PieceKind::LinkOpener, 0, 4),
         piece(PieceKind::Text, 4, 5),
         piece(PieceKind::Closer, 5, 7),
         piece(PieceKind::ImageOpener, 7, 11),
         piece(PieceKind::Closer, 11, 13),
     ];
-    assert_same(&rt, cut.pieces.as_slice(), &wanted);
+    assert_same(&rt, cut.pieces.as_slice(), &expected);
     let link = |is_image, source, text, target| {
         Some(Link {
             is_image,

@@ -7,7 +7,7 @@ use cmark_uses::blocks::{
 use markdown_values::values::MetadataBlockKind;
 
 #[test]
-fn breaks_are_told_from_items(rt: HostRuntime) {
+fn breaks_are_printed_from_items(rt: HostRuntime) {
     assert_same(&rt, is_break(b"* * *\n"), true);
     assert_same(&rt, is_break(b"* * a\n"), false);
     assert_same(&rt, break_free(b"* * a * * *\n"), Some(4));

@@ -8,13 +8,13 @@ use std::process::Abort;
 type Row = (&'static [u8], &'static [u8]);
 
 fn assert_texts(rt: &impl Abort, alloc: Global, rows: &[Row]) {
-    for (page, wanted) in rows {
+    for (page, expected) in rows {
         let placed = made(rt, placed_text(alloc, page));
         let mut text = Vec::new(alloc);
         for (byte, _) in &placed {
             made(rt, text.push(*byte).map_err(|fault| fault.into()));
         }
-        assert_elements(rt, Ok(text), wanted);
+        assert_elements(rt, Ok(text), expected);
     }
 }
 
@@ -197,8 +197,8 @@ const PLACES: &[(&[u8], &[(u8, usize)])] = &[
 
 #[test]
 fn bytes_stand_at_their_places(rt: HostRuntime) {
-    for (page, wanted) in PLACES {
-        assert_elements(&rt, placed_text(rt.alloc(), page), wanted);
+    for (page, expected) in PLACES {
+        assert_elements(&rt, placed_text(rt.alloc(), page), expected);
     }
 }
 

@@ -12,9 +12,9 @@ fn comments_and_instructions_are_found(rt: HostRuntime) {
 }
 
 // A run that goes to its end has these answers.
-fn assert_answers(rt: &impl Abort, run: Result<HtmlRun, AllocError>, wanted: &[Option<usize>]) {
+fn assert_answers(rt: &impl Abort, run: Result<HtmlRun, AllocError>, expected: &[Option<usize>]) {
     let run = made(rt, run);
-    assert_same(rt, run.answers.as_slice(), wanted);
+    assert_same(rt, run.answers.as_slice(), expected);
     assert!(rt; run.stop.is_none());
 }
 
@@ -28,10 +28,10 @@ fn chosen_openers_have_their_ends(rt: HostRuntime) {
 fn assert_tag(
     rt: &impl Abort,
     tag: Result<Option<(Vec<u8>, usize)>, AllocError>,
-    wanted: (&[u8], usize),
+    expected: (&[u8], usize),
 ) {
     let (tag, length) = found(rt, made(rt, tag));
-    assert_same(rt, (tag.as_slice(), length), wanted);
+    assert_same(rt, (tag.as_slice(), length), expected);
 }
 
 #[test]

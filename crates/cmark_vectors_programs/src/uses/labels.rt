@@ -42,7 +42,7 @@ fn the_first_definition_counts(rt: HostRuntime) {
     assert_defined(&rt, alloc, &definitions, "rattle] for more", "/one");
 }
 
-// The label that a call finds in a quote, and what stands behind it.
+// The label that a call finds in a quote, and what stands after it.
 type InQuote<'t> = Result<Option<(LinkLabel<'t>, &'t str)>, AllocError>;
 
 // They are these.

@@ -10,17 +10,17 @@ use std::convert::AsStr;
 use std::process::Abort;
 
 // A text that a call finds is this.
-fn assert_found<T: AsStr + Drop>(rt: &impl Abort, text: Option<T>, wanted: &str) {
-    assert_same(rt, found(rt, text).as_str(), wanted);
+fn assert_found<T: AsStr + Drop>(rt: &impl Abort, text: Option<T>, expected: &str) {
+    assert_same(rt, found(rt, text).as_str(), expected);
 }
 
 // The same of a text that is made first.
 fn assert_made_found<T: AsStr + Drop>(
     rt: &impl Abort,
     text: Result<Option<T>, AllocError>,
-    wanted: &str,
+    expected: &str,
 ) {
-    assert_found(rt, made(rt, text), wanted);
+    assert_found(rt, made(rt, text), expected);
 }
 
 #[test]
@@ -33,14 +33,14 @@ fn a_destination_is_resolved(rt: HostRuntime) {
     assert_text(&rt, link_title(rt.alloc(), "Q&amp;A", &FEW_ENTITIES), "Q&A");
 }
 
-// The address that a call finds, and the text behind it.
+// The address that a call finds, and the text after it.
 fn assert_autolink<T: AsStr + Drop>(
     rt: &impl Abort,
     link: Option<(T, &str)>,
-    wanted: (&str, &str),
+    expected: (&str, &str),
 ) {
     let (uri, after) = found(rt, link);
-    assert_same(rt, (uri.as_str(), after), wanted);
+    assert_same(rt, (uri.as_str(), after), expected);
 }
 
 #[test]

@@ -7,9 +7,13 @@ use std::convert::AsStr;
 use std::process::Abort;
 
 // The link at an index is in this line, and leads there.
-fn assert_link<T: AsStr + Drop>(rt: &impl Abort, link: Option<&(usize, T)>, wanted: (usize, &str)) {
+fn assert_link<T: AsStr + Drop>(
+    rt: &impl Abort,
+    link: Option<&(usize, T)>,
+    expected: (usize, &str),
+) {
     let (line, destination) = link.expect(rt, "a link");
-    assert_same(rt, (*line, destination.as_str()), wanted);
+    assert_same(rt, (*line, destination.as_str()), expected);
 }
 
 // Example 217
@@ -28,10 +32,10 @@ fn links_have_lines(rt: HostRuntime) {
 fn assert_heading(
     rt: &impl Abort,
     heading: Option<&(HeadingLevel, String)>,
-    wanted: (HeadingLevel, &str),
+    expected: (HeadingLevel, &str),
 ) {
     let (level, text) = heading.expect(rt, "a heading");
-    assert_same(rt, (*level, text.as_str()), wanted);
+    assert_same(rt, (*level, text.as_str()), expected);
 }
 
 // Examples 80 and 81
@@ -58,10 +62,10 @@ fn words_are_parted_by_space_and_blocks(rt: HostRuntime) {
     );
 }
 
-fn assert_words(rt: &impl Abort, alloc: Global, page: &str, wanted: (usize, &str)) {
+fn assert_words(rt: &impl Abort, alloc: Global, page: &str, expected: (usize, &str)) {
     let found = made(rt, words(alloc, page));
     let last = found.last().expect(rt, "a word");
-    assert_same(rt, (found.len(), last.as_str()), wanted);
+    assert_same(rt, (found.len(), last.as_str()), expected);
 }
 
 // Examples 143 and 107
@@ -83,10 +87,10 @@ fn code_has_a_language(rt: HostRuntime) {
     );
 }
 
-fn assert_code(rt: &impl Abort, alloc: Global, page: &str, wanted: (&str, &str)) {
+fn assert_code(rt: &impl Abort, alloc: Global, page: &str, expected: (&str, &str)) {
     let found = made(rt, code_blocks(alloc, page));
     let block = found.first().expect(rt, "a code block");
-    assert_same(rt, (block.language.as_str(), block.text.as_str()), wanted);
+    assert_same(rt, (block.language.as_str(), block.text.as_str()), expected);
 }
 
 // Example 648

@@ -9,13 +9,13 @@ use std::process::Abort;
 type Row = (&'static [u8], &'static [u8]);
 
 fn assert_cells(rt: &impl Abort, alloc: Global, rows: &[Row]) {
-    for (page, wanted) in rows {
+    for (page, expected) in rows {
         let placed = made(rt, placed_cells(alloc, page));
         let mut text = Vec::new(alloc);
         for (byte, _) in &placed {
             made(rt, text.push(*byte).map_err(|fault| fault.into()));
         }
-        assert_elements(rt, Ok(text), wanted);
+        assert_elements(rt, Ok(text), expected);
     }
 }
 
@@ -105,8 +105,8 @@ const PLACES: &[(&[u8], &[(u8, usize)])] = &[
 
 #[test]
 fn bytes_of_cells_stand_at_their_places(rt: HostRuntime) {
-    for (page, wanted) in PLACES {
-        assert_elements(&rt, placed_cells(rt.alloc(), page), wanted);
+    for (page, expected) in PLACES {
+        assert_elements(&rt, placed_cells(rt.alloc(), page), expected);
     }
 }
 
@@ -120,8 +120,8 @@ fn cells_are_counted(rt: HostRuntime) {
         (b"\\|", 1),
         (b"", 1),
     ];
-    for (row, wanted) in rows {
-        assert_same(&rt, count_cells(row), *wanted);
+    for (row, expected) in rows {
+        assert_same(&rt, count_cells(row), *expected);
     }
 }
 
@@ -139,7 +139,7 @@ fn columns_have_their_alignments(rt: HostRuntime) {
         ),
         (b"a\n", &[]),
     ];
-    for (page, wanted) in pages {
-        assert_elements(&rt, first_alignments(rt.alloc(), page), wanted);
+    for (page, expected) in pages {
+        assert_elements(&rt, first_alignments(rt.alloc(), page), expected);
     }
 }

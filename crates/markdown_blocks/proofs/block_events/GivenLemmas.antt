@@ -36,7 +36,7 @@ module _ (outer : List Container) (content : List ℕ) (old : BlockLeft) where
       → new ≡ record old { part = later_lines outer taken.lines old.part; used = old.used + taken.bytes } → (later : List LeafBlock)
       → AreLeaves outer new.kind new.part (drop new.used content) later
       → AreLeaves outer old.kind old.part (drop old.used content) (block ∷ later)
-  definition_leaf new block d taken is bytes lines some told moved later are =
+  definition_leaf new block d taken is bytes lines some given moved later are =
       let left : drop (old.used + taken.bytes) content ≡ drop d.len (drop old.used content) =
       ap (λ n. drop (old.used + n) content) bytes ∙ sym (drop-drop d.len old.used content) in
       let there : AreLeaves outer old.kind (later_lines outer taken.lines old.part) (drop (old.used + taken.bytes) content) later =
@@ -47,7 +47,7 @@ module _ (outer : List Container) (content : List ℕ) (old : BlockLeft) where
         inl (
           d,
           is,
-          told ∙ ap (λ n. leaf_of Definition (first_lines n old.part)) lines,
+          given ∙ ap (λ n. leaf_of Definition (first_lines n old.part)) lines,
           subst (λ n. AreLeaves outer old.kind (later_lines outer n old.part) (drop d.len (drop old.used content)) later) lines here,
         ),
       )

@@ -62,7 +62,7 @@ module _ (text : List ℕ) (outer : Outer) (line : List ℕ) (rest : Rest) (firs
   html_block kind taken begins goes =
       let g = goes (line ∷ []) h in record { later = g.0; taken = g.1; leaf = (begins, g.2) }
 
-  -- the lines behind the first
+  -- the lines after the first
   behind_first : (taken : Taken) (more : List (List ℕ)) → IsTaken text taken (line ∷ more)
       → lines_of (drop first.bytes text) ≡ more ++ lines_of (drop taken.bytes text)
   behind_first taken more t = append_cancel_left (line ∷ []) (lines_of (drop first.bytes text)) (more ++ lines_of (drop taken.bytes text))
@@ -110,7 +110,7 @@ module _ (text : List ℕ) (outer : Outer) (line : List ℕ) (rest : Rest) (firs
           );
         }
 
-  -- a table: its delimiter row, and the rows behind that
+  -- a table: its delimiter row, and the rows after that
   pub table_block : (columns : ℕ) (head : List ℕ) (second taken : Taken) → Begins Paragraph rest → IsNext text first head second
       → IsHead outer rest.text columns head → Until (λ l. ¬ IsRow outer l) text second taken
       → IsBlockOf text outer line rest (record { kind = Table columns; taken = taken })

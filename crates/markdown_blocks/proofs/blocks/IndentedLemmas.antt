@@ -1,4 +1,4 @@
--- Indented code, line by line: what is taken, and the blank lines that are seen behind it.
+-- Indented code, line by line: what is taken, and the blank lines that are seen after it.
 use Rattle.std.proofs.Common.{ℕ, true, false, ◌⊎◌, length, List, [], ◌∷◌, ◌++◌, ◌≡◌, inl, inr, drop, refl, sym, ap, ◌∙◌, append_assoc, append-nil}
 use Rattle.std.specs.List.{AllByRecursion}
 use Rattle.std.proofs.lemmas.Bool.{cases_Bool}
@@ -40,8 +40,8 @@ module _ (outer : Outer) where
   text_ends line (inr text) near = inr (text.0, (text.1, λ indent. near (text.0, indent)))
 
   -- a line that ends nothing by its text is blank
-  pub blank_told : (line : List ℕ) → ¬ IsEnd outer Text line → IsBlankIn outer.containers line
-  blank_told line none = by (eqb_tells (behind outer.containers line).kept (length outer.containers))
+  pub blank_given : (line : List ℕ) → ¬ IsEnd outer Text line → IsBlankIn outer.containers line
+  blank_given line none = by (eqb_tells (behind outer.containers line).kept (length outer.containers))
       (cases_Bool (is_blank (rest_in outer.containers line).text))
     where
       by : ((eqb (behind outer.containers line).kept (length outer.containers) ≡ true) × IsInside outer.containers line)
@@ -66,7 +66,7 @@ module _ (outer : Outer) where
   no_more-blank [] rest all none = none
   no_more-blank (b ∷ blanks) rest all none = inl (all.0, no_more-blank blanks rest all.1 none)
 
-  -- what is taken of the code behind its first lines, and what is seen: blank lines more
+  -- what is taken of the code after its first lines, and what is seen: blank lines more
   pub record Seen (text : List ℕ) (lines : List (List ℕ)) (taken seen : Taken) : Type 0 where
     pub more : List (List ℕ)
     pub blanks : List (List ℕ)

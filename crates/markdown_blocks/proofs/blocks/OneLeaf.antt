@@ -27,7 +27,7 @@ one_stop P (x ∷ a) (y ∷ b) rest rest' same s s' =
     (record { none = s'.none.1; stopped = s'.stopped }) in
     (rw (first, more.0) refl, more.1)
 
--- all lines up to the first that has a property behind those before it
+-- all lines up to the first that has a property after those before it
 one_at : (P : List (List ℕ) → List ℕ → Type 0) (before a b rest rest' : List (List ℕ)) → a ++ rest ≡ b ++ rest' → NoneBehind P before a
     → OnFirst (P (before ++ a)) rest → NoneBehind P before b → OnFirst (P (before ++ b)) rest' → (a ≡ b) × (rest ≡ rest')
 one_at P before [] [] rest rest' same none stops none' stops' = (refl, same)

@@ -26,7 +26,7 @@ mixed text plain t f bases =
     let both : is_text Paragraph ≡ false = subst (λ k. is_text k ≡ false) (sym is) f in cc
 
 module _ (outer : Outer) (first : Rest) where
-  -- a table is no paragraph, and no setext heading: the line behind its first goes on with a paragraph of that
+  -- a table is no paragraph, and no setext heading: the line after its first goes on with a paragraph of that
   head_here : (columns : ℕ) (head : List ℕ) (rows lines rest rest' : List (List ℕ)) → IsHead outer first.text columns head
       → (head ∷ rows) ++ rest ≡ lines ++ rest' → BeginsNoTable outer first (lines ++ rest') → ⊥
   head_here columns head rows lines rest rest' is_head same none =
@@ -125,10 +125,10 @@ one_opening asked s (c ∷ begun) (c' ∷ begun') after after' o o' =
     (ap (λ p. p.0 ∷ begun) pair ∙ ap (λ cs. c' ∷ cs) more.0, more.1)
 
 -- whether a block may be a term has one answer
-same_told : (b c : Bool) (P : Type 0) → (IsTrue b → P) × (P → IsTrue b) → (IsTrue c → P) × (P → IsTrue c) → b ≡ c
-same_told true c P h h' = sym (h'.1 (h.0 refl))
-same_told false true P h h' = h.1 (h'.0 refl)
-same_told false false P h h' = refl
+same_given : (b c : Bool) (P : Type 0) → (IsTrue b → P) × (P → IsTrue b) → (IsTrue c → P) × (P → IsTrue c) → b ≡ c
+same_given true c P h h' = sym (h'.1 (h.0 refl))
+same_given false true P h h' = h.1 (h'.0 refl)
+same_given false false P h h' = refl
 
 -- a piece of lines, and what follows it
 module _ (before : Between) where
@@ -153,16 +153,16 @@ module _ (before : Between) where
       let lines : rest ≡ rest' = append_cancel_left other.later rest rest' (ap (λ ls. ls ++ rest) (sym leaf.1) ∙ tails) in
       (rw (kept, opening.0, words, leaf.0, first, leaf.1) refl, lines)
 
-  abbrev Told : Bool → Piece → Type 0
-  Told term piece = IsTrue term ↔ IsTerm before.extensions piece.kind (content_in piece.kind (containers_of piece) piece.words.text piece.later)
+  abbrev Given : Bool → Piece → Type 0
+  Given term piece = IsTrue term ↔ IsTerm before.extensions piece.kind (content_in piece.kind (containers_of piece) piece.words.text piece.later)
 
   pub one_piece : (piece other : Piece) (rest rest' : List (List ℕ))
       → (piece.first ∷ piece.later) ++ rest ≡ (other.first ∷ other.later) ++ rest' → IsPiece before piece rest → IsPiece before other rest'
       → (piece ≡ other) × (rest ≡ rest')
   one_piece piece other rest rest' same p p' =
       let one = one_block piece other rest rest' same p.opened p.leaf p'.opened p'.leaf in
-      let told : Told piece.term other = subst (Told piece.term) one.0 p.is_term in
-      (ap (λ t. record piece { term = t }) (same_told piece.term other.term _ told p'.is_term) ∙ one.0, one.1)
+      let given : Given piece.term other = subst (Given piece.term) one.0 p.is_term in
+      (ap (λ t. record piece { term = t }) (same_given piece.term other.term _ given p'.is_term) ∙ one.0, one.1)
 
 -- a page
 pub one_page : (before : Between) (pieces others : List Piece) → lines_in pieces ≡ lines_in others → AreBlocks before pieces []

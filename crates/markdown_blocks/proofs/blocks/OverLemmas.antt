@@ -18,7 +18,7 @@ use Rattle.markdown_blocks.specs.blocks.Endings.{IsEnd}
 use Rattle.markdown_blocks.specs.blocks.Leaves.{BeginsNoTable, IsBlankIn, OnFirst, StopsBefore, StopsBehind, NoMoreIndented, EndsAsHtml, OutOr, IsLeaf}
 use Rattle.markdown_blocks.specs.blocks.Leaves.{EndsHtml}
 use Rattle.markdown_blocks.specs.blocks.Over.{ShowEnd, IsOver}
-use Rattle.markdown_blocks.proofs.blocks.IndentedLemmas.{blank_told}
+use Rattle.markdown_blocks.proofs.blocks.IndentedLemmas.{blank_given}
 
 module _ (outer : Outer) (more : List (List ℕ)) where
   first-over : (P : List ℕ → Type 0) (rest : List (List ℕ)) → rest ≢ [] → OnFirst P rest → OnFirst P (rest ++ more)
@@ -90,36 +90,36 @@ module _ (outer : Outer) (more : List (List ℕ)) where
 -- what shows the end
 module _ (outer : Outer) (has_ended : Bool) (open_yet : has_ended ≡ false) where
   -- a test of lines
-  pub over_told : (kind : BlockKind) (rest : List (List ℕ)) (seen : Bool) → (IsTrue seen → ShowEnd outer.containers kind rest)
+  pub over_given : (kind : BlockKind) (rest : List (List ℕ)) (seen : Bool) → (IsTrue seen → ShowEnd outer.containers kind rest)
       × (ShowEnd outer.containers kind rest → IsTrue seen)
       → (IsTrue seen → IsOver outer.containers kind has_ended rest) × (IsOver outer.containers kind has_ended rest → IsTrue seen)
-  over_told kind rest seen tells = (λ t. inr (tells.0 t), by)
+  over_given kind rest seen tells = (λ t. inr (tells.0 t), by)
     where
       by : IsOver outer.containers kind has_ended rest → IsTrue seen
       by (inl ended) = let both : true ≡ false = sym ended ∙ open_yet in cc
       by (inr shown) = tells.1 shown
 
-  pub any_told : (kind : BlockKind) (rest : List (List ℕ)) (seen : Bool) → kind ≢ Indented → (IsTrue seen → rest ≢ []) × (rest ≢ [] → IsTrue seen)
+  pub any_given : (kind : BlockKind) (rest : List (List ℕ)) (seen : Bool) → kind ≢ Indented → (IsTrue seen → rest ≢ []) × (rest ≢ [] → IsTrue seen)
       → (IsTrue seen → ShowEnd outer.containers kind rest) × (ShowEnd outer.containers kind rest → IsTrue seen)
-  any_told Indented rest seen other tells = absurd (other refl)
-  any_told Blank rest seen other tells = tells
-  any_told Break rest seen other tells = tells
-  any_told (Heading level) rest seen other tells = tells
-  any_told (Setext level) rest seen other tells = tells
-  any_told (Fenced count byte) rest seen other tells = tells
-  any_told (Html html) rest seen other tells = tells
-  any_told (Table columns) rest seen other tells = tells
-  any_told Definition rest seen other tells = tells
-  any_told Paragraph rest seen other tells = tells
+  any_given Indented rest seen other tells = absurd (other refl)
+  any_given Blank rest seen other tells = tells
+  any_given Break rest seen other tells = tells
+  any_given (Heading level) rest seen other tells = tells
+  any_given (Setext level) rest seen other tells = tells
+  any_given (Fenced count byte) rest seen other tells = tells
+  any_given (Html html) rest seen other tells = tells
+  any_given (Table columns) rest seen other tells = tells
+  any_given Definition rest seen other tells = tells
+  any_given Paragraph rest seen other tells = tells
 
 module _ (outer : Outer) where
-  text_told : (line : List ℕ) → IsEnd outer Text line → ¬ IsBlankIn outer.containers line
-  text_told line (inl out) blank = out blank.0
-  text_told line (inr text) blank = text.1 blank.1
+  text_given : (line : List ℕ) → IsEnd outer Text line → ¬ IsBlankIn outer.containers line
+  text_given line (inl out) blank = out blank.0
+  text_given line (inr text) blank = text.1 blank.1
 
   all-blank : (lines : List (List ℕ)) → AllByRecursion (λ line. ¬ IsEnd outer Text line) lines → AllByRecursion (IsBlankIn outer.containers) lines
   all-blank [] none = tt
-  all-blank (line ∷ lines) none = (blank_told outer line none.0, all-blank lines none.1)
+  all-blank (line ∷ lines) none = (blank_given outer line none.0, all-blank lines none.1)
 
   not-blank : (lines : List (List ℕ)) (line : List ℕ) (rest : List (List ℕ)) → ¬ IsBlankIn outer.containers line
       → ¬ AllByRecursion (IsBlankIn outer.containers) (lines ++ line ∷ rest)
@@ -137,15 +137,15 @@ module _ (outer : Outer) where
         → ShowEnd outer.containers Indented (lines_of (drop taken.bytes text))
     text_shows line rest is =
         let here : IsEnd outer Text line = rw is at stops.stopped in
-        rw (behind, is) (not-blank blanks line rest (text_told line here))
+        rw (behind, is) (not-blank blanks line rest (text_given line here))
 
     blank_shows : lines_of (drop seen.bytes text) ≡ [] → ¬ ShowEnd outer.containers Indented (lines_of (drop taken.bytes text))
     blank_shows none shown = shown (rw (behind, none, append-nil) (all-blank blanks stops.none))
 
     -- a test whether they go on
-    pub seen_told : (found : Option (Bor (List ℕ) × Taken)) (seen_some : Bool) → seen_some ≡ is_some found
+    pub seen_given : (found : Option (Bor (List ℕ) × Taken)) (seen_some : Bool) → seen_some ≡ is_some found
         → IfSome found (λ r. IsNext text seen r.0.now r.1) → IfNone found (lines_of (drop seen.bytes text) ≡ [])
         → (IsTrue seen_some → ShowEnd outer.containers Indented (lines_of (drop taken.bytes text)))
         × (ShowEnd outer.containers Indented (lines_of (drop taken.bytes text)) → IsTrue seen_some)
-    seen_told (Some r) seen_some is next none = (λ t. text_shows r.0.now _ next.parts, λ shown. is)
-    seen_told None seen_some is next none = (λ t. let both : false ≡ true = sym is ∙ t in cc, λ shown. absurd (blank_shows none shown))
+    seen_given (Some r) seen_some is next none = (λ t. text_shows r.0.now _ next.parts, λ shown. is)
+    seen_given None seen_some is next none = (λ t. let both : false ≡ true = sym is ∙ t in cc, λ shown. absurd (blank_shows none shown))

@@ -1,4 +1,4 @@
--- The lines of a paragraph, up to the first that ends it behind those before it.
+-- The lines of a paragraph, up to the first that ends it after those before it.
 use Rattle.std.proofs.Common.{ℕ, true, false, ◌⊎◌, List, [], ◌∷◌, ◌++◌, ◌≡◌, inl, inr, refl, sym, ap}
 use Rattle.std.proofs.Common.{◌∙◌, subst, append_assoc, append-nil, IsTrue, Option, Some, None, ◌==◌, ◌≤◌, length, arith, suc, take, not, ◌+◌}
 use Rattle.std.specs.List.{list_all, prefix_len}
@@ -107,7 +107,7 @@ module _ (outer : Outer) (words : List ℕ) (before : List (List ℕ)) (line : L
     leaves_so (inr (inside, inr (inl under))) = absurd (none (Some under.0) (inside, under.1))
     leaves_so (inr (inside, inr (inr interrupts))) = inr (inside, inr (inr interrupts))
 
-  -- a line that does, behind definitions alone or behind text
+  -- a line that does, after definitions alone or after text
   module _ (found : TextEnd) (is : EndsText outer found line) where
     pub text_goes_on : found.interrupts ≡ false → (¬ HasText (content_of outer.containers words before)) → ¬ LeavesBehind outer words before line
     text_goes_on goes none (inl out) = out.0 is.ends.0
@@ -135,7 +135,7 @@ module _ (outer : Outer) (words : List ℕ) (before : List (List ℕ)) (line : L
         )
 
 module _ (outer : Outer) (words : List ℕ) where
-  -- the lines behind the first that go on with the paragraph
+  -- the lines after the first that go on with the paragraph
   module _ (text : List ℕ) (first : Taken) where
     abbrev pub Reached : Taken → Type 0
     Reached taken =

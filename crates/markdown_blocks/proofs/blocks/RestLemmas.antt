@@ -1,4 +1,4 @@
--- What a line has behind the containers that it goes on with.
+-- What a line has after the containers that it goes on with.
 use Rattle.std.proofs.Common.{ℕ, ◌⊎◌, not, is_some, Bool, true, false, List, ◌≡◌}
 use Rattle.std.proofs.Common.{inl, inr, refl, sym, ap, ◌∙◌, subst, Option, Some, None, IsTrue}
 use Rattle.markdown_values.specs.declared.values.HeadingLevel.{HeadingLevel}
@@ -16,7 +16,7 @@ module _ (outer : Outer) (line : List ℕ) (rest : Rest) (is : rest ≡ rest_in 
   pub some_inside : {A : Type 0} (P : A → Rest → Type 0) (found : Option A) → SomeExactly (λ a. P a rest) found
       → SomeExactly (λ a. In outer.containers (P a) line) found
   some_inside P None none = λ a h. none a (subst (P a) (sym is) h.1)
-  some_inside P (Some a) told = (inside, subst (P a) is told)
+  some_inside P (Some a) given = (inside, subst (P a) is given)
 
   -- what ends a paragraph with text
   pub end_inside : (found : TextEnd) → IsUnderOrDefines outer.extensions found.level rest
@@ -33,9 +33,9 @@ module _ (outer : Outer) (line : List ℕ) (rest : Rest) (is : rest ≡ rest_in 
   module _ (defines : Bool) (tells : (IsTrue defines → DefinesTerm outer.extensions rest) × (DefinesTerm outer.extensions rest → IsTrue defines)) where
     pub no_end : (found : Option HeadingLevel) → SomeExactly (λ level. IsUnderline level rest) found → found ≡ None → defines ≡ false
         → (level : Option HeadingLevel) → ¬ In outer.containers (IsUnderOrDefines outer.extensions level) line
-    no_end (Some other) told none not_so level h = cc
-    no_end None told none not_so (Some level) h = told level (subst (IsUnderline level) (sym is) h.1)
-    no_end None told none not_so None h =
+    no_end (Some other) given none not_so level h = cc
+    no_end None given none not_so (Some level) h = given level (subst (IsUnderline level) (sym is) h.1)
+    no_end None given none not_so None h =
         let both : true ≡ false = sym (tells.1 (subst (DefinesTerm outer.extensions) (sym is) h.1)) ∙ not_so in cc
 
   pub leaves_inside : (Q : Type 0) → (Q → EndsParagraph outer.extensions rest) × (EndsParagraph outer.extensions rest → Q)
@@ -65,30 +65,30 @@ module _ (outer : Outer) (line : List ℕ) (out : ¬ IsInside outer.containers l
       by : LeavesParagraph outer line → IsTrue (not true)
       by (inl alone) = absurd (alone.1 (subst (IsLazy (asked_in outer line)) is (tells.0 refl)))
       by (inr here) = absurd (out here.0)
-  leaves_outside false s is tells = (λ t. inl (out, λ lazy. let told = tells.1 (subst (IsLazy (asked_in outer line)) (sym is) lazy) in cc), λ l. refl)
+  leaves_outside false s is tells = (λ t. inl (out, λ lazy. let given = tells.1 (subst (IsLazy (asked_in outer line)) (sym is) lazy) in cc), λ l. refl)
 
 pub none_found : {A : Type 0} (found : Option A) (none : Bool) → is_some found ≡ not none → none ≡ true → found ≡ None
-none_found None none told h = refl
-none_found (Some a) none told h = let both : true ≡ false = told ∙ ap not h in cc
+none_found None none given h = refl
+none_found (Some a) none given h = let both : true ≡ false = given ∙ ap not h in cc
 
 pub some_found : {A : Type 0} (found : Option A) (none : Bool) → is_some found ≡ not none → none ≡ false → ¬ (found ≡ None)
-some_found None none told h is = let both : false ≡ true = told ∙ ap not h in cc
-some_found (Some a) none told h is = cc
+some_found None none given h is = let both : false ≡ true = given ∙ ap not h in cc
+some_found (Some a) none given h is = cc
 
 -- an underline, or without one the marker of a definition
 pub some_end : (asked : BlockExtensions) (rest : Rest) (found : Option HeadingLevel) → SomeExactly (λ level. IsUnderline level rest) found
     → (found ≡ None → DefinesTerm asked rest) → IsUnderOrDefines asked found rest
-some_end asked rest (Some level) told defines = told
-some_end asked rest None told defines = defines refl
+some_end asked rest (Some level) given defines = given
+some_end asked rest None given defines = defines refl
 
 pub begun_none : {A : Type 0} (b : Bool) (r : Option A) → b ≡ is_some r → b ≡ false → r ≡ None
-begun_none b None told h = refl
-begun_none b (Some a) told h = let both : true ≡ false = sym told ∙ h in cc
+begun_none b None given h = refl
+begun_none b (Some a) given h = let both : true ≡ false = sym given ∙ h in cc
 
 -- a lazy line
 module _ (asked : BlockExtensions) (s : LineState) (rest : Rest) (blank : Bool) (is : rest ≡ rest_at s) (tells : blank ≡ is_blank rest.text) where
-  pub lazy_told : begun_at asked s ≡ None → blank ≡ false → HasIndent rest ⊎ (¬ Interrupts asked rest.text) → IsLazy asked s
-  lazy_told none has_text either = (
+  pub lazy_given : begun_at asked s ≡ None → blank ≡ false → HasIndent rest ⊎ (¬ Interrupts asked rest.text) → IsLazy asked s
+  lazy_given none has_text either = (
     none,
     λ all. let both : true ≡ false = sym (tells ∙ subst IsBlank (sym is) all) ∙ has_text in cc,
     subst (λ r. HasIndent r ⊎
@@ -103,4 +103,4 @@ module _ (asked : BlockExtensions) (s : LineState) (rest : Rest) (blank : Bool) 
       by : IsLazy asked s → IsTrue (not true)
       by (begun, text, inl indent) = absurd (far (subst HasIndent (sym is) indent))
       by (begun, text, inr nothing) = absurd (nothing (subst (λ (r : Rest). Interrupts asked r.text) is (test.0 refl)))
-  lazy_tells false none has_text far test = (λ t. lazy_told none has_text (inr (λ h. let told = test.1 h in cc)), λ lazy. refl)
+  lazy_tells false none has_text far test = (λ t. lazy_given none has_text (inr (λ h. let given = test.1 h in cc)), λ lazy. refl)

@@ -26,7 +26,7 @@ first_at row i before below =
     at_drop_more (λ r. first_len (pieces before r)) row i 0 below
     ∙ first_behind (separates before (get_or row i 0)) (get_or row i 0) (pieces (get_or row i 0) (drop (i + 1) row))
 
--- a byte before which no backslash stands separates behind any other
+-- a byte before which no backslash stands separates after any other
 pub plain_before : (b : ℕ) (bs : List ℕ) → (b == backslash) ≡ false → pieces b bs ≡ pieces space bs
 plain_before b [] plain = refl
 plain_before b (c ∷ bs) plain = rw plain refl
@@ -34,7 +34,7 @@ plain_before b (c ∷ bs) plain = rw plain refl
 pub separates_plain : (before b : ℕ) → separates before b ≡ true → (b == backslash) ≡ false
 separates_plain before b is = grind (arith, nat_tests)
 
--- what stands behind the first piece
+-- what stands after the first piece
 abbrev pub behind_first : List ℕ → List (List ℕ)
 behind_first [] = []
 behind_first (b ∷ behind) = pieces space behind
@@ -117,7 +117,7 @@ inner_cells row inner is = by (ends_separated space row) refl
     by : (s : Bool) → ends_separated space row ≡ s
         → take (separators space row + 1 - (if ends_separated space row then 1 else 0)) (cells_at 0 (pieces space row)) ≡ cells_at 0 (pieces space inner)
     by true ends =
-        let told = rw ends at is in
+        let given = rw ends at is in
         let filled : length row ≡ suc (length row - 1) = omega (arith, ends_filled space row ends) in
         let last = pieces_last space row (length row - 1) filled ends in
         let size : separators space row ≡ length (pieces space (take (length row - 1) row)) =
@@ -125,13 +125,13 @@ inner_cells row inner is = by (ends_separated space row) refl
         rw ends (ap (λ ps. take (separators space row + 1 - 1) (cells_at 0 ps)) last
         ∙ ap (λ n. take n (cells_at 0 (pieces space (take (length row - 1) row) ++ [] ∷ []))) (omega (arith, size))
         ∙ take-cells_at 0 (pieces space (take (length row - 1) row)) ([] ∷ [])
-        ∙ ap (λ r. cells_at 0 (pieces space r)) (sym told))
+        ∙ ap (λ r. cells_at 0 (pieces space r)) (sym given))
     by false ends =
-        let told = rw ends at is in
+        let given = rw ends at is in
         let size : separators space row + 1 - 0 ≡ length (cells_at 0 (pieces space row)) =
         omega (arith, length-pieces space row, length-cells_at 0 (pieces space row)) in
         rw ends (ap (λ n. take n (cells_at 0 (pieces space row))) size ∙ take-length (cells_at 0 (pieces space row))
-        ∙ ap (λ r. cells_at 0 (pieces space r)) (sym (told ∙ ap (λ n. take n row) (omega arith) ∙ take-length row)))
+        ∙ ap (λ r. cells_at 0 (pieces space r)) (sym (given ∙ ap (λ n. take n row) (omega arith) ∙ take-length row)))
 
 take_none : {A : Type 0} (m : ℕ) (xs : List A) → xs ≡ [] → take m xs ≡ []
 take_none zero xs none = refl
@@ -195,7 +195,7 @@ cells_some row inner front is at low =
         rw one (piped inner also)
     by false none = let nought : front ≡ 0 = rw none at at in rw nought refl
 
--- the first piece, where none is behind it and where one is
+-- the first piece, where none is after it and where one is
 pub last_piece : (place : ℕ) (rest piece behind : List ℕ) → piece ≡ take (first_len (pieces space rest)) rest
     → behind ≡ drop (first_len (pieces space rest)) rest → length behind < 1 → cells_at place (pieces space rest) ≡ cell_at place piece ∷ []
 last_piece place rest piece [] front back low =
@@ -214,7 +214,7 @@ next_piece place rest piece (b ∷ bs) front back low =
     ∙ ap (λ n. cell_at place piece ∷ cells_at n (pieces space bs)) (omega arith)
     ∙ ap (λ r. cell_at place piece ∷ cells_at (place + (length piece + 1)) (pieces space r)) (sym (ap (λ n. take n bs) (omega arith) ∙ take-length bs))
 
--- the next of the cells that are left, where none is behind it and where one is
+-- the next of the cells that are left, where none is after it and where one is
 module _ (is_done : Bool) (place : ℕ) (rest : List ℕ) (n : ℕ) (piece behind : List ℕ) (cell : Cell) (goes : is_done ≡ false)
     (count : n ≡ first_len (pieces space rest)) (front : piece ≡ take n rest) (back : behind ≡ drop n rest) (is : cell ≡ cell_at place piece) where
   in_front : piece ≡ take (first_len (pieces space rest)) rest
@@ -238,7 +238,7 @@ one_byte false = refl
 -- a byte of a row more
 module _ (row : List ℕ) (i before : ℕ) (below : i < length row) (separated : Bool) (is : separated ≡ separates before (get_or row i 0)) where
   pub ended_here : separated ≡ true → first_len (pieces before (drop i row)) ≡ 0
-  ended_here told = let here = first_at row i before below in rw (← is, told) at here
+  ended_here given = let here = first_at row i before below in rw (← is, given) at here
 
   pub goes_on : separated ≡ false → first_len (pieces before (drop i row)) ≡ suc (first_len (pieces (get_or row i 0) (drop (i + 1) row)))
-  goes_on told = let here = first_at row i before below in rw (← is, told) at here
+  goes_on given = let here = first_at row i before below in rw (← is, given) at here

@@ -12,7 +12,7 @@ use Rattle.markdown_blocks.specs.cells.Pieces.{ArePieces, EndPlain, last_byte}
 use Rattle.markdown_blocks.proofs.cells.CellLemmas.{length-pieces, plain_before, separates_plain}
 use Rattle.markdown_blocks.proofs.cells.LawLemmas.{pieces_joined}
 
--- behind a plain byte, as behind a space
+-- after a plain byte, as after a space
 separators_plain : (b : ℕ) (bs : List ℕ) → (b == backslash) ≡ false → separators b bs ≡ separators space bs
 separators_plain b [] plain = refl
 separators_plain b (c ∷ bs) plain = rw plain refl

@@ -34,10 +34,10 @@ quote_passed s t after indent blank columns is few marked passed empty =
     subst (λ n. within_quote (behind_quote n (after_space 4 s)) ≡ Some (blank, after)) columns
     (subst (λ z. within_quote (behind_quote indent z) ≡ Some (blank, after)) is here)
 
-pub item_told : (found : Outcome (ℕ × ℕ × ℕ)) (after : LineState) (delimiter start width : ℕ) (begun : Bool) → Some (delimiter, start, width) ≡ found.answer
+pub item_given : (found : Outcome (ℕ × ℕ × ℕ)) (after : LineState) (delimiter start width : ℕ) (begun : Bool) → Some (delimiter, start, width) ≡ found.answer
     → after ≡ found.state → begun ≡ is_blank (unscanned after)
     → item_of found ≡ Some (Item (record { delimiter = delimiter; start = start; width = width; begun = begun }), after)
-item_told found after delimiter start width begun answers is blank = rw (← answers, ← is, blank) refl
+item_given found after delimiter start width begun answers is blank = rw (← answers, ← is, blank) refl
 
 -- no block quote begins there
 pub begun_other : (asked : BlockExtensions) (indent : ℕ) (s t : LineState) → (indent == 4) ≡ false
@@ -92,10 +92,10 @@ begun_by_all asked s r is =
     (extension_of asked n t) (extension_of all_extensions n t) r (extension_by_all asked n t r) is
 
 -- the container that a line begins, where its rest is passed
-pub begun_told : (asked : BlockExtensions) (s t after : LineState) (indent : ℕ) (r : Option Container) → indent ≡ space_within 4 s → t ≡ after_space 4 s
+pub begun_given : (asked : BlockExtensions) (s t after : LineState) (indent : ℕ) (r : Option Container) → indent ≡ space_within 4 s → t ≡ after_space 4 s
     → IfSome r (λ container. begun_behind asked indent t ≡ Some (container, after)) → IfNone r (begun_behind asked indent t ≡ None)
     → is_some r ≡ is_some (begun_at asked s)
-begun_told asked s t after indent r columns is found none = subst (λ n. is_some r ≡ is_some (begun_behind asked n (after_space 4 s))) columns
+begun_given asked s t after indent r columns is found none = subst (λ n. is_some r ≡ is_some (begun_behind asked n (after_space 4 s))) columns
     (subst (λ z. is_some r ≡ is_some (begun_behind asked indent z)) is (by r found none))
   where
     by : (r : Option Container) → IfSome r (λ container. begun_behind asked indent t ≡ Some (container, after)) → IfNone r (begun_behind asked indent t ≡ None)
@@ -120,7 +120,7 @@ pub blank_at : (line : List ℕ) (s : LineState) (p : ℕ) (blank : Bool) → s.
     → blank ≡ is_blank (unscanned s)
 blank_at line s p blank same place is = is ∙ ap is_blank (sym (rest_at_place line s p same place))
 
--- a line behind a container, by what it has of that
+-- a line after a container, by what it has of that
 abbrev pub step_on : List Container → LineState → Option (Bool × LineState) → Behind
 step_on inner s found = elim found [
   | Some r ↦ (let more = go_on r.0 inner r.1 in record { kept = suc more.kept; state = more.state })
@@ -144,7 +144,7 @@ plain_on (Footnote ∷ cs) s all = plain_width false 4 cs s (plain_on cs s) all
 plain_on (Item item ∷ cs) s all = plain_width item.begun item.width cs s (plain_on cs s) all
 plain_on (TermDefinition definition ∷ cs) s all = plain_width definition.begun definition.width cs s (plain_on cs s) all
 
--- from a place on, and so behind it
+-- from a place on, and so after it
 plain_behind : (plain kept : ℕ) (cs : List Container) → plain ≤ kept → list_all goes_on_blank (drop plain cs) ≡ true
     → list_all goes_on_blank (drop kept cs) ≡ true
 plain_behind zero zero cs low all = all

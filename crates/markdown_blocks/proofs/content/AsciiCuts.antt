@@ -101,7 +101,7 @@ end_utf8 text utf8 = before_end is_space_or_tab spaces_low text utf8
 pub fence_utf8 : (byte : ℕ) → byte < 128 → (text : List ℕ) → IsUtf8 text → IsUtf8 (behind_fence byte text)
 fence_utf8 byte low text utf8 = behind_front (λ b. b == byte) (byte_low byte low) text utf8
 
--- the info string behind a fence of a byte of ASCII
+-- the info string after a fence of a byte of ASCII
 pub info_utf8 : (byte : ℕ) (fence : List ℕ) → byte < 128 → IsUtf8 fence → IsUtf8 (info_of byte fence)
 info_utf8 byte fence low utf8 =
     end_utf8 (without_front (line_head (behind_fence byte fence)))

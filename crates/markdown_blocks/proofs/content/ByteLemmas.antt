@@ -252,7 +252,7 @@ abbrev pub DoNotFall : ℕ → List ℕ → Type 0
 DoNotFall from [] = ⊤
 DoNotFall from (place ∷ places) = (from ≤ place) × DoNotFall place places
 
--- each part stands behind the one before it
+-- each part stands after the one before it
 abbrev pub StandBehind : ℕ → List Part → Type 0
 StandBehind from [] = ⊤
 StandBehind from (p ∷ parts) =

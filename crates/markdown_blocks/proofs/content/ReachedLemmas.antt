@@ -128,7 +128,7 @@ all_space (b ∷ bs) c =
         ∙ ap (λ m. column_past c (take m (b ∷ bs))) (none_below (b ∷ bs) c (c + 0) (omega arith))
         ∙ after_none ∙ ap (λ k. c + k) (sym none)))
 
--- a byte that begins with a space, written out, is a space or a tab, and the spaces go on behind it
+-- a byte that begins with a space, written out, is a space or a tab, and the spaces go on after it
 pub space_first : (b : ℕ) (bs : List ℕ) (c : ℕ) → is_line_ending b ≡ false → 1 ≤ leading_spaces (written_out c (b ∷ bs))
     → (b < 128) × (c + leading_spaces (written_out c (b ∷ bs)) ≡ column_after c b + leading_spaces (written_out (column_after c b) bs))
 space_first b bs c goes some =

@@ -92,23 +92,23 @@ found_here found later offset low high ended after = stopped found (drop low lat
         let same : get_or later low s ≡ s = cc in
         subst (λ (t : Segment). offset < t.offset) same (after low s ended inside.1)
 
--- the place that is told
+-- the place that is given
 pub at_offset : (first : Segment) (later : List Segment) (n offset r : ℕ) → offset < n → r ≡ place_at first later offset
     → r ≡ slice_index (map (place_at first later) (range_with_len 0 n)) offset
 at_offset first later n offset r low is = is ∙ sym (get_or-map-range_with_len (place_at first later) 0 n offset offset 0 low (omega arith))
 
-pub told_in_columns : (s : Segment) (offset further r : ℕ) → further ≡ offset - s.offset → further < s.columns → r ≡ s.place - 1 → r ≡ place_in s offset
-told_in_columns s offset further r is low told = rw (← is, lt-ltb further s.columns low) told
+pub given_in_columns : (s : Segment) (offset further r : ℕ) → further ≡ offset - s.offset → further < s.columns → r ≡ s.place - 1 → r ≡ place_in s offset
+given_in_columns s offset further r is low given = rw (← is, lt-ltb further s.columns low) given
 
-pub told_in_bytes : (s : Segment) (offset further r : ℕ) → further ≡ offset - s.offset → s.columns ≤ further → r ≡ s.place + (further - s.columns)
+pub given_in_bytes : (s : Segment) (offset further r : ℕ) → further ≡ offset - s.offset → s.columns ≤ further → r ≡ s.place + (further - s.columns)
     → r ≡ place_in s offset
-told_in_bytes s offset further r is low told = rw (← is, le-ltb further s.columns low) told
+given_in_bytes s offset further r is low given = rw (← is, le-ltb further s.columns low) given
 
 -- where there is one segment without columns, which begins at the first byte
 pub run_at : (s : Segment) (later : List Segment) → (length later == 0) ≡ true → s.offset ≡ 0 → s.columns ≡ 0 → (offset : ℕ)
     → place_at s later offset ≡ s.place + offset
 run_at s [] one first none offset =
-    sym (told_in_bytes s offset offset (s.place + offset) (omega (arith, first)) (omega (arith, none)) (omega (arith, none)))
+    sym (given_in_bytes s offset offset (s.place + offset) (omega (arith, first)) (omega (arith, none)) (omega (arith, none)))
 run_at s (t ∷ later) one first none offset = absurd (omega (arith, eqb-true (length (t ∷ later)) 0 one))
 
 -- the segments of parts

@@ -37,7 +37,7 @@ two_end : (b c : ℕ) (more : List ℕ) → ends_line (c ∷ more) ≡ true → 
 unfolding LastEnds
 two_end b c more ends = ends
 
--- behind a line ending
+-- after a line ending
 single : (xs : List ℕ) (b : ℕ) (bs : List ℕ) (e : ℕ) → e ≡ 1 → ends_line (b ∷ bs) ≡ true → Cut (length xs + e) (xs ++ b ∷ bs)
 single xs b bs e one ends =
     let cut = lines_cut (xs ++ b ∷ []) bs (last-append xs b [] bs (one_ends b bs ends)) in
@@ -52,25 +52,25 @@ double xs b c bs e two ends =
 
 return_cut : (xs : List ℕ) (b : ℕ) (bs : List ℕ) (e : ℕ) → (b == 10) ≡ false → (b == 13) ≡ true
     → (if begins_with (λ c. c == 10) bs then Some 2 else Some 1) ≡ Some e → Cut (length xs + e) (xs ++ b ∷ bs)
-return_cut xs b [] e other cr is = single xs b [] e (let told : Some 1 ≡ Some e = is in cc) (rw (other, cr) refl)
+return_cut xs b [] e other cr is = single xs b [] e (let given : Some 1 ≡ Some e = is in cc) (rw (other, cr) refl)
 return_cut xs b (c ∷ bs) e other cr is = elim (cases_Bool (c == 10)) [
-  | inl lf ↦ double xs b c bs e (let told : Some 2 ≡ Some e = rw lf at is in cc) (rw lf refl)
-  | inr plain ↦ single xs b (c ∷ bs) e (let told : Some 1 ≡ Some e = rw plain at is in cc) (rw (other, cr, plain) refl)
+  | inl lf ↦ double xs b c bs e (let given : Some 2 ≡ Some e = rw lf at is in cc) (rw lf refl)
+  | inr plain ↦ single xs b (c ∷ bs) e (let given : Some 1 ≡ Some e = rw plain at is in cc) (rw (other, cr, plain) refl)
 ]
 
 ending_cut : (xs after : List ℕ) (e : ℕ) → line_ending after ≡ Some e → Cut (length xs + e) (xs ++ after)
 ending_cut xs [] e is =
-    let zero : e ≡ 0 = (let told : Some 0 ≡ Some e = is in cc) in
+    let zero : e ≡ 0 = (let given : Some 0 ≡ Some e = is in cc) in
     cut_parts xs [] (length xs + e) (omega (arith, zero)) (ap lines_of (append-nil xs) ∙ sym (append-nil (lines_of xs)))
 ending_cut xs (b ∷ bs) e is = elim (cases_Bool (b == 10)) [
-  | inl lf ↦ single xs b bs e (let told : Some 1 ≡ Some e = rw lf at is in cc) (rw lf refl)
+  | inl lf ↦ single xs b bs e (let given : Some 1 ≡ Some e = rw lf at is in cc) (rw lf refl)
   | inr other ↦ elim (cases_Bool (b == 13)) [
     | inl cr ↦ return_cut xs b bs e other cr (rw (other, cr) at is)
-    | inr plain ↦ let told : ◌≡◌ {A = Option ℕ} None (Some e) = rw (other, plain) at is in cc
+    | inr plain ↦ let given : ◌≡◌ {A = Option ℕ} None (Some e) = rw (other, plain) at is in cc
   ]
 ]
 
--- behind the rest of a line
+-- after the rest of a line
 rest_cut : (text : List ℕ) (x n : ℕ) → x ≤ length text → IsRestOfLine (drop x text) n → Cut (x + n) text
 rest_cut text x n within is =
     let whole : (take x text ++ is.spaces) ++ is.after ≡ text =

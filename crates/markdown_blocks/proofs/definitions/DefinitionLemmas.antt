@@ -1,4 +1,4 @@
--- The definitions at the front of a text, one behind another.
+-- The definitions at the front of a text, one after another.
 use Rattle.std.proofs.Common.{ℕ, List, [], ◌∷◌, ◌++◌, ◌≡◌, ◌<◌, ◌≤◌, ◌-◌, length, take}
 use Rattle.std.proofs.Common.{drop, refl, sym, ap, ◌∙◌, subst, arith, append-nil, append_assoc, length-append}
 use Rattle.std.proofs.Math.Seq.{take-append_seam}
@@ -49,8 +49,8 @@ plain_text b bytes other = record {
 -- whether they are the whole text
 module _ (content : List ℕ) (taken : ℕ) (definitions : List ReferenceDefinition) (is : AreDefinitions content definitions (drop taken content))
     (within : taken ≤ length content) where
-  pub more_told : taken < length content → HasText content
-  more_told fewer = record {
+  pub more_given : taken < length content → HasText content
+  more_given fewer = record {
     definitions = definitions;
     rest = drop taken content;
     behind = is;
@@ -78,7 +78,7 @@ content-more outer words before line =
     push (l ∷ ls) = append_assoc (words_in outer l) (flat_map (words_in outer) ls) (words_in outer line)
         ∙ ap (λ c. words_in outer l ++ c) (push ls)
 
--- the content of the lines that are read, behind what stood before it
+-- the content of the lines that are read, after what stood before it
 pub record Read (outer : List Container) (words text line : List ℕ) (count : ℕ) (read : Taken) (old content : List ℕ) : Type 0 where
   pub before : List (List ℕ)
   pub few : length before ≤ count - 1
@@ -154,10 +154,10 @@ first_line text line later taken t start one l none n =
     let same : l ≡ line = cc in subst (λ x. IsTaken text one (x ∷ [])) same is
 
 -- whether a content is more than its definitions, by their length and its own
-pub all_told : (items content : List ℕ) (taken size : ℕ) → items ≡ content
+pub all_given : (items content : List ℕ) (taken size : ℕ) → items ≡ content
     → (definitions : List ReferenceDefinition) × AreDefinitions items definitions (drop taken items) → taken ≤ length items → size ≡ length items
     → (IsTrue (nat_lt taken size) → HasText content) × (HasText content → IsTrue (nat_lt taken size))
-all_told items content taken size is found within counted = (
-  λ t. subst HasText is (more_told items taken found.0 found.1 within (omega (arith, ltb-true taken size t, counted))),
+all_given items content taken size is found within counted = (
+  λ t. subst HasText is (more_given items taken found.0 found.1 within (omega (arith, ltb-true taken size t, counted))),
   λ has. lt-ltb taken size (omega (arith, more_tells items taken found.0 found.1 within (subst HasText (sym is) has), counted)),
 )

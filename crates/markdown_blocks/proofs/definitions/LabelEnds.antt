@@ -65,7 +65,7 @@ line_closes passed (b ∷ bs) = elim (cases_Bool (b == 10)) [
   ]
 ]
 
--- behind so many more bytes
+-- after so many more bytes
 further : (passed n : ℕ) (source : List ℕ) (k : KeptByte) → Closes (passed + n) (drop n source) k → Closes passed source k
 further passed n source k closes is =
     let there = closes is in
@@ -128,7 +128,7 @@ module _ (source : List ℕ) where
         (there.0, there.1, there.2, omega (arith, same, there.3))
         )
     | inr unclosed ↦ elim (cases_Bool (k.byte == left_bracket)) [
-      | inl opens ↦ let told : ◌≡◌ {A = Option Bracketed} None (Some b) = rw (unclosed, opens) at is in cc
+      | inl opens ↦ let given : ◌≡◌ {A = Option Bracketed} None (Some b) = rw (unclosed, opens) at is in cc
       | inr plain ↦ behind (k ∷ []) (bracketed units) b later (rw (unclosed, plain) at is)
     ]
   ]
@@ -147,7 +147,7 @@ label_len_is : (b : Bracketed) (label : Label) → label_between false (Some b) 
 unfolding len_of
 label_len_is b label is = elim (cases_Bool (is_label_content b.content)) [
   | inl content ↦ sym (ap len_of (rw content at is))
-  | inr other ↦ let told : ◌≡◌ {A = Option Label} None (Some label) = rw other at is in cc
+  | inr other ↦ let given : ◌≡◌ {A = Option Label} None (Some label) = rw other at is in cc
 ]
 
 label_closed : (inside : List ℕ) (n : ℕ) → IsLabelLength inside n
@@ -158,10 +158,10 @@ label_closed inside n is =
     by : (found : Option Bracketed) → bracketed (kept_units (kept_from 0 inside is.is_label.skips)) ≡ found
         → label_between false found ≡ Some is.label
         → (front : List ℕ) × (back : List ℕ) × (inside ≡ front ++ right_bracket ∷ back) × (n ≡ length front + 1)
-    by None found told = cc
-    by (Some b) found told =
+    by None found given = cc
+    by (Some b) found given =
         let there = bracket_there inside (kept_from 0 inside is.is_label.skips) b (kept_closes 0 inside is.is_label.skips) found in
-        let size = label_len_is b is.label told in
+        let size = label_len_is b is.label given in
         (there.0, there.1, there.2, omega (arith, is.counted, there.3, size))
 
 -- what stands somewhere is found

@@ -29,7 +29,7 @@ use Rattle.markdown_blocks.specs.events.Events.{Event, starts, leaf, ends, LeafB
 use Rattle.markdown_blocks.specs.events.Labels.{AreMarked, IsMarked}
 use Rattle.markdown_blocks.proofs.containers.ContainerLemmas.{begun_by_all, definition_marked, step_on}
 
--- a label in a text stands in each that goes on behind it
+-- a label in a text stands in each that goes on after it
 closes_more : (bytes more : List ℕ) → closes_label bytes ≡ true → closes_label (bytes ++ more) ≡ true
 closes_more [] more h = cc
 closes_more (a ∷ []) more h = cc
@@ -99,7 +99,7 @@ item_bytes indent s (Some m) = by (space_or_end_follows (bytes_further m.width s
     by true = refl
     by false = refl
 
--- what begins there is marked, and the place behind it stands in the line
+-- what begins there is marked, and the place after it stands in the line
 module _ (P : Container × LineState → Type 0) where
   pub one_is : (found r : Container × LineState) → Some found ≡ Some r → P found → P r
   one_is found r is h = let one : found ≡ r = cc in subst P one h

@@ -17,14 +17,14 @@ pub one_list_of_leaves : (outer : List Container) (kind : BlockKind) (part : Par
 one_list_of_leaves outer kind part content [] [] are are' = refl
 one_list_of_leaves outer kind part content [] (block ∷ others) are are' = absurd (are'.0 are)
 one_list_of_leaves outer kind part content (block ∷ leaves) [] are are' = absurd (are.0 are')
-one_list_of_leaves outer kind part content (block ∷ leaves) (other ∷ others) (some, inl (d, is, told, more)) (some', inl (d', is', told', more')) =
+one_list_of_leaves outer kind part content (block ∷ leaves) (other ∷ others) (some, inl (d, is, given, more)) (some', inl (d', is', given', more')) =
     let same : d ≡ d' = one_reference_definition most_nested content d d' is is' in
     let later : AreLeaves outer kind (later_lines outer (lines_taken content d') part) (drop d'.len content) leaves =
     subst (λ (e : ReferenceDefinition). AreLeaves outer kind (later_lines outer (lines_taken content e) part) (drop e.len content) leaves) same more in
-    ap (λ l. l ∷ leaves) (told ∙ ap (λ e. leaf_of Definition (first_lines (lines_taken content e) part)) same ∙ sym told')
+    ap (λ l. l ∷ leaves) (given ∙ ap (λ e. leaf_of Definition (first_lines (lines_taken content e) part)) same ∙ sym given')
     ∙ ap (λ ls. other ∷ ls) (one_list_of_leaves outer kind (later_lines outer (lines_taken content d') part) (drop d'.len content) leaves others later more')
-one_list_of_leaves outer kind part content (block ∷ leaves) (other ∷ others) (some, inl (d, is, told, more)) (some', inr own) = absurd (own.0 d is)
-one_list_of_leaves outer kind part content (block ∷ leaves) (other ∷ others) (some, inr own) (some', inl (d, is, told, more)) = absurd (own.0 d is)
+one_list_of_leaves outer kind part content (block ∷ leaves) (other ∷ others) (some, inl (d, is, given, more)) (some', inr own) = absurd (own.0 d is)
+one_list_of_leaves outer kind part content (block ∷ leaves) (other ∷ others) (some, inr own) (some', inl (d, is, given, more)) = absurd (own.0 d is)
 one_list_of_leaves outer kind part content (block ∷ leaves) (other ∷ others) (some, inr own) (some', inr own') =
     ap (λ l. l ∷ leaves) (own.1 ∙ sym own'.1) ∙ ap (λ ls. other ∷ ls) (own.2 ∙ sym own'.2)
 

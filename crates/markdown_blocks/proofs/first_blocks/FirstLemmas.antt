@@ -23,7 +23,7 @@ abbrev first_of : Option Container → Nodes → Option First
 first_of None nodes = None
 first_of (Some container) nodes = first_in container nodes
 
--- the first blocks of nodes, the first of which may be one of the container that waits for it, and those behind
+-- the first blocks of nodes, the first of which may be one of the container that waits for it, and those after
 abbrev AreFound : Nodes → Type 0
 AreFound nodes = (waiting : Option Container) (inside : Bool) (later : List Event)
     → firsts_behind waiting (flatten nodes ++ tail inside later)

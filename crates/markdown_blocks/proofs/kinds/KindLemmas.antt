@@ -7,21 +7,21 @@ use Rattle.markdown_blocks.specs.declared.blocks.BlockKind.TheVariants.{Blank, B
 use Rattle.markdown_blocks.specs.blocks.Leaves.{IsBlank, HasIndent, Begins, BeginsAt}
 
 -- nothing is found
-pub none_told : {A : Type 0} (P : A → Type 0) (r : Option A) → is_some r ≡ false → SomeExactly P r → (a : A) → ¬ P a
-none_told P None told exactly = exactly
-none_told P (Some a) told exactly = cc
+pub none_given : {A : Type 0} (P : A → Type 0) (r : Option A) → is_some r ≡ false → SomeExactly P r → (a : A) → ¬ P a
+none_given P None given exactly = exactly
+none_given P (Some a) given exactly = cc
 
 -- whether something is found
-pub some_told : {A : Type 0} (P : A → Type 0) (r : Option A) (t : Bool) → t ≡ is_some r → SomeExactly P r
+pub some_given : {A : Type 0} (P : A → Type 0) (r : Option A) (t : Bool) → t ≡ is_some r → SomeExactly P r
     → (IsTrue t → (a : A) × P a) × (((a : A) × P a) → IsTrue t)
-some_told P None t told exactly = (λ h. let both : true ≡ false = sym h ∙ told in cc, λ some. absurd (exactly some.0 some.1))
-some_told P (Some a) t told exactly = (λ h. (a, exactly), λ some. told)
+some_given P None t given exactly = (λ h. let both : true ≡ false = sym h ∙ given in cc, λ some. absurd (exactly some.0 some.1))
+some_given P (Some a) t given exactly = (λ h. (a, exactly), λ some. given)
 
 -- a test that fails
-pub not_told : {P : Type 0} {t : Bool} → t ≡ false → (P → IsTrue t) → ¬ P
-not_told {P} {t} fails tells p = let passes = tells p in cc
+pub not_given : {P : Type 0} {t : Bool} → t ≡ false → (P → IsTrue t) → ¬ P
+not_given {P} {t} fails tells p = let passes = tells p in cc
 
--- what begins behind the indent begins with the rest of the line
+-- what begins after the indent begins with the rest of the line
 pub begins_behind : (kind : BlockKind) (rest : Rest) → ¬ IsBlank rest → ¬ HasIndent rest → BeginsAt kind rest.text → Begins kind rest
 begins_behind Blank rest text near h = absurd h
 begins_behind Indented rest text near h = absurd h

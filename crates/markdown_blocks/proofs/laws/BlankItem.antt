@@ -100,7 +100,7 @@ module _ (asked : BlockExtensions) (lead : Lead) where
   abbrev Text : List ℕ → Type 0
   Text line = IsTrue (not (is_blank line))
 
-  -- behind the first line
+  -- after the first line
   same_settled : (n : ℕ) → settled_last (take n (item_by lead ∷ [])) ≡ settled_last (take n (begun_by lead ∷ []))
   same_settled zero = refl
   same_settled (suc zero) = refl
@@ -201,11 +201,11 @@ blank_item_blocks asked lead is (p ∷ pieces) (q ∷ others) (one, single, i, z
             (subst (λ r. IsLeaf (opened asked (begun_by lead ∷ [])) Blank r [] (lines_in others ++ [])) (sym i.words) held)));
         is_term = (
           λ t. no_term p.kind _ single.kind (h.0.is_term.0 (sym i.term ∙ t)),
-          λ told. no_term q.kind _ (sym kind) told,
+          λ given. no_term q.kind _ (sym kind) given,
         );
       },
       subst (λ b. AreBlocks b others []) between_is (begun_blocks asked lead term pieces others z single.text_follows next),
     )
   where
     no_term : {A : Type 0} (k : BlockKind) (content : List ℕ) → k ≡ Blank → IsTerm asked k content → A
-    no_term k content is told = let both : Blank ≡ Paragraph = sym is ∙ told.1 in cc
+    no_term k content is given = let both : Blank ≡ Paragraph = sym is ∙ given.1 in cc

@@ -30,7 +30,7 @@ use Rattle.markdown_blocks.proofs.taken.LineCuts.{first_behind, first_utf8, line
 
 -- ---- lines
 
--- what stands behind lines is UTF-8
+-- what stands after lines is UTF-8
 behind_utf8 : (lines : List (List ℕ)) (text : List ℕ) (rest : List (List ℕ)) → lines_of text ≡ lines ++ rest → IsUtf8 text
     → IsUtf8 (drop (length (concat lines)) text)
 behind_utf8 [] text rest is utf8 = utf8

@@ -1,4 +1,4 @@
--- The content of the leaf blocks of a page stands behind the markers of their containers.
+-- The content of the leaf blocks of a page stands after the markers of their containers.
 use Rattle.std.proofs.Common.{ℕ, zero, suc, ◌+◌, ◌-◌, ◌<◌, ◌≤◌, ◌≡◌, ◌≢◌, ◌∙◌, ◌==◌, List, [], ◌∷◌, ◌++◌, length, take, drop, map, true, false}
 use Rattle.std.proofs.Common.{inl, inr, refl, ap, arith, subst, sym, append_assoc, append-nil, replicate}
 use Rattle.std.specs.Prelude.{⊤, slice_index}

@@ -89,7 +89,7 @@ module _ (t : LineState) (spent : t.pending ≡ 0) (next : LineState) (c : Conta
   other_further indent (Some found) item is = item_further indent (list_marker (unscanned t)) refl (item ∙ is)
   other_further indent None item is = extension_further indent (footnote_of all_extensions t) refl is
 
--- what stands behind a container's marker stands behind its first byte
+-- what stands after a container's marker stands after its first byte
 pub begun_further : (s next : LineState) (c : Container) → begun_at all_extensions s ≡ Some (c, next)
     → IsFurther (suc (after_space 4 s).place) next
 begun_further s next c is =

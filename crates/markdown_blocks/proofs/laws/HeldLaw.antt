@@ -19,7 +19,7 @@ use Rattle.markdown_blocks.specs.definitions.Content.{content_in, words_in}
 use Rattle.markdown_blocks.specs.laws.Held.{Change, HasSameWords, IsHeldIn, AreIn}
 use Rattle.markdown_blocks.proofs.laws.AlikeLemmas.{Alike, same_rest}
 use Rattle.markdown_blocks.proofs.laws.SameContainers.{same_opens}
-use Rattle.markdown_blocks.proofs.laws.LeafMoves.{Moves, FirstTwo, Follows, LaterMoves, leaf_moves, told_moves}
+use Rattle.markdown_blocks.proofs.laws.LeafMoves.{Moves, FirstTwo, Follows, LaterMoves, leaf_moves, given_moves}
 
 pub zip_map : (R S : Change) → ((line moved : List ℕ) → R line moved → S line moved) → (lines others : List (List ℕ))
     → AllZip R lines others → AllZip S lines others
@@ -48,7 +48,7 @@ suc_eq a b = by (a == b) refl
     by true is = sym (eq-eqb (suc a) (suc b) (ap suc (eqb-true a b is)))
     by false is = grind (arith, nat_tests)
 
--- the first line of the container, where the line stands behind its marker
+-- the first line of the container, where the line stands after its marker
 abbrev pub Begins : BlockExtensions → Container → List ℕ → List ℕ → Type 0
 Begins asked c line moved = (next : LineState) × (begun_at asked (start_of moved) ≡ Some (c, next)) × Alike (start_of line) next
 
@@ -111,7 +111,7 @@ first_opened asked c First Later Lazy p q here i h =
 module _ (asked : BlockExtensions) (c : Container) (First Later Lazy : Change) (steady : settled c ≡ c)
     (begins : (line moved : List ℕ) → First line moved → Begins (without_terms asked) c line moved)
     (on : (line moved : List ℕ) → Later line moved → GoesOn c line moved) (out : (line moved : List ℕ) → Lazy line moved → StaysOut asked c moved) where
-  -- a block behind the first in the container, and a line behind the first of a block
+  -- a block after the first in the container, and a line after the first of a block
   abbrev IsNext : Piece → Piece → Type 0
   IsNext p q = IsHeldIn Later Later Lazy (c ∷ p.kept) p.begun p q
 
@@ -168,27 +168,27 @@ module _ (asked : BlockExtensions) (c : Container) (First Later Lazy : Change) (
 
   -- the block in the container
   module _ (p q : Piece) (pieces others : List Piece) (z : AllZip IsNext pieces others) where
-    abbrev Told : Bool → BlockKind → List Container → Rest → List (List ℕ) → Type 0
-    Told term kind cs words later = IsTrue term ↔ IsTerm asked kind (content_in kind cs words.text later)
+    abbrev Given : Bool → BlockKind → List Container → Rest → List (List ℕ) → Type 0
+    Given term kind cs words later = IsTrue term ↔ IsTerm asked kind (content_in kind cs words.text later)
 
     there_by : (Start : Change) (kept begun : List Container) → IsHeldIn Start Later Lazy kept begun p q → kept ++ begun ≡ c ∷ containers_of p
         → c ∷ containers_of p ≡ containers_of q
     there_by Start kept begun i open_now =
         sym open_now ∙ ap (λ cs. cs ++ begun) (sym i.kept_are) ∙ ap (λ cs. q.kept ++ cs) (sym i.begun_are)
 
-    told_in : (Start : Change) (kept begun : List Container) → IsHeldIn Start Later Lazy kept begun p q → kept ++ begun ≡ c ∷ containers_of p
-        → Told p.term p.kind (containers_of p) p.words p.later → Told q.term q.kind (containers_of q) q.words q.later
-    told_in Start kept begun i open_now told =
+    given_in : (Start : Change) (kept begun : List Container) → IsHeldIn Start Later Lazy kept begun p q → kept ++ begun ≡ c ∷ containers_of p
+        → Given p.term p.kind (containers_of p) p.words p.later → Given q.term q.kind (containers_of q) q.words q.later
+    given_in Start kept begun i open_now given =
         let outer = containers_of p in
         let there = there_by Start kept begun i open_now in
-        let moved : Told p.term p.kind (c ∷ outer) p.words q.later =
-        told_moves (opened asked outer) (opened asked (c ∷ outer)) p.kind p.words.text p.later q.later
+        let moved : Given p.term p.kind (c ∷ outer) p.words q.later =
+        given_moves (opened asked outer) (opened asked (c ∷ outer)) p.kind p.words.text p.later q.later
         (zip_map (IsLater p q) (LaterMoves (opened asked outer) (opened asked (c ∷ outer)) p.kind)
-        (later_moves outer p q refl there) p.later q.later i.later) asked p.term told in
-        subst (λ t. Told t q.kind (containers_of q) q.words q.later) (sym i.term)
-        (subst (λ k. Told p.term k (containers_of q) q.words q.later) (sym i.kind)
-        (subst (λ w. Told p.term p.kind (containers_of q) w q.later) (sym i.words)
-        (subst (λ cs. Told p.term p.kind cs p.words q.later) there moved)))
+        (later_moves outer p q refl there) p.later q.later i.later) asked p.term given in
+        subst (λ t. Given t q.kind (containers_of q) q.words q.later) (sym i.term)
+        (subst (λ k. Given p.term k (containers_of q) q.words q.later) (sym i.kind)
+        (subst (λ w. Given p.term p.kind (containers_of q) w q.later) (sym i.words)
+        (subst (λ cs. Given p.term p.kind cs p.words q.later) there moved)))
 
     leaf_in : (Start : Change) (kept begun : List Container) → IsHeldIn Start Later Lazy kept begun p q → kept ++ begun ≡ c ∷ containers_of p
         → IsLeaf (opened asked (p.kept ++ p.begun)) p.kind p.words p.later (lines_in pieces ++ [])
@@ -224,7 +224,7 @@ module _ (asked : BlockExtensions) (c : Container) (First Later Lazy : Change) (
             is_rest = i.words ∙ h.opened.is_rest ∙ same_rest h.opened.place opens.0 opens.2;
           };
           leaf = leaf_in Later (c ∷ p.kept) p.begun i refl h.leaf;
-          is_term = told_in Later (c ∷ p.kept) p.begun i refl h.is_term;
+          is_term = given_in Later (c ∷ p.kept) p.begun i refl h.is_term;
         }
 
     first_piece : IsHeldIn First Later Lazy [] (c ∷ p.begun) p q → IsPiece (root asked) p (lines_in pieces ++ [])
@@ -234,7 +234,7 @@ module _ (asked : BlockExtensions) (c : Container) (First Later Lazy : Change) (
         record {
           opened = first_opened asked c First Later Lazy p q (begins p.first q.first i.first) i h.opened;
           leaf = leaf_in First [] (c ∷ p.begun) i none h.leaf;
-          is_term = told_in First [] (c ∷ p.begun) i none h.is_term;
+          is_term = given_in First [] (c ∷ p.begun) i none h.is_term;
         }
 
     -- one blank line between is one there too

@@ -104,7 +104,7 @@ item_lines asked lead text pieces others is joined z =
     (held_lines (item_by lead) (IsItemLine lead) (IsIndentedLine (width_of lead)) (IsLessIndented asked (width_of lead)) IsMarked (first_marked lead is)
     (later_marked (width_of lead)) (less_marked asked (width_of lead)) pieces others z))
 
--- Rules 1, 2, 4 and 5: where a text has these blocks, its lines behind a marker and as far indented, or a paragraph's lazily less, make a
+-- Rules 1, 2, 4 and 5: where a text has these blocks, its lines after a marker and as far indented, or a paragraph's lazily less, make a
 -- text that is a list item of these blocks, and nothing else.
 pub list_item : (asked : BlockExtensions) (lead : Lead) (text : List ℕ) (pieces others : List Piece) → IsLead lead → IsPage asked text pieces
     → AreInItem asked lead pieces others

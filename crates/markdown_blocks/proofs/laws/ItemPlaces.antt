@@ -1,4 +1,4 @@
--- The places of a line behind a list marker and spaces, and of one that is indented as its text.
+-- The places of a line after a list marker and spaces, and of one that is indented as its text.
 use Rattle.std.proofs.Common.{ℕ, suc, true, false, not, ◌==◌, ◌+◌, ◌-◌, ◌≡◌, ◌≤◌, ◌<◌, ◌⊎◌, List, ◌∷◌, ◌++◌, length}
 use Rattle.std.proofs.Common.{Some, None, refl, sym, ap, ◌∙◌, subst, arith, inl, inr, eq-eqb}
 use Rattle.std.specs.Prelude.{nat_lt}

@@ -1,4 +1,4 @@
--- Where lines have behind their containers what other lines have behind others, they are the same block.
+-- Where lines have after their containers what other lines have after others, they are the same block.
 use Rattle.std.proofs.Common.{ℕ, Bool, true, false, ◌≡◌, ◌⊎◌, ◌↔◌, List, [], ◌∷◌}
 use Rattle.std.proofs.Common.{◌++◌, None, refl, sym, ap, ◌∙◌, subst, inl, inr, append_assoc, append-nil}
 use Rattle.std.specs.Prelude.{⊤, IsTrue, MatchBool}
@@ -26,7 +26,7 @@ use Rattle.markdown_blocks.specs.blocks.Leaves.{StopsBehind, EndsIndented, NoMor
 use Rattle.markdown_blocks.proofs.laws.AlikeLemmas.{Alike, alike_back, same_rest}
 use Rattle.markdown_blocks.proofs.laws.SameContainers.{alike_none, same_begun}
 
--- what is read of the second line behind the other containers is what is read of the first behind these
+-- what is read of the second line after the other containers is what is read of the first after these
 pub record Moves (outer other : Outer) (line moved : List ℕ) : Type 0 where
   pub same : outer.extensions ≡ other.extensions
   pub asked : asked_in outer line ≡ asked_in other moved
@@ -37,7 +37,7 @@ pub moves_back : (outer other : Outer) (line moved : List ℕ) → Moves outer o
 moves_back outer other line moved m =
     record { same = sym m.same; asked = sym m.asked; inside = (m.inside.1, m.inside.0); state = alike_back _ _ m.state }
 
--- what is told of one line
+-- what is given of one line
 module _ (outer other : Outer) (line moved : List ℕ) (m : Moves outer other line moved) where
   rest_moves : rest_in outer.containers line ≡ rest_in other.containers moved
   rest_moves = same_rest _ _ m.state
@@ -137,12 +137,12 @@ stops_moves R S P Q from to lines others rest after z two stops = record {
 }
 
 module _ (outer other : Outer) where
-  -- the lines behind a block: none but the first needs to be read as before, where it stands outside
+  -- the lines after a block: none but the first needs to be read as before, where it stands outside
   pub record Follows (rest after : List (List ℕ)) : Type 0 where
     pub first : FirstTwo (Moves outer other) rest after
     pub each : AllZip (λ line moved. Moves outer other line moved ⊎ (¬ IsInside other.containers moved)) rest after
 
-  -- a line behind the first of a block of this kind, which may be a lazy one in a paragraph
+  -- a line after the first of a block of this kind, which may be a lazy one in a paragraph
   abbrev pub LaterMoves : BlockKind → List ℕ → List ℕ → Type 0
   LaterMoves kind line moved =
       Moves outer other line moved
@@ -278,7 +278,7 @@ module _ (outer other : Outer) where
       ∙ ap (λ t. flat_map (words_in containers) before ++ t) (append-nil (words_in containers line)))
       ∙ sym (append_assoc (without_front text) (flat_map (words_in containers) before) (words_in containers line))
 
-  -- a line behind this content
+  -- a line after this content
   behind_back : (kind : BlockKind) (line moved content : List ℕ) → LaterMoves kind line moved → Leaves other (EndsContent other.extensions content) moved
       → Leaves outer (EndsContent outer.extensions content) line
   behind_back kind line moved content (inl m) h = content_leaves other outer moved line (moves_back outer other line moved m) content h
@@ -341,7 +341,7 @@ module _ (outer other : Outer) where
         ),
       )
 
-  -- a table: its delimiter row, and the rows behind that
+  -- a table: its delimiter row, and the rows after that
   table_moves : (columns : ℕ) (first : Rest) (lines others rest after : List (List ℕ)) → AllZip (Moves outer other) lines others
       → FirstTwo (Moves outer other) rest after → IsLeaf outer (Table columns) first lines rest → IsLeaf other (Table columns) first others after
   table_moves columns first [] others rest after z two leaf = let none = leaf.3 in cc
@@ -376,11 +376,11 @@ module _ (outer other : Outer) where
       let there = ap (λ k. content_in k other.containers text others) h.1 in
       (h.0, h.1, subst HasText (sym (here ∙ content_moves kind text lines others z ∙ sym there)) h.2)
 
-  pub told_moves : (kind : BlockKind) (text : List ℕ) (lines others : List (List ℕ)) → AllZip (LaterMoves kind) lines others → (asked : BlockExtensions)
+  pub given_moves : (kind : BlockKind) (text : List ℕ) (lines others : List (List ℕ)) → AllZip (LaterMoves kind) lines others → (asked : BlockExtensions)
       (term : Bool) → IsTrue term ↔ IsTerm asked kind (content_in kind outer.containers text lines)
       → IsTrue term ↔ IsTerm asked kind (content_in kind other.containers text others)
-  told_moves kind text lines others z asked term told =
-      (λ t. term_moves kind text lines others z asked (told.0 t), λ h. told.1 (term_back kind text lines others z asked h))
+  given_moves kind text lines others z asked term given =
+      (λ t. term_moves kind text lines others z asked (given.0 t), λ h. given.1 (term_back kind text lines others z asked h))
 
   -- the block
   module _ (first : Rest) (lines others rest after : List (List ℕ)) (f : Follows rest after) where

@@ -1,4 +1,4 @@
--- The lines of a text, each behind bytes that end no line, are the lines of the text that they make.
+-- The lines of a text, each after bytes that end no line, are the lines of the text that they make.
 use Rattle.std.proofs.Common.{ℕ, suc, zero, Bool, true, false, not, ◌||◌, ◌&&◌, ◌==◌, ◌≡◌, ◌⊎◌}
 use Rattle.std.proofs.Common.{List, [], ◌∷◌, ◌++◌, refl, sym, ap, ◌∙◌, subst, inl, inr, append_assoc, append-nil}
 use Rattle.std.specs.List.{AllZip, concat, list_all}
@@ -13,13 +13,13 @@ use Rattle.markdown_blocks.proofs.laws.Places.{spaces, not_true}
 abbrev pub ends_none : List ℕ → Bool
 ends_none bytes = list_all (λ b. not (is_line_ending b)) bytes
 
--- the line behind such bytes
+-- the line after such bytes
 pub record IsBehind (line moved : List ℕ) : Type 0 where
   pub front : List ℕ
   pub parts : moved ≡ front ++ line
   pub plain : ends_none front ≡ true
 
--- the line without bytes at its front, and behind such bytes: what is left of it begins with another byte than LF
+-- the line without bytes at its front, and after such bytes: what is left of it begins with another byte than LF
 pub record IsCut (line moved : List ℕ) : Type 0 where
   pub cut : List ℕ
   pub front : List ℕ
@@ -121,7 +121,7 @@ keeps_feed (c ∷ cs) l ls rest is feed =
     let same : c ∷ f.0 ≡ l = cc in
     subst (λ bytes. begins_feed (bytes ++ rest) ≡ true) same feed
 
--- the lines behind bytes, one after the other
+-- the lines after bytes, one after the other
 abbrev Holds : List ℕ → Type 0
 Holds bs = (others : List (List ℕ)) → AllZip IsMarked (lines_of bs) others → lines_of (concat others) ≡ others
 

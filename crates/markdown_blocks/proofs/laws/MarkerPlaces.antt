@@ -1,4 +1,4 @@
--- The place behind a list marker.
+-- The place after a list marker.
 use Rattle.std.proofs.Common.{ℕ, Bool, true, false, ◌==◌, ◌+◌, ◌≡◌, ◌≤◌, List, [], ◌∷◌, ◌++◌, length}
 use Rattle.std.proofs.Common.{Some, refl, ap, ◌∙◌, subst, arith, inr}
 use Rattle.std.specs.List.{list_all}
@@ -40,7 +40,7 @@ marker_front marker delimiter start rest (bullet b is) =
     (plain, other)
 marker_front marker delimiter start rest (ordered digits d some few all is) = digit_front digits d rest some all
 
--- a line with a marker, and this behind it
+-- a line with a marker, and this after it
 module _ (lead : Lead) (is : IsLead lead) (changed tail : List ℕ) (parts : changed ≡ spaces lead.indent ++ (lead.marker ++ tail)) where
   abbrev pub before_marker : LineState
   before_marker = after_space 4 (start_of changed)

@@ -1,4 +1,4 @@
--- The place of a line behind spaces and plain bytes.
+-- The place of a line after spaces and plain bytes.
 use Rattle.std.proofs.Common.{ℕ, suc, zero, Bool, true, false, not, ◌+◌, ◌-◌, ◌%◌, ◌≡◌, ◌≤◌, ◌⊎◌, List, ◌∷◌, ◌++◌, length}
 use Rattle.std.proofs.Common.{take, drop, replicate, refl, sym, ap, ◌∙◌, subst, arith, inl, inr}
 use Rattle.std.specs.Prelude.{nat_lt}

@@ -18,7 +18,7 @@ use Rattle.markdown_blocks.proofs.laws.AlikeLemmas.{Alike}
 use Rattle.markdown_blocks.proofs.laws.SameContainers.{same_on}
 use Rattle.markdown_blocks.proofs.laws.Places.{spaces, IsAt, at_start, at_byte, found_there, at_space, alike_at, not_true}
 
--- the place behind the marker of a quoted line
+-- the place after the marker of a quoted line
 module _ (line quoted : List ℕ) (q : IsQuoted line quoted) where
   abbrev marked : List ℕ
   marked = greater_than_sign ∷ (spaces q.gap ++ line)

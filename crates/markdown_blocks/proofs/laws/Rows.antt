@@ -16,7 +16,7 @@ quoted_at_once = record { indent = 0; gap = 0; few = omega arith; marked = inr (
 quoted_behind_spaces : IsQuoted (codes "bar") (codes "   > bar")
 quoted_behind_spaces = record { indent = 3; gap = 1; few = omega arith; marked = inl refl; parts = refl; tabs = inl refl }
 
--- a tab, behind a marker of four columns
+-- a tab, after a marker of four columns
 quoted_tab : IsQuoted (codes "\tfoo") (codes "  > \tfoo")
 quoted_tab = record { indent = 2; gap = 1; few = omega arith; marked = inl refl; parts = refl; tabs = inr refl }
 

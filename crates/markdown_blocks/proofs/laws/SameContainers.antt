@@ -1,4 +1,4 @@
--- At two places with the same text behind them a line goes on with the same containers, and begins the same.
+-- At two places with the same text after them a line goes on with the same containers, and begins the same.
 use Rattle.std.proofs.Common.{ℕ, suc, Bool, true, false, ◌==◌, ◌+◌, ◌≡◌, List, [], ◌∷◌, length, Option, Some, None, refl, sym, ap, ◌∙◌, subst}
 use Rattle.std.specs.Prelude.{if◌then◌else◌, ⊤}
 use Rattle.markdown_scanners_tree.specs.Ascii.{colon, greater_than_sign}
@@ -28,7 +28,7 @@ quote_alike s t a =
     (after_space 1 (bytes_further 1 s)) (after_space 1 (bytes_further 1 t)) s t (same_quote s t a)
     (space_alike (bytes_further 1 s) (bytes_further 1 t) (bytes_alike s t a 1) 1) a
 
--- what is found with the place behind it
+-- what is found with the place after it
 abbrev pub FoundAlike : {A : Type 0} → Option (A × LineState) → Option (A × LineState) → Type 0
 FoundAlike None None = ⊤
 FoundAlike None (Some q) = ⊥

@@ -108,11 +108,11 @@ front_both (c ∷ d ∷ outer) inner all front = (all.0, front_both (d ∷ outer
 
 -- ---- what begins
 
--- behind a byte of a blank rest that ends no line, the rest is blank
+-- after a byte of a blank rest that ends no line, the rest is blank
 blank_tail : (b : ℕ) (bs : List ℕ) → is_line_ending b ≡ false → is_blank (b ∷ bs) ≡ true → is_blank bs ≡ true
 blank_tail b bs goes blank = (both_true (is_white_space_in_line b) (is_blank bs) (rw (goes, one-add) at blank)).1
 
--- and so it is behind space
+-- and so it is after space
 blank_below : (bs : List ℕ) (c k : ℕ) → is_blank bs ≡ true → is_blank (drop (bytes_below c bs k) bs) ≡ true
 blank_below [] c k blank = blank
 blank_below (b ∷ bs) c k blank =

@@ -136,7 +136,7 @@ abbrev BlankEnds : List Piece → List (List ℕ) → Type 0
 BlankEnds [] lines = ⊤
 BlankEnds (last ∷ before) lines = last.kind ≡ Blank → OnFirst (OutOr (containers_of last) (λ r. ¬ IsBlank r)) lines
 
--- one blank line behind a term is not followed by another
+-- one blank line after a term is not followed by another
 one_blank : (before : List Piece) (line : List ℕ) (more : List (List ℕ)) → BlankEnds before (line ∷ more) → In (open_after before) IsBlank line
     → TermStands before → EndWithTerm before
 one_blank [] line more ends blank stands = absurd stands
@@ -175,7 +175,7 @@ single_of outer piece h =
     let p = four_parts (is_blank_kind piece.kind) (length piece.later == 0) (length piece.kept == length outer) (length piece.begun == 0) h in
     (is_blank_of piece.kind p.0, none_of piece.later p.1, eqb-true (length piece.kept) (length outer) p.2, none_of piece.begun p.3)
 
--- blocks behind these ones
+-- blocks after these ones
 stands_behind : (done : List Piece) (before : Between) (piece : Piece) (rest : List (List ℕ)) → before.containers ≡ open_after done
     → (IsTrue before.term → TermStands done) → BlankEnds done (piece.first ∷ (piece.later ++ rest)) → IsPiece before piece rest
     → IsTrue (open_behind before piece).term → TermStands (piece ∷ done)
@@ -183,7 +183,7 @@ stands_behind done before piece rest same stands ends p = by piece.term before.t
   where
     by : (term stood : Bool) → piece.term ≡ term → before.term ≡ stood → IsTrue (term || (stood && is_blank_between before.containers piece))
         → TermStands (piece ∷ done)
-    by true stood is was t = let told = p.is_term.0 is in inl (told.1, told.2)
+    by true stood is was t = let given = p.is_term.0 is in inl (given.1, given.2)
     by false true is was t =
         let single = single_of before.containers piece t in
         let blank = blank_in before piece p.opened single.0 rest p.leaf single.2 single.3 in (
@@ -217,7 +217,7 @@ have_terms done before (piece ∷ later) rest same stands ends each =
         let blank : IsLeaf (outer_of before piece) Blank piece.words piece.later rest =
         subst (λ k. IsLeaf (outer_of before piece) k piece.words piece.later rest) kind leaf in blank.1.stopped
 
--- On each page a definition of a term begins behind the term, or behind another definition of it.
+-- On each page a definition of a term begins after the term, or after another definition of it.
 pub definitions_have_terms : (asked : BlockExtensions) (text : List ℕ) (pieces : List Piece) → IsPage asked text pieces → HaveTerms [] pieces
 definitions_have_terms asked text pieces page =
     have_terms [] (root asked) pieces [] refl (λ t. cc) tt page.each

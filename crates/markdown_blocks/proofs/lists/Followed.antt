@@ -30,7 +30,7 @@ item_list depth child (Some (Item item)) = Some (record {
 })
 item_list depth child container = None
 
--- the list with one more item, behind a blank line or not
+-- the list with one more item, after a blank line or not
 abbrev pub longer : Option ListBlock → Bool → Child → Option ListBlock
 longer None blank child = None
 longer (Some list) blank child = Some (record list { is_loose = (list.is_loose || blank) || child.is_parted; end = child.end })
@@ -128,13 +128,13 @@ module _ (depth : ℕ) where
       → lists_followed depth (list_of depth items) blank later ≡ lists_among depth items later
 
   module _ (child : Child) (later : List Child) (same : AreSame later) where
-    abbrev told_with : Option ListBlock → Bool → Bool → List ListBlock
-    told_with list blank goes =
+    abbrev given_with : Option ListBlock → Bool → Bool → List ListBlock
+    given_with list blank goes =
         option_to_list (if goes then None else list) ++ child.inside
         ++ lists_followed depth (if goes then longer list blank child else item_list depth child child.container) child.is_blank later
 
     same_anew : (items : List Child) (blank : Bool)
-        → told_with (list_of depth items) blank false
+        → given_with (list_of depth items) blank false
         ≡ option_to_list (list_of depth items) ++ child.inside ++ lists_among depth (child ∷ []) later
     same_anew items blank =
         ap (λ list. option_to_list (list_of depth items) ++ child.inside ++ lists_followed depth list child.is_blank later)
@@ -142,13 +142,13 @@ module _ (depth : ℕ) where
         ∙ ap (λ ls. option_to_list (list_of depth items) ++ child.inside ++ ls) (same (child ∷ []) child.is_blank refl)
 
     same_more : AreSame (child ∷ later)
-    same_more [] blank marks = ap (told_with None blank) (no_list child.container) ∙ same_anew [] blank
+    same_more [] blank marks = ap (given_with None blank) (no_list child.container) ∙ same_anew [] blank
     same_more (first ∷ more) blank marks =
-        ap (told_with (list_of depth (first ∷ more)) blank) (item_of_list first.container child.container first more)
+        ap (given_with (list_of depth (first ∷ more)) blank) (item_of_list first.container child.container first more)
         ∙ by_case (are_alike first.container child.container)
       where
         by_case : (goes : Bool)
-            → told_with (list_of depth (first ∷ more)) blank goes
+            → given_with (list_of depth (first ∷ more)) blank goes
             ≡ (if goes then [] else option_to_list (list_of depth (first ∷ more))) ++ child.inside
             ++ lists_among depth (if goes then (first ∷ more) ++ child ∷ [] else child ∷ []) later
         by_case false = same_anew (first ∷ more) blank

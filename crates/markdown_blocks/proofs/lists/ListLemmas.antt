@@ -59,25 +59,25 @@ abbrev tail : List Level → List Event → List Event
 tail [] later = []
 tail (level ∷ outer) later = ends ∷ later
 
--- the lists behind its end
+-- the lists after its end
 abbrev lists_after : List Level → ℕ → ℕ → Bool → Bool → Bool → List Event → List ListBlock
 lists_after [] line end blank item parted later = []
 lists_after (level ∷ outer) line end blank item parted later =
     lists_behind (at line (if item then end else line) (item && blank) false (record level { list = loosened level.list parted }) outer) later
 
--- the lists of the children that follow, and those behind them
-abbrev told : List Level → Option ListBlock → Bool → List Child → ℕ → ℕ → Bool → Bool → List Event → List ListBlock
-told outer list blank later_ones line end item parted later =
+-- the lists of the children that follow, and those after them
+abbrev given : List Level → Option ListBlock → Bool → List Child → ℕ → ℕ → Bool → Bool → List Event → List ListBlock
+given outer list blank later_ones line end item parted later =
     lists_followed (length outer) list blank later_ones
     ++ lists_after outer line (last_end end later_ones) (ends_blank blank later_ones) item
     (parted || parted_followed (length outer) list blank later_ones) later
 
-told_one : (outer : List Level) (list : Option ListBlock) (blank : Bool) (child : Child) (others : List Child) (line end : ℕ) (item parted : Bool)
+given_one : (outer : List Level) (list : Option ListBlock) (blank : Bool) (child : Child) (others : List Child) (line end : ℕ) (item parted : Bool)
     → (later : List Event)
-    → told outer list blank (child ∷ others) line end item parted later
-    ≡ option_to_list (list_before list child) ++ (child.inside ++ told outer (list_behind (length outer) list blank child) child.is_blank others line
+    → given outer list blank (child ∷ others) line end item parted later
+    ≡ option_to_list (list_before list child) ++ (child.inside ++ given outer (list_behind (length outer) list blank child) child.is_blank others line
     child.end item (parted || (blank && not (is_item_of list child.container))) later)
-told_one outer list blank child others line end item parted later =
+given_one outer list blank child others line end item parted later =
     let before = option_to_list (list_before list child) in
     let next = list_behind (length outer) list blank child in
     let among = lists_followed (length outer) next child.is_blank others in
@@ -88,7 +88,7 @@ told_one outer list blank child others line end item parted later =
     ∙ append_assoc before child.inside (among ++ together)
     ∙ ap (λ p. before ++ (child.inside ++ (among ++ behind p))) (sym (or_assoc parted (blank && not (is_item_of list child.container)) parted_later))
 
--- a blank line stands behind the last block, or these nodes begin with one
+-- a blank line stands after the last block, or these nodes begin with one
 abbrev marked : Bool → Bool → Bool → Bool
 marked true blank begins = blank
 marked false blank begins = blank || begins
@@ -143,11 +143,11 @@ blank_is Footnote content = refl
 blank_is (TermDefinition definition) content = refl
 blank_is (Item i) content = refl
 
--- the lists of nodes, and those behind the end of what they stand in
+-- the lists of nodes, and those after the end of what they stand in
 abbrev AreFound : Nodes → Type 0
 AreFound nodes = (line end : ℕ) (blank fresh item parted : Bool) (list : Option OpenList) (outer : List Level) (later : List Event)
     → lists_behind (at line end blank fresh (level_of item parted list) outer) (flatten nodes ++ tail outer later)
-    ≡ told outer (now list end outer) (marked fresh blank (begins_blank nodes)) (children fresh (length outer) line nodes) (lines_passed line nodes)
+    ≡ given outer (now list end outer) (marked fresh blank (begins_blank nodes)) (children fresh (length outer) line nodes) (lines_passed line nodes)
     end item parted later
 
 found_nothing : AreFound nothing
@@ -163,16 +163,16 @@ module _ (block : LeafBlock) (nodes : Nodes) (found : AreFound nodes) where
   found_block : (line end : ℕ) (blank marked_now item parted : Bool) (list : Option OpenList) (outer : List Level) (later : List Event) → marked_now ≡ blank
       → option_to_list (now list end outer)
       ++ lists_behind (at (line_behind block) (line_behind block) false false (level_of item (parted || blank) None) outer) (flatten nodes ++ tail outer later)
-      ≡ told outer (now list end outer) marked_now (leaf_child block line (begins_blank nodes) ∷ children false (length outer) (line_behind block) nodes)
+      ≡ given outer (now list end outer) marked_now (leaf_child block line (begins_blank nodes) ∷ children false (length outer) (line_behind block) nodes)
       (lines_passed (line_behind block) nodes) end item parted later
   found_block line end blank marked_now item parted list outer later same =
       let here = line_behind block in
       let others = children false (length outer) here nodes in
       let behind : Bool → List ListBlock = λ b. option_to_list (now list end outer)
-      ++ told outer None (begins_blank nodes) others (lines_passed here nodes) here item (parted || b) later in
+      ++ given outer None (begins_blank nodes) others (lines_passed here nodes) here item (parted || b) later in
       ap (λ ls. option_to_list (now list end outer) ++ ls) (found here here false false item (parted || blank) None outer later)
       ∙ ap behind (sym same ∙ sym (and_true marked_now))
-      ∙ sym (told_one outer (now list end outer) marked_now (leaf_child block line (begins_blank nodes)) others (lines_passed here nodes) end item parted later)
+      ∙ sym (given_one outer (now list end outer) marked_now (leaf_child block line (begins_blank nodes)) others (lines_passed here nodes) end item parted later)
 
   found_leaf : AreFound (leaf_then block nodes)
   found_leaf line end blank fresh item parted list outer later = by_kind (is_blank_kind block.kind) fresh
@@ -181,12 +181,12 @@ module _ (block : LeafBlock) (nodes : Nodes) (found : AreFound nodes) where
           → option_to_list (leaf_read (k && not fresh) block (at line end blank fresh (level_of item parted list) outer)).list
           ++ lists_behind (leaf_read (k && not fresh) block (at line end blank fresh (level_of item parted list) outer)).state
           (flatten nodes ++ tail outer later)
-          ≡ told outer (now list end outer) (marked fresh blank k)
+          ≡ given outer (now list end outer) (marked fresh blank k)
           (child_unless (k && not fresh) (leaf_child block line (begins_blank nodes)) (children false (length outer) (line_behind block) nodes))
           (lines_passed (line_behind block) nodes) end item parted later
       by_kind true false =
           found (line_behind block) end true false item parted list outer later
-          ∙ ap (λ b. told outer (now list end outer) b (children false (length outer) (line_behind block) nodes) (lines_passed (line_behind block) nodes) end
+          ∙ ap (λ b. given outer (now list end outer) b (children false (length outer) (line_behind block) nodes) (lines_passed (line_behind block) nodes) end
           item parted later) (sym (or_true blank))
       by_kind true true = found_block line end blank blank item parted list outer later refl
       by_kind false true = found_block line end blank blank item parted list outer later refl
@@ -211,7 +211,7 @@ module _ (c : Container) (place : ℕ) (inner nodes : Nodes) (found_in : AreFoun
       let closing : Bool → List ListBlock = λ p.
       lists_after (level ∷ outer) passed (last_end line content) (ends_blank false content) (ends_with_block c) p behind in
       let behind_child : Option ListBlock → Bool → ℕ → Bool → List ListBlock = λ o b e q.
-      told outer o (b || begins_blank nodes) others far e item (parted || q) later in
+      given outer o (b || begins_blank nodes) others far e item (parted || q) later in
       ap (λ es. before ++ lists_behind (at line line false true (level_within c) (level ∷ outer)) es)
       (append_assoc (flatten inner) (ends ∷ flatten nodes) (tail outer later))
       ∙ ap (λ ls. before ++ ls) (found_in line line false true (ends_with_block c) false None (level ∷ outer) behind)
@@ -229,7 +229,7 @@ module _ (c : Container) (place : ℕ) (inner nodes : Nodes) (found_in : AreFoun
       (blank && not (is_item_of (now list end outer) (Some c))))) (list_ended c list end outer)
       ∙ ap (λ m. option_to_list (list_before (now list end outer) child) ++ (among ++ behind_child (list_behind (length outer) (now list end outer) m child)
       (ends_blank_line c content) child.end (m && not (is_item_of (now list end outer) (Some c))))) (sym (marked_is fresh blank))
-      ∙ sym (told_one outer (now list end outer) marked_now child others far end item parted later)
+      ∙ sym (given_one outer (now list end outer) marked_now child others far end item parted later)
 
 lists_found : (nodes : Nodes) → AreFound nodes
 lists_found nothing = found_nothing

@@ -15,7 +15,7 @@ use Rattle.markdown_blocks.specs.events.Events.{Event, starts, leaf, ends, LeafB
 use Rattle.markdown_blocks.specs.lists.Tracked.{at_start, lists_behind}
 use Rattle.markdown_blocks.specs.lists.Lists.{Nodes, nothing, leaf_then, container_then, flatten, lists_of, AreListsOf}
 
--- what stands in the innermost of so many containers, in the one around it behind that, and so on
+-- what stands in the innermost of so many containers, in the one around it after that, and so on
 abbrev AreNested : ℕ → List Event → Type 0
 AreNested zero events = (nodes : Nodes) × (events ≡ flatten nodes)
 AreNested (suc depth) events =

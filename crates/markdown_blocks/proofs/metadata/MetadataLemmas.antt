@@ -88,7 +88,7 @@ module _ (page : List ℕ) (byte place next : ℕ) (here : place < length page) 
 both_pass : (a b : Bool) → a ≡ true → b ≡ true → (a && b) ≡ true
 both_pass a b is is' = cc
 
--- a block is closed by a line after the one behind its first
+-- a block is closed by a line after the one after its first
 pub block_closes : (page : List ℕ) (yaml pluses : Bool) (byte : ℕ) → IsMetadataBlock page yaml pluses byte
     → (place : ℕ) × (next_line page < place) × ClosesAt page byte place
 block_closes page yaml pluses byte is =

@@ -7,7 +7,7 @@ use Rattle.markdown_scanners_tree.specs.scanners.tables.DelimiterRow.{IsDelimite
 use Rattle.markdown_blocks.specs.containers.Containers.{Rest, behind, rest_at}
 use Rattle.markdown_blocks.specs.declared.containers.Container.{Container}
 use Rattle.markdown_blocks.specs.declared.taken.Taken.{Taken}
-use Rattle.markdown_blocks.specs.rows.Rows.{AreAlignments, AreTold, body_rows, later_rows, row_at}
+use Rattle.markdown_blocks.specs.rows.Rows.{AreAlignments, AreGiven, body_rows, later_rows, row_at}
 use Rattle.markdown_blocks.specs.taken.Lines.{IsNext, IsTaken}
 use Rattle.markdown_blocks.proofs.content.parts.NextLemmas.{more_bytes}
 
@@ -36,11 +36,11 @@ module _ (text : List ℕ) (taken read : Taken) (line : List ℕ) (nothing : (t 
   first_bytes = omega (arith, more_bytes text taken read line n, (nothing []).within)
 
   pub second_tells : (more : Taken) (delimiters : List ℕ) → IsNext text read delimiters more → (outer : List Container) (s : LineState) (rest : Rest)
-      → s ≡ (behind outer delimiters).state → rest ≡ rest_at s → (alignments : List Alignment) → AreTold rest alignments
+      → s ≡ (behind outer delimiters).state → rest ≡ rest_at s → (alignments : List Alignment) → AreGiven rest alignments
       → AreAlignments outer (lines_of text) alignments
-  second_tells more delimiters next outer s rest at is alignments told =
+  second_tells more delimiters next outer s rest at is alignments given =
       subst (λ ls. AreAlignments outer ls alignments) (sym (first_line ∙ ap (λ ls. line ∷ ls) next.parts))
-      (subst (λ r. AreTold r alignments) (is ∙ ap rest_at at) told)
+      (subst (λ r. AreGiven r alignments) (is ∙ ap rest_at at) given)
 
   pub second_missing : (outer : List Container) (alignments : List Alignment) → lines_of (drop read.bytes text) ≡ [] → alignments ≡ []
       → AreAlignments outer (lines_of text) alignments
@@ -54,6 +54,6 @@ first_missing text taken nothing none = (nothing text).parts ∙ none
 -- what a delimiter row tells
 pub row_tells : (indent : ℕ) (text : List ℕ) (n : ℕ) (alignments : List Alignment) → ¬ (indent ≡ 4)
     → (0 < n → IsDelimiterRow text n alignments) → (n ≡ 0 → NoDelimiterRow text) → (n ≡ 0 → alignments ≡ [])
-    → AreTold (record { indent = indent; text = text }) alignments
+    → AreGiven (record { indent = indent; text = text }) alignments
 row_tells indent text zero alignments near found none empty = inr (λ others columns. none refl columns.1 others columns.2, empty refl)
 row_tells indent text (suc n) alignments near found none empty = inl (near, suc n, found (omega arith))

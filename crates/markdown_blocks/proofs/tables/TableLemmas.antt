@@ -33,8 +33,8 @@ module _ (row : List ℕ) (i before : ℕ) (below : i < length row) (separated :
       by : (s : Bool) → s ≡ separates before (get_or row i 0) → n ≡ bool_byte s
           → separators before (drop i row) ≡ separators before (get_or row i 0 ∷ drop (i + 1) row)
           → (count + n) + separators (get_or row i 0) (drop (i + 1) row) ≡ all
-      by true told one next = let next_one = rw (← told) at next in omega (arith, one, next_one, so_far)
-      by false told one next = let next_none = rw (← told) at next in omega (arith, one, next_none, so_far)
+      by true given one next = let next_one = rw (← given) at next in omega (arith, one, next_one, so_far)
+      by false given one next = let next_none = rw (← given) at next in omega (arith, one, next_none, so_far)
 
   pub ends_next : (is_last last : Bool) → ends_from is_last before (drop i row) ≡ last
       → ends_from separated (get_or row i 0) (drop (i + 1) row) ≡ last
@@ -51,10 +51,10 @@ inside_asked outer line inside =
     ap (asked_first outer.extensions false) (drop_all (behind outer.containers line).kept outer.containers (omega (arith, inside)))
 
 -- a test of a line in which none begins
-pub row_told : (outer : Outer) (line : List ℕ) (s : LineState) (rest : Rest) (r : Bool) → s ≡ (behind outer.containers line).state → rest ≡ rest_at s
+pub row_given : (outer : Outer) (line : List ℕ) (s : LineState) (rest : Rest) (r : Bool) → s ≡ (behind outer.containers line).state → rest ≡ rest_at s
     → IsInside outer.containers line → begun_at (asked_in outer line) s ≡ None → (IsTrue r → Begins Paragraph rest) × (Begins Paragraph rest → IsTrue r)
     → (IsTrue r → IsRow outer line) × (IsRow outer line → IsTrue r)
-row_told outer line s rest r same is inside none tells =
+row_given outer line s rest r same is inside none tells =
     let at : rest ≡ rest_at (behind outer.containers line).state = is ∙ ap rest_at same in (
       λ t. (
         subst (λ z. begun_at (without_terms outer.extensions) z ≡ None) same (subst (λ x. begun_at x s ≡ None) (inside_asked outer line inside) none),

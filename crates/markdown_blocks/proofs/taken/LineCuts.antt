@@ -1,4 +1,4 @@
--- A text behind its first lines, and its lines where it is UTF-8: each ends with a byte of ASCII, or with the text.
+-- A text after its first lines, and its lines where it is UTF-8: each ends with a byte of ASCII, or with the text.
 use Rattle.std.proofs.Common.{ℕ, suc, ◌+◌, ◌-◌, ◌<◌, ◌≡◌, ◌⊎◌, List, [], ◌∷◌, ◌++◌, length, take, drop, get_or, true, inl, inr}
 use Rattle.std.proofs.Common.{refl, sym, ap, ◌∙◌, subst, arith, append-nil}
 use Rattle.std.specs.List.{AllByRecursion, concat}
@@ -12,7 +12,7 @@ use Rattle.markdown_scanners_tree.specs.Bytes.{line_length}
 use Rattle.markdown_scanners_tree.specs.scanners.TextLines.{ends_line, lines_of, with_first}
 use Rattle.markdown_scanners_tree.proofs.ForCallers.{cut_behind_ascii, first_line-taken, lines_joined}
 
--- ---- behind lines
+-- ---- after lines
 
 pub first_behind : (text line : List ℕ) (rest : List (List ℕ)) → lines_of text ≡ line ∷ rest → lines_of (drop (length line) text) ≡ rest
 first_behind [] line rest is = cc
@@ -25,7 +25,7 @@ first_behind (b ∷ bs) line rest is =
     ap (drop (length (take n (b ∷ bs)))) (sym (take-append-drop n (b ∷ bs))) ∙ drop-append_seam (take n (b ∷ bs)) (drop n (b ∷ bs)) in
     ap lines_of (ap (λ (t : List ℕ). drop (length t) (b ∷ bs)) same ∙ cut) ∙ later
 
--- the lines of a text behind its first ones
+-- the lines of a text after its first ones
 pub lines_behind : (lines : List (List ℕ)) (text : List ℕ) (rest : List (List ℕ)) → lines_of text ≡ lines ++ rest
     → lines_of (drop (length (concat lines)) text) ≡ rest
 lines_behind [] text rest is = is

@@ -13,7 +13,7 @@ use Rattle.markdown_blocks.specs.declared.containers.Container.{Container}
 use Rattle.markdown_blocks.specs.containers.Containers.{IsInside}
 use Rattle.markdown_blocks.specs.blocks.Leaves.{OnFirst, StopsBefore, StopsBehind}
 
--- a slice from a place on is what is behind it
+-- a slice from a place on is what is after it
 pub slice_behind : {A : Type 0} (text : List A) (b : ℕ) → take (length text - b) (drop b text) ≡ drop b text
 slice_behind text b = take_all (length text - b) (drop b text) (omega (arith, length-drop b text))
 
@@ -47,7 +47,7 @@ all-push P [] line all here = (here, tt)
 all-push P (l ∷ lines) line all here = (all.0, all-push P lines line all.1 here)
 
 module _ (P : List ℕ → Type 0) (text : List ℕ) where
-  -- the lines that are passed behind the first, none of which is an end
+  -- the lines that are passed after the first, none of which is an end
   abbrev pub Passed : Taken → Taken → Type 0
   Passed first taken = (lines : List (List ℕ)) → IsTaken text first lines
       → (more : List (List ℕ)) × IsTaken text taken (lines ++ more) × AllByRecursion (λ line. ¬ P line) more

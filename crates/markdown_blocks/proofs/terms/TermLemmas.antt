@@ -1,4 +1,4 @@
--- Whether a block may be a term is told by what is gathered of its content.
+-- Whether a block may be a term is given by what is gathered of its content.
 use Rattle.std.proofs.Common.{ℕ, true, false, List, [], ◌∷◌, ◌==◌, ◌≡◌, ◌≢◌, ◌≤◌, length, drop, inl, inr, refl, sym, ap, ◌∙◌, IsTrue, arith}
 use Rattle.std.proofs.lemmas.Bool.{cases_Bool, eqb-true}
 use Rattle.std.proofs.Common.{suc, Bool, ◌++◌, ◌⊎◌, subst}
@@ -19,7 +19,7 @@ use Rattle.markdown_blocks.specs.declared.blocks.BlockKind.TheVariants.{Paragrap
 use Rattle.markdown_blocks.specs.declared.containers.BlockExtensions.{BlockExtensions}
 use Rattle.markdown_blocks.specs.definitions.Definitions.{AreDefinitions, HasText}
 use Rattle.markdown_blocks.specs.walk.Walk.{IsGathered}
-use Rattle.markdown_blocks.proofs.definitions.DefinitionLemmas.{all_told}
+use Rattle.markdown_blocks.proofs.definitions.DefinitionLemmas.{all_given}
 
 no_bytes : (bytes : List ℕ) → length bytes ≡ 0 → bytes ≡ []
 no_bytes [] none = refl
@@ -35,13 +35,13 @@ module _ (asked : BlockExtensions) (kind : BlockKind) (content whole : List ℕ)
       by (inr none) = absurd (some none.0)
 
   -- all of it, or nothing where it begins with no definition
-  pub term_told : (taken : ℕ) → (length content == 0) ≡ false → (definitions : List ReferenceDefinition) × AreDefinitions content
+  pub term_given : (taken : ℕ) → (length content == 0) ≡ false → (definitions : List ReferenceDefinition) × AreDefinitions content
       definitions (drop taken content)
       → taken ≤ length content
       → (IsTrue (nat_lt taken (length content)) → IsTerm asked kind whole) × (IsTerm asked kind whole → IsTrue (nat_lt taken (length content)))
-  term_told taken some found within =
+  term_given taken some found within =
       let whole_is = all_gathered (λ none. let both : true ≡ false = ap (λ bytes. length bytes == 0) (sym none) ∙ some in cc) in
-      let tells = all_told content whole taken (length content) whole_is found within refl in
+      let tells = all_given content whole taken (length content) whole_is found within refl in
       (λ t. (on, is, tells.0 t), λ term. tells.1 term.2)
 
   pub whole_term : (length content == 0) ≡ true → whole ≢ [] → IsTerm asked kind whole

@@ -147,15 +147,15 @@ module _ (old : Between) (inner : List Container) (line lines : List ℕ) (count
 
   is_piece_of : (IsTrue term ↔ IsTerm old.extensions block.kind (content_in block.kind inner words.text b.later)) → (rest : List (List ℕ))
       → IsLeaf (with_open old inner) block.kind words b.later rest → IsPiece old piece_of rest
-  is_piece_of told rest leaf = record {
+  is_piece_of given rest leaf = record {
     opened = o.opened;
     leaf = subst (λ cs. IsLeaf (with_open old cs) block.kind words b.later rest) o.open_now leaf;
-    is_term = subst (λ cs. IsTrue term ↔ IsTerm old.extensions block.kind (content_in block.kind cs words.text b.later)) o.open_now told;
+    is_term = subst (λ cs. IsTrue term ↔ IsTerm old.extensions block.kind (content_in block.kind cs words.text b.later)) o.open_now given;
   }
 
-  blank_told : (is_blank_kind block.kind && (block.taken.lines == 1) && (count == length old.containers) && (length inner == count))
+  blank_given : (is_blank_kind block.kind && (block.taken.lines == 1) && (count == length old.containers) && (length inner == count))
       ≡ is_blank_between old.containers piece_of
-  blank_told =
+  blank_given =
       let test : Bool → Bool → Bool → Bool = λ single kept begun. is_blank_kind block.kind && single && kept && begun in
       let counts = b.taken.counted in
       let whole = ap length o.open_now ∙ length-append o.kept o.begun in
@@ -176,14 +176,14 @@ pub step_here : (old : Between) (inner : List Container) (line lines : List ℕ)
     → between ≡ (is_blank_kind step.block.kind && (step.block.taken.lines == 1) && (step.kept == length old.containers) && (length inner == step.kept))
     → after ≡ (term || (old.term && between))
     → IsStep old lines more step (record { extensions = old.extensions; containers = inner; term = after })
-step_here old inner line lines more step o first place own b leaf term after between told tests is =
+step_here old inner line lines more step o first place own b leaf term after between given tests is =
     let piece : Piece = piece_of old inner line lines step.kept (rest_of step) step.block o b term in
-    let told_is = tests ∙ blank_told old inner line lines step.kept (rest_of step) step.block o b term in
+    let given_is = tests ∙ blank_given old inner line lines step.kept (rest_of step) step.block o b term in
     record {
       piece = piece;
-      is_piece = is_piece_of old inner line lines step.kept (rest_of step) step.block o b term told _ leaf;
+      is_piece = is_piece_of old inner line lines step.kept (rest_of step) step.block o b term given _ leaf;
       taken = b.taken;
-      open_now = ap (λ t. record { extensions = old.extensions; containers = inner; term = t }) (is ∙ ap (λ t. term || (old.term && t)) told_is)
+      open_now = ap (λ t. record { extensions = old.extensions; containers = inner; term = t }) (is ∙ ap (λ t. term || (old.term && t)) given_is)
           ∙ ap (λ cs. record { extensions = old.extensions; containers = cs; term = term || (old.term && is_blank_between old.containers piece) }) o.open_now;
       counted = o.counted;
       kind = refl;

@@ -1,4 +1,4 @@
--- Where a text is cut behind whole lines, its lines are those of the parts.
+-- Where a text is cut after whole lines, its lines are those of the parts.
 use Rattle.std.proofs.Common.{ℕ, zero, suc, Bool, true, false, IsTrue, ◌==◌, List, [], ◌∷◌, ◌++◌, ◌≤◌, ◌≡◌, ◌≢◌, length, take, drop}
 use Rattle.std.proofs.Common.{refl, sym, ap, ◌∙◌, inl, inr, arith, append_assoc, append-nil}
 use Rattle.std.specs.Prelude.{MatchBool}

@@ -30,7 +30,7 @@ IsBlank rest = IsTrue (is_blank rest.text)
 abbrev pub HasIndent : Rest → Type 0
 HasIndent rest = rest.indent ≡ 4
 
--- The rest of a line is the first of a block of this kind, if this is its text behind its indent and it begins no container.
+-- The rest of a line is the first of a block of this kind, if this is its text after its indent and it begins no container.
 -- A paragraph is what is nothing else.
 abbrev pub BeginsAt : BlockKind → List ℕ → Type 0
 BeginsAt Blank text = ⊥
@@ -56,7 +56,7 @@ Begins kind rest = (¬ IsBlank rest) × (¬ HasIndent rest) × BeginsAt kind res
 abbrev pub IsUnderline : HeadingLevel → Rest → Type 0
 IsUnderline level rest = (¬ HasIndent rest) × (n : ℕ) × IsSetextUnderline rest.text n level
 
--- with these extensions on a text, behind fewer than four columns of space, interrupts a paragraph (4.8)
+-- with these extensions on a text, after fewer than four columns of space, interrupts a paragraph (4.8)
 abbrev pub Interrupts : BlockExtensions → List ℕ → Type 0
 Interrupts asked text = InterruptsParagraph text ⊎ IsTrue (asked.footnotes && is_some (footnote_label text))
 
@@ -69,8 +69,8 @@ EndsParagraph asked rest =
 abbrev pub DefinesTerm : BlockExtensions → Rest → Type 0
 DefinesTerm asked rest = (¬ HasIndent rest) × IsTrue (asked.definition_lists && begins_with (λ b. b == colon) rest.text)
 
--- It goes on with no paragraph that has this content before it: it is blank, an underline behind text, or the marker of a definition
--- behind it, or interrupts it. Behind link reference definitions alone an underline is text, and so is a marker. (4.3, 4.7)
+-- It goes on with no paragraph that has this content before it: it is blank, an underline after text, or the marker of a definition
+-- after it, or interrupts it. After link reference definitions alone an underline is text, and so is a marker. (4.3, 4.7)
 abbrev pub EndsContent : BlockExtensions → List ℕ → Rest → Type 0
 EndsContent asked content rest =
     IsBlank rest
@@ -85,21 +85,21 @@ ClosesFence count byte rest = (¬ HasIndent rest) × (rest.text ≢ []) × (n : 
 abbrev pub EndsHtml : HtmlBlockKind → Rest → Type 0
 EndsHtml kind rest = IsTrue (is_html_end kind rest.text)
 
--- The line is lazy, with this rest behind fewer containers than the paragraph before it stands in: the rest begins no container,
+-- The line is lazy, with this rest after fewer containers than the paragraph before it stands in: the rest begins no container,
 -- and it is text that does not interrupt a paragraph. (5.1, laziness; 5.2, rule 5; "Parsing strategy", phase 1)
 abbrev pub IsLazy : BlockExtensions → LineState → Type 0
 IsLazy asked s =
     (begun_at asked s ≡ None) × (¬ IsBlank (rest_at s)) × (HasIndent (rest_at s) ⊎ (¬ Interrupts asked (rest_at s).text))
 
--- the line stands in the open containers, and what it has behind them has the property
+-- the line stands in the open containers, and what it has after them has the property
 abbrev pub In : List Container → (Rest → Type 0) → List ℕ → Type 0
 In outer P line = IsInside outer line × P (rest_in outer line)
 
--- the line doesn't stand in them, or what it has behind them has the property
+-- the line doesn't stand in them, or what it has after them has the property
 abbrev pub OutOr : List Container → (Rest → Type 0) → List ℕ → Type 0
 OutOr outer P line = (¬ IsInside outer line) ⊎ In outer P line
 
--- the line neither stands in them nor is lazy, or what it has behind them has the property
+-- the line neither stands in them nor is lazy, or what it has after them has the property
 abbrev pub Leaves : Outer → (Rest → Type 0) → List ℕ → Type 0
 Leaves outer P line =
     ((¬ IsInside outer.containers line) × (¬ IsLazy (asked_in outer line) (behind outer.containers line).state))
@@ -118,7 +118,7 @@ LeavesBehind outer text before line =
 abbrev pub Underlines : List Container → List ℕ → List (List ℕ) → HeadingLevel → List ℕ → Type 0
 Underlines outer text before level line = In outer (IsUnderline level) line × HasText (content_of outer text before)
 
--- In them the line is the delimiter row of a table of so many columns, behind a line with this text: tables are not left out, that has
+-- In them the line is the delimiter row of a table of so many columns, after a line with this text: tables are not left out, that has
 -- as many cells, and it would go on with a paragraph of that. (GitHub Flavored Markdown 0.29, section 4.10)
 abbrev pub IsHead : Outer → List ℕ → ℕ → List ℕ → Type 0
 IsHead outer text columns line =
@@ -137,7 +137,7 @@ abbrev pub OnFirst : (List ℕ → Type 0) → List (List ℕ) → Type 0
 OnFirst P [] = ⊤
 OnFirst P (line ∷ lines) = P line
 
--- the first of the lines is the delimiter row of no table behind a line with this rest
+-- the first of the lines is the delimiter row of no table after a line with this rest
 abbrev pub BeginsNoTable : Outer → Rest → List (List ℕ) → Type 0
 BeginsNoTable outer first = OnFirst (λ line. (columns : ℕ) → ¬ IsHead outer first.text columns line)
 
@@ -146,12 +146,12 @@ pub record StopsBefore (P : List ℕ → Type 0) (lines rest : List (List ℕ)) 
   pub none : AllByRecursion (λ line. ¬ P line) lines
   pub stopped : OnFirst P rest
 
--- none of the lines has the property behind those before it
+-- none of the lines has the property after those before it
 abbrev pub NoneBehind : (List (List ℕ) → List ℕ → Type 0) → List (List ℕ) → List (List ℕ) → Type 0
 NoneBehind P before [] = ⊤
 NoneBehind P before (line ∷ lines) = (¬ P before line) × NoneBehind P (before ++ line ∷ []) lines
 
--- the lines are all up to the first that has the property behind those before it, or to the last line
+-- the lines are all up to the first that has the property after those before it, or to the last line
 pub record StopsAt (P : List (List ℕ) → List ℕ → Type 0) (lines rest : List (List ℕ)) : Type 0 where
   pub none : NoneBehind P [] lines
   pub stopped : OnFirst (P lines) rest
@@ -170,7 +170,7 @@ IsBlankIn outer line = In outer IsBlank line
 abbrev pub EndsIndented : List Container → List ℕ → Type 0
 EndsIndented outer line = OutOr outer (λ rest. (¬ IsBlank rest) × (¬ HasIndent rest)) line
 
--- behind blank lines, if there are any, comes a line that is no part of indented code, or nothing
+-- after blank lines, if there are any, comes a line that is no part of indented code, or nothing
 abbrev pub NoMoreIndented : List Container → List (List ℕ) → Type 0
 NoMoreIndented outer [] = ⊤
 NoMoreIndented outer (line ∷ lines) = (IsBlankIn outer line × NoMoreIndented outer lines) ⊎ EndsIndented outer line
@@ -181,13 +181,13 @@ LastHasText outer [] = ⊤
 LastHasText outer (line ∷ []) = ¬ IsBlankIn outer line
 LastHasText outer (line ∷ next ∷ lines) = LastHasText outer (next ∷ lines)
 
--- the lines of indented code behind its first
+-- the lines of indented code after its first
 pub record GoesOnIndented (outer : List Container) (later rest : List (List ℕ)) : Type 0 where
   pub inside : AllByRecursion (λ line. ¬ EndsIndented outer line) later
   pub last : LastHasText outer later
   pub stopped : NoMoreIndented outer rest
 
--- the lines of an HTML block of this kind behind its first: none where the first meets the end condition
+-- the lines of an HTML block of this kind after its first: none where the first meets the end condition
 abbrev pub EndsAsHtml : List Container → HtmlBlockKind → Rest → List (List ℕ) → List (List ℕ) → Type 0
 EndsAsHtml outer kind first later rest =
     MatchBool (ends_before_blank kind) (StopsBefore (OutOr outer (EndsHtml kind)) later rest)

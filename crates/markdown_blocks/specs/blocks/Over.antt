@@ -6,8 +6,8 @@ use Rattle.markdown_blocks.specs.declared.blocks.BlockKind.TheVariants.{Indented
 use Rattle.markdown_blocks.specs.declared.containers.Container.{Container}
 use Rattle.markdown_blocks.specs.blocks.Leaves.{IsBlankIn}
 
--- One of the lines shows that a block of this kind ends before them, whatever lines follow: behind indented code one that is not
--- blank, and behind other blocks any.
+-- One of the lines shows that a block of this kind ends before them, whatever lines follow: after indented code one that is not
+-- blank, and after other blocks any.
 abbrev pub ShowEnd : List Container → BlockKind → List (List ℕ) → Type 0
 ShowEnd outer Indented rest = ¬ AllByRecursion (IsBlankIn outer) rest
 ShowEnd outer kind rest = rest ≢ []

@@ -15,8 +15,8 @@ use Rattle.markdown_blocks.specs.definitions.Content.{content_in}
 use Rattle.markdown_blocks.specs.definitions.Definitions.{HasText}
 use Rattle.markdown_blocks.specs.taken.Lines.{IsTaken}
 
--- a block of a page: the open containers that its first line goes on with, those that it begins, what it has behind them, the
--- block's kind, its lines, and whether it may be a term that is defined behind it
+-- a block of a page: the open containers that its first line goes on with, those that it begins, what it has after them, the
+-- block's kind, its lines, and whether it may be a term that is defined after it
 pub record Piece : Type 0 where
   pub kept : List Container
   pub begun : List Container
@@ -59,7 +59,7 @@ abbrev pub is_blank_between : List Container → Piece → Bool
 is_blank_between outer piece =
     is_blank_kind piece.kind && (length piece.later == 0) && (length piece.kept == length outer) && (length piece.begun == 0)
 
--- what stands between a piece and the next line: the term that was there still does behind one blank line
+-- what stands between a piece and the next line: the term that was there still does after one blank line
 abbrev pub open_behind : Between → Piece → Between
 open_behind before piece = record {
   extensions = before.extensions;
@@ -74,7 +74,7 @@ pub record IsPiece (before : Between) (piece : Piece) (rest : List (List ℕ)) :
   pub is_term : IsTrue piece.term
       ↔ IsTerm before.extensions piece.kind (content_in piece.kind (containers_of piece) piece.words.text piece.later)
 
--- Each is a block where the containers of the one before it are open, and the blocks behind it and these lines are the rest.
+-- Each is a block where the containers of the one before it are open, and the blocks after it and these lines are the rest.
 abbrev pub AreBlocks : Between → List Piece → List (List ℕ) → Type 0
 AreBlocks before [] rest = ⊤
 AreBlocks before (piece ∷ later) rest =
@@ -89,7 +89,7 @@ pub record IsPage (asked : BlockExtensions) (text : List ℕ) (pieces : List Pie
   pub joined : lines_in pieces ≡ lines_of text
   pub each : AreBlocks (root asked) pieces []
 
--- the same of the lines at the front of the text, where these are behind them
+-- the same of the lines at the front of the text, where these are after them
 pub record IsFront (asked : BlockExtensions) (text : List ℕ) (pieces : List Piece) (rest : List (List ℕ)) : Type 0 where
   pub joined : lines_in pieces ++ rest ≡ lines_of text
   pub each : AreBlocks (root asked) pieces rest

@@ -30,7 +30,7 @@ abbrev pub cells_at : ℕ → List (List ℕ) → List Cell
 cells_at place [] = []
 cells_at place (piece ∷ later) = cell_at place piece ∷ cells_at (place + length piece + 1) later
 
--- The cells of a row: its pieces but the empty one before a pipe at its front, and the one behind a pipe that separates at its end.
+-- The cells of a row: its pieces but the empty one before a pipe at its front, and the one after a pipe that separates at its end.
 abbrev pub cells_of_row : List ℕ → List Cell
 cells_of_row row =
     take (cells_in row) (drop (if begins_with is_pipe row then 1 else 0) (cells_at 0 (pieces space row)))
@@ -50,7 +50,7 @@ abbrev pub first_len : List (List ℕ) → ℕ
 first_len [] = 0
 first_len (piece ∷ later) = length piece
 
--- those of the pieces behind so many bytes, unless none is left
+-- those of the pieces after so many bytes, unless none is left
 abbrev pub cells_left : Bool → ℕ → List ℕ → List Cell
 cells_left true place rest = []
 cells_left false place rest = cells_at place (pieces space rest)

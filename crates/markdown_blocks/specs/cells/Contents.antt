@@ -6,7 +6,7 @@ use Rattle.markdown_scanners_tree.specs.scanners.tables.DelimiterRow.{is_pipe}
 use Rattle.markdown_blocks.specs.content.Content.{Placed}
 use Rattle.markdown_blocks.specs.declared.cells.Cell.{Cell}
 
--- a backslash stands at the front, and a pipe directly behind it
+-- a backslash stands at the front, and a pipe directly after it
 abbrev pub escapes_pipe : List ℕ → Bool
 escapes_pipe [] = false
 escapes_pipe (b ∷ bs) = b == backslash && begins_with is_pipe bs

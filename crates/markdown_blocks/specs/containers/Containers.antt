@@ -12,7 +12,7 @@ use Rattle.markdown_blocks.specs.declared.containers.BlockExtensions.{BlockExten
 use Rattle.markdown_blocks.specs.declared.containers.Container.{Container}
 use Rattle.markdown_blocks.specs.declared.containers.Container.TheVariants.{Quote, Item, Footnote, TermDefinition}
 
--- what a line has behind its containers: at most four columns of space, and the text behind them
+-- what a line has after its containers: at most four columns of space, and the text after them
 pub record Rest : Type 0 where
   pub indent : ℕ
   pub text : List ℕ
@@ -27,19 +27,19 @@ behind_quote indent s =
     else if begins_with (λ b. b == greater_than_sign) (unscanned s) then Some (after_quote s)
     else None
 
--- what an item's marker begins, and what is left of the line behind it
+-- what an item's marker begins, and what is left of the line after it
 abbrev pub item_of : Outcome (ℕ × ℕ × ℕ) → Option (Container × LineState)
 item_of found =
     option_map (λ r. (Item (record { delimiter = r.0; start = r.1; width = r.2; begun = is_blank (unscanned found.state) }), found.state)) found.answer
 
--- with these extensions on the footnote definition whose marker stands here, and what is left of the line behind it
+-- with these extensions on the footnote definition whose marker stands here, and what is left of the line after it
 abbrev pub footnote_by : LineState → Option (List ℕ) → Option (Container × LineState)
 footnote_by s label = option_map (λ l. (Footnote, behind_footnote l s)) label
 
 abbrev pub footnote_of : BlockExtensions → LineState → Option (Container × LineState)
 footnote_of asked s = if asked.footnotes then footnote_by s (footnote_label (unscanned s)) else None
 
--- the definition of a term that a definition's marker begins, and what is left of the line behind it
+-- the definition of a term that a definition's marker begins, and what is left of the line after it
 abbrev pub term_definition_by : Outcome ℕ → Option (Container × LineState)
 term_definition_by found =
     option_map (λ width. (TermDefinition (record { begun = is_blank (unscanned found.state); width = width }), found.state)) found.answer
@@ -52,11 +52,11 @@ abbrev pub either_begun : (first second : Option (Container × LineState)) → O
 either_begun None second = second
 either_begun (Some begun) second = Some begun
 
--- the container of these extensions whose marker stands here, behind so much space, and what is left of the line behind it
+-- the container of these extensions whose marker stands here, after so much space, and what is left of the line after it
 abbrev pub extension_of : BlockExtensions → ℕ → LineState → Option (Container × LineState)
 extension_of asked indent s = either_begun (footnote_of asked s) (term_definition_of asked indent s)
 
--- with these extensions on the container whose marker stands here, behind so much space, and what is left of the line behind it
+-- with these extensions on the container whose marker stands here, after so much space, and what is left of the line after it
 -- (5.1, 5.2)
 abbrev pub begun_behind : BlockExtensions → ℕ → LineState → Option (Container × LineState)
 begun_behind asked indent s =
@@ -115,7 +115,7 @@ goes_on_blank Footnote = true
 goes_on_blank (Item item) = not item.begun
 goes_on_blank (TermDefinition definition) = not definition.begun
 
--- how many of the containers a line goes on with, the outermost first, and what is left of it behind them
+-- how many of the containers a line goes on with, the outermost first, and what is left of it after them
 pub record Behind : Type 0 where
   pub kept : ℕ
   pub state : LineState
@@ -153,7 +153,7 @@ pub record Line : Type 0 where
 abbrev pub IsInside : List Container → List ℕ → Type 0
 IsInside outer line = (behind outer line).kept ≡ length outer
 
--- what the line has behind those that it goes on with
+-- what the line has after those that it goes on with
 abbrev pub rest_in : List Container → List ℕ → Rest
 rest_in outer line = rest_at (behind outer line).state
 

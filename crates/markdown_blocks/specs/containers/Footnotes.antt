@@ -18,7 +18,7 @@ abbrev pub closes_label : List ℕ → Bool
 closes_label (a ∷ b ∷ rest) = a == right_bracket && b == colon
 closes_label bytes = false
 
--- the label of the definition whose marker stands at the front: behind `[^` a byte or more, and then `]:`
+-- the label of the definition whose marker stands at the front: after `[^` a byte or more, and then `]:`
 abbrev pub footnote_label : List ℕ → Option (List ℕ)
 footnote_label (a ∷ b ∷ rest) =
     let n = prefix_len is_label_byte rest in
@@ -29,6 +29,6 @@ footnote_label bytes = None
 abbrev pub after_columns : LineState → LineState
 after_columns s = after_space (leading_spaces (rest_of s)) s
 
--- the place behind the marker with this label, to which the spaces and tabs after the colon belong
+-- the place after the marker with this label, to which the spaces and tabs after the colon belong
 abbrev pub behind_footnote : List ℕ → LineState → LineState
 behind_footnote label s = after_columns (bytes_further (length label + 4) s)

@@ -7,7 +7,7 @@ use Rattle.markdown_blocks.specs.declared.blocks.BlockKind.TheVariants.{Setext, 
 use Rattle.markdown_blocks.specs.declared.containers.Container.{Container}
 use Rattle.markdown_blocks.specs.info.Info.{without_front}
 
--- what a line has behind the containers that it goes on with, without the spaces and tabs at its front
+-- what a line has after the containers that it goes on with, without the spaces and tabs at its front
 abbrev pub words_in : List Container → List ℕ → List ℕ
 words_in outer line = without_front (rest_in outer line).text
 

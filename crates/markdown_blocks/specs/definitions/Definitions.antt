@@ -10,7 +10,7 @@ most_nested = 32
 abbrev pub IsDefinition : List ℕ → ReferenceDefinition → Type 0
 IsDefinition text definition = IsReferenceDefinition most_nested text definition
 
--- The text begins with these definitions, one behind another, and the rest of it begins with none.
+-- The text begins with these definitions, one after another, and the rest of it begins with none.
 abbrev pub AreDefinitions : List ℕ → List ReferenceDefinition → List ℕ → Type 0
 AreDefinitions text [] rest = (rest ≡ text) × ((definition : ReferenceDefinition) → ¬ IsDefinition text definition)
 AreDefinitions text (definition ∷ more) rest = IsDefinition text definition × AreDefinitions (drop definition.len text) more rest

@@ -3,7 +3,7 @@ use Rattle.std.specs.Prelude.{ℕ, Bool, false, ◌==◌, ◌&&◌, List, [], �
 use Rattle.markdown_scanners_tree.specs.Ascii.{colon, right_bracket}
 use Rattle.markdown_scanners_tree.specs.scanners.html_kinds.HtmlKinds.{is_somewhere}
 
--- a bracket is closed at the front, and a colon stands directly behind it
+-- a bracket is closed at the front, and a colon stands directly after it
 abbrev pub is_label_end : List ℕ → Bool
 is_label_end [] = false
 is_label_end (b ∷ []) = false

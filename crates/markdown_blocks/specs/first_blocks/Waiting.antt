@@ -6,7 +6,7 @@ use Rattle.markdown_blocks.specs.events.Events.{Event, starts, leaf, ends}
 use Rattle.markdown_blocks.specs.first_blocks.FirstBlocks.{First}
 use Rattle.markdown_blocks.specs.blocks.Pages.{is_blank_kind}
 
--- the innermost container behind an event, where it has no block yet, and before the event this one had none
+-- the innermost container after an event, where it has no block yet, and before the event this one had none
 abbrev pub waiting_behind : Option Container → Event → Option Container
 waiting_behind waiting (starts container place) = Some container
 waiting_behind waiting (leaf block) = if is_blank_kind block.kind then waiting else None

@@ -11,7 +11,7 @@ without_front bytes = drop (prefix_len is_space_or_tab bytes) bytes
 abbrev pub without_end : List ℕ → List ℕ
 without_end bytes = take (length bytes - suffix_len is_space_or_tab bytes) bytes
 
--- what stands behind a run of this byte
+-- what stands after a run of this byte
 abbrev pub behind_fence : ℕ → List ℕ → List ℕ
 behind_fence byte bytes = drop (prefix_len (λ b. b == byte) bytes) bytes
 

@@ -11,7 +11,7 @@ use Rattle.markdown_blocks.specs.definitions.Content.{words_in}
 abbrev pub has_no_tab : List ℕ → Bool
 has_no_tab bytes = list_all (λ b. not (b == tab)) bytes
 
--- Behind so many columns the line's tabs are as wide as without them: it has no tab, or these are whole tab stops. (2.2)
+-- After so many columns the line's tabs are as wide as without them: it has no tab, or these are whole tab stops. (2.2)
 abbrev pub KeepsTabs : ℕ → List ℕ → Type 0
 KeepsTabs columns line = IsTrue (has_no_tab line) ⊎ (columns % 4 ≡ 0)
 

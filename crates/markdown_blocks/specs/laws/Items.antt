@@ -16,7 +16,7 @@ use Rattle.markdown_blocks.specs.blocks.Leaves.{HasIndent, IsLazy, OnFirst}
 use Rattle.markdown_blocks.specs.blocks.Pages.{Piece, lines_in}
 use Rattle.markdown_blocks.specs.laws.Held.{KeepsTabs, IsHeldIn, AreIn}
 
--- a list marker, with its bullet or delimiter and its start number, and how many spaces stand before and behind it
+-- a list marker, with its bullet or delimiter and its start number, and how many spaces stand before and after it
 pub record Lead : Type 0 where
   pub indent : ℕ
   pub marker : List ℕ
@@ -24,7 +24,7 @@ pub record Lead : Type 0 where
   pub start : ℕ
   pub gap : ℕ
 
--- at most three spaces before the marker, and one to four behind it
+-- at most three spaces before the marker, and one to four after it
 pub record IsLead (lead : Lead) : Type 0 where
   pub few : lead.indent ≤ 3
   pub is_marker : IsListMarker lead.marker lead.delimiter lead.start
@@ -38,12 +38,12 @@ width_of lead = lead.indent + length lead.marker + lead.gap
 abbrev pub item_by : Lead → Container
 item_by lead = Item (record { delimiter = lead.delimiter; begun = false; width = width_of lead; start = lead.start })
 
--- the marker with what stands behind it, before the line
+-- the marker with what stands after it, before the line
 abbrev pub marked_line : Lead → List ℕ → List ℕ
 marked_line lead line = lead.marker ++ (replicate lead.gap space ++ line)
 
 -- The first line of an item, which is not blank. It begins with no space and no tab (rule 1), or with the indent of indented code,
--- and one space stands behind the marker (rule 2). With the marker it is no thematic break.
+-- and one space stands after the marker (rule 2). With the marker it is no thematic break.
 pub record IsItemLine (lead : Lead) (line changed : List ℕ) : Type 0 where
   pub parts : changed ≡ replicate lead.indent space ++ marked_line lead line
   pub text : IsTrue (not (is_blank line))
@@ -51,7 +51,7 @@ pub record IsItemLine (lead : Lead) (line changed : List ℕ) : Type 0 where
   pub no_break : IsTrue (not (is_thematic_break (marked_line lead line)))
   pub tabs : KeepsTabs (width_of lead) line
 
--- A later line: behind so many spaces, or a blank line as it is.
+-- A later line: after so many spaces, or a blank line as it is.
 abbrev pub IsIndentedLine : ℕ → List ℕ → List ℕ → Type 0
 IsIndentedLine width line changed =
     (IsTrue (not (is_blank line)) × (changed ≡ replicate width space ++ line) × KeepsTabs width line)
@@ -69,17 +69,17 @@ pub record IsLessIndented (asked : BlockExtensions) (width : ℕ) (line bare : L
   pub some : IsTrue (not (is_blank rest))
   pub goes_on : IsLazy (without_terms asked) (start_of bare)
 
--- The blocks are one list item of these: their lines behind a marker and its spaces, which stand before the first line, and as many
+-- The blocks are one list item of these: their lines after a marker and its spaces, which stand before the first line, and as many
 -- spaces before the others. (rules 1, 2, 4 and 5)
 abbrev pub AreInItem : BlockExtensions → Lead → List Piece → List Piece → Type 0
 AreInItem asked lead =
     AreIn (item_by lead) (IsItemLine lead) (IsIndentedLine (width_of lead)) (IsLessIndented asked (width_of lead))
 
--- the item where its first line alone is read, which is blank behind the marker
+-- the item where its first line alone is read, which is blank after the marker
 abbrev pub begun_by : Lead → Container
 begun_by lead = Item (record { delimiter = lead.delimiter; begun = true; width = width_of lead; start = lead.start })
 
--- The first line of an item that begins with a blank line: behind the marker stands a line ending, or nothing.
+-- The first line of an item that begins with a blank line: after the marker stands a line ending, or nothing.
 pub record IsMarkerAlone (lead : Lead) (line changed : List ℕ) : Type 0 where
   pub parts : changed ≡ replicate lead.indent space ++ (lead.marker ++ line)
   pub empty : IsTrue (list_all is_line_ending line)

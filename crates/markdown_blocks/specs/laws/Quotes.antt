@@ -11,7 +11,7 @@ use Rattle.markdown_blocks.specs.blocks.Leaves.{IsLazy}
 use Rattle.markdown_blocks.specs.blocks.Pages.{Piece}
 use Rattle.markdown_blocks.specs.laws.Held.{KeepsTabs, AreIn}
 
--- The line with a block quote marker before it: behind at most three spaces `>`, and a space, which may be left out where the line
+-- The line with a block quote marker before it: after at most three spaces `>`, and a space, which may be left out where the line
 -- begins with no space and no tab.
 pub record IsQuoted (line quoted : List ℕ) : Type 0 where
   pub indent : ℕ

@@ -7,7 +7,7 @@ use Rattle.markdown_blocks.specs.blocks.Pages.{Piece, containers_of}
 use Rattle.markdown_blocks.specs.definitions.Content.{content_in}
 use Rattle.markdown_blocks.specs.definitions.Definitions.{HasText}
 
--- the containers that are open behind these blocks, of which the last comes first
+-- the containers that are open after these blocks, of which the last comes first
 abbrev pub open_after : List Piece → List Container
 open_after [] = []
 open_after (last ∷ before) = containers_of last
@@ -23,7 +23,7 @@ abbrev pub IsOneBlankLine : List Container → Piece → Type 0
 IsOneBlankLine outer piece =
     (piece.kind ≡ Blank) × (piece.later ≡ []) × (length piece.kept ≡ length outer) × (piece.begun ≡ [])
 
--- a term stands behind them, with at most one blank line after it
+-- a term stands after them, with at most one blank line after it
 abbrev pub TermStands : List Piece → Type 0
 TermStands [] = ⊥
 TermStands (last ∷ before) = EndWithTerm (last ∷ before) ⊎ (IsOneBlankLine (open_after before) last × EndWithTerm before)
@@ -40,14 +40,14 @@ AreNoDefinitions [] = ⊤
 AreNoDefinitions (TermDefinition definition ∷ inner) = ⊥
 AreNoDefinitions (container ∷ inner) = AreNoDefinitions inner
 
--- Of the containers that a block begins behind these ones only the first is the definition of a term, and that follows the term, or
+-- Of the containers that a block begins after these ones only the first is the definition of a term, and that follows the term, or
 -- another definition of it.
 abbrev pub BeginBehindTerm : List Piece → List Container → List Container → Type 0
 BeginBehindTerm before ended [] = ⊤
 BeginBehindTerm before ended (TermDefinition definition ∷ inner) = FollowsTerm before ended × AreNoDefinitions inner
 BeginBehindTerm before ended (container ∷ inner) = AreNoDefinitions inner
 
--- so does each block behind these ones
+-- so does each block after these ones
 abbrev pub HaveTerms : List Piece → List Piece → Type 0
 HaveTerms before [] = ⊤
 HaveTerms before (piece ∷ later) =

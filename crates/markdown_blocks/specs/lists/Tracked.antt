@@ -11,7 +11,7 @@ use Rattle.markdown_blocks.specs.blocks.Pages.{is_blank_kind}
 use Rattle.markdown_blocks.specs.lists.Lists.{line_behind}
 
 -- How far the events are followed: the lines before what comes next, and before what follows the last block; whether a blank line
--- stands behind that block; whether the innermost container has no block yet; what is known of it, and of those around it.
+-- stands after that block; whether the innermost container has no block yet; what is known of it, and of those around it.
 pub record Tracked : Type 0 where
   pub line : ℕ
   pub end : ℕ
@@ -63,7 +63,7 @@ list_begun Footnote line = None
 list_begun (TermDefinition definition) line = None
 list_begun (Item item) line = Some (record { delimiter = item.delimiter; is_loose = false; start = item.start; line = line })
 
--- a container in which this one begins, behind a blank line or not and so many lines
+-- a container in which this one begins, after a blank line or not and so many lines
 abbrev pub begun : Level → Container → Bool → ℕ → Level
 begun outer container blank line = record outer {
   is_parted = outer.is_parted || (blank && not (joins outer.list container));
@@ -80,7 +80,7 @@ ends_with_block (TermDefinition definition) = true
 abbrev pub level_within : Container → Level
 level_within container = record { ends_with_block = ends_with_block container; is_parted = false; list = None }
 
--- what an event shows to have ended, and the state behind it
+-- what an event shows to have ended, and the state after it
 pub record Read : Type 0 where
   pub list : Option ListBlock
   pub state : Tracked

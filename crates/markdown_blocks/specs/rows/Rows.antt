@@ -27,18 +27,18 @@ later_rows outer before [] = []
 later_rows outer before (line ∷ lines) =
     row_at before (behind outer line).state ∷ later_rows outer (before + length line) lines
 
--- those behind a delimiter row, which is the first of these lines
+-- those after a delimiter row, which is the first of these lines
 abbrev pub body_rows : List Container → ℕ → List (List ℕ) → List TextAt
 body_rows outer before [] = []
 body_rows outer before (delimiters ∷ lines) = later_rows outer (before + length delimiters) lines
 
--- The rows of these lines, which are a table in these containers: its head, and those behind its delimiter row. The first line
+-- The rows of these lines, which are a table in these containers: its head, and those after its delimiter row. The first line
 -- goes on with so many of the containers.
 abbrev pub rows_of : ℕ → List Container → List (List ℕ) → List TextAt
 rows_of kept outer [] = []
 rows_of kept outer (head ∷ lines) = row_at 0 (first_place kept outer head) ∷ body_rows outer (length head) lines
 
--- those of the lines behind a row that is read, if one is, and so many bytes
+-- those of the lines after a row that is read, if one is, and so many bytes
 abbrev pub first_row : Option Row → List TextAt
 first_row None = []
 first_row (Some row) = seen_row row ∷ []
@@ -48,12 +48,12 @@ abbrev pub AreColumns : Rest → List Alignment → Type 0
 AreColumns rest alignments = (¬ HasIndent rest) × (n : ℕ) × IsDelimiterRow rest.text n alignments
 
 -- the alignments that the rest of a line tells, or none
-abbrev pub AreTold : Rest → List Alignment → Type 0
-AreTold rest alignments =
+abbrev pub AreGiven : Rest → List Alignment → Type 0
+AreGiven rest alignments =
     AreColumns rest alignments ⊎ (((others : List Alignment) → ¬ AreColumns rest others) × (alignments ≡ []))
 
 -- how the columns of a table in these containers are aligned, by the delimiter row, which is the second of its lines
 abbrev pub AreAlignments : List Container → List (List ℕ) → List Alignment → Type 0
 AreAlignments outer [] alignments = alignments ≡ []
 AreAlignments outer (head ∷ []) alignments = alignments ≡ []
-AreAlignments outer (head ∷ delimiters ∷ rows) alignments = AreTold (rest_in outer delimiters) alignments
+AreAlignments outer (head ∷ delimiters ∷ rows) alignments = AreGiven (rest_in outer delimiters) alignments

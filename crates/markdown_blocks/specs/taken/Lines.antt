@@ -9,7 +9,7 @@ pub record IsTaken (text : List ℕ) (taken : Taken) (lines : List (List ℕ)) :
   pub parts : lines_of text ≡ lines ++ lines_of (drop taken.bytes text)
   pub counted : taken.lines ≡ length lines
 
--- the line behind those that are taken, and what is taken with it
+-- the line after those that are taken, and what is taken with it
 pub record IsNext (text : List ℕ) (taken : Taken) (line : List ℕ) (more : Taken) : Type 0 where
   pub within : more.bytes ≤ length text
   pub further : taken.bytes < more.bytes

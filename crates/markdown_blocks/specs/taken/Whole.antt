@@ -3,7 +3,7 @@ use Rattle.std.specs.Prelude.{ℕ, suc, Bool, false, ◌||◌, ◌&&◌, ◌==�
 use Rattle.markdown_scanners_tree.specs.Ascii.{line_feed, carriage_return}
 use Rattle.markdown_scanners_tree.specs.Bytes.{begins_with}
 
--- a line ends with the first byte, whatever follows the bytes: it is LF, or a CR behind which another byte stands than LF
+-- a line ends with the first byte, whatever follows the bytes: it is LF, or a CR after which another byte stands than LF
 abbrev pub surely_ends_line : List ℕ → Bool
 surely_ends_line [] = false
 surely_ends_line (b ∷ bs) =

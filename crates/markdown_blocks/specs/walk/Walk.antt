@@ -18,11 +18,11 @@ pub record IsOpening (old : Between) (line : List ℕ) (new : List Container) (c
   pub counted : count ≡ length kept
   pub opened : AreOpened old line kept begun words
 
--- what the first line of the step's block has behind its containers
+-- what the first line of the step's block has after its containers
 abbrev pub rest_of : Step → Rest
 rest_of step = record { indent = step.indent; text = step.text.now }
 
--- Where these containers are open, the step is the block at the front of the lines, if these further lines stand behind them;
+-- Where these containers are open, the step is the block at the front of the lines, if these further lines stand after them;
 -- then the new ones are open.
 pub record IsStep (old : Between) (lines : List ℕ) (more : List (List ℕ)) (step : Step) (new : Between) : Type 0 where
   pub piece : Piece

@@ -9,7 +9,7 @@ use std::alloc::{AllocError, Global};
 
 /// The content of a cell, for the inline pass: its bytes, but without a backslash that stands
 /// directly before a pipe, whatever inline the two are in. Places are those in the row. Of a cell
-/// that ends behind the row it is what the row has.
+/// that ends after the row it is what the row has.
 ///
 /// Memory is asked for where a backslash is left out.
 pub fn cell_content<'a>(alloc: Global, row: &'a [u8], cell: Cell) -> Result<Content<'a>, AllocError>
@@ -53,7 +53,7 @@ fn escape_at(bytes: &[u8]) -> usize
     len
 }
 
-// Whether a backslash stands at the front, and a pipe directly behind it.
+// Whether a backslash stands at the front, and a pipe directly after it.
 fn escapes_pipe(bytes: &[u8]) -> bool
     ensures { result ≡ escapes_pipe bytes.now }
 {
@@ -80,7 +80,7 @@ fn lent<'a>(alloc: Global, text: &'a [u8], place: usize) -> Content<'a>
 }
 
 // The content of a cell: what stands before the first backslash that escapes a pipe, and what
-// stands behind each.
+// stands after each.
 fn built<'a>(alloc: Global, text: &[u8], place: usize) -> Result<Content<'a>, AllocError>
     requires { place + length text.now < 2 ^ 64 }
     ensures { IfOk result (λ content. content

@@ -192,7 +192,7 @@ fn heading<'a>(alloc: Global, level: HeadingLevel) -> Tag<'a>
     }
 }
 
-// What is meant by the info string behind a fence of this byte. (4.5)
+// What is meant by the info string after a fence of this byte. (4.5)
 fn info_meaning<'a>(alloc: Global, fence: &'a [u8], byte: u8) -> Result<CowStr<'a>, AllocError>
     ensures { IfOk result (λ info. IsMeaning (info_of byte fence.now) (cow_text info)) }
 {

@@ -102,9 +102,9 @@ item 27, 33 tight\nitem 33, 33 tight last\n",
 
 #[test]
 fn spans_of_examples(rt: HostRuntime) {
-    for (page, wanted) in PAGES {
+    for (page, expected) in PAGES {
         let shown = shown(rt.alloc(), page).expect(&rt, "memory");
-        assert_eq!(rt; (*page, shown.as_str()), (*page, *wanted));
+        assert_eq!(rt; (*page, shown.as_str()), (*page, *expected));
     }
 }
 

@@ -22,11 +22,11 @@ const PAGES: &[(&str, &str, &str)] = &[
 
 #[test]
 fn labels_lead(rt: HostRuntime) {
-    for (page, label, wanted) in PAGES {
+    for (page, label, expected) in PAGES {
         let reader = EventReader::new(rt.alloc(), page).expect(&rt, "memory");
         let shown = shown(rt.alloc(), reader.reference_definitions(), label);
         let shown = shown.expect(&rt, "memory");
-        assert_eq!(rt; (*page, shown.as_str()), (*page, *wanted));
+        assert_eq!(rt; (*page, shown.as_str()), (*page, *expected));
     }
 }
 

@@ -106,7 +106,7 @@ const PAGES: &[(&str, &str)] = &[
         "  aaa\n bbb\n",
         "2..11 start paragraph\n2..5 text aaa\n5..6 soft break\n7..10 text bbb\n2..11 end paragraph\n",
     ),
-    // 5.1: examples 228 and 233, and text that goes on behind a marker
+    // 5.1: examples 228 and 233, and text that goes on after a marker
     (
         "> # Foo\n> bar\n> baz\n",
         "2..8 start heading 1\n4..7 text Foo\n2..8 end heading 1\n10..20 start paragraph\n10..13 text bar\n\
@@ -182,17 +182,17 @@ const TIGHT: &[(&str, &str)] = &[
 
 #[test]
 fn events_of_leaf_blocks(rt: HostRuntime) {
-    for (page, wanted) in PAGES {
+    for (page, expected) in PAGES {
         let shown = shown(rt.alloc(), page, false).expect(&rt, "memory");
-        assert_eq!(rt; (*page, shown.as_str()), (*page, *wanted));
+        assert_eq!(rt; (*page, shown.as_str()), (*page, *expected));
     }
-    for (page, wanted) in TABLES {
+    for (page, expected) in TABLES {
         let shown = shown(rt.alloc(), page, false).expect(&rt, "memory");
-        assert_eq!(rt; (*page, shown.as_str()), (*page, *wanted));
+        assert_eq!(rt; (*page, shown.as_str()), (*page, *expected));
     }
-    for (page, wanted) in TIGHT {
+    for (page, expected) in TIGHT {
         let shown = shown(rt.alloc(), page, true).expect(&rt, "memory");
-        assert_eq!(rt; (*page, shown.as_str()), (*page, *wanted));
+        assert_eq!(rt; (*page, shown.as_str()), (*page, *expected));
     }
 }
 

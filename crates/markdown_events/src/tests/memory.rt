@@ -106,9 +106,9 @@ fn a_table_is_read_where_memory_is_refused(rt: HostRuntime) {
 }
 
 // A page has these events, and no other.
-fn assert_given(rt: &impl Abort, alloc: Global, page: &str, wanted: &[Row]) {
+fn assert_given(rt: &impl Abort, alloc: Global, page: &str, expected: &[Row]) {
     let mut reader = reader_of(rt, alloc, page);
-    for row in wanted {
+    for row in expected {
         let (event, range) = next(rt, &mut reader).expect(rt, "an event");
         assert_eq!(rt;
             (range.start, range.end, kind_of(&event), words_of(&event)),

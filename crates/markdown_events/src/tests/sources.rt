@@ -74,13 +74,13 @@ const PAGES: &[(&str, &str, u64)] = &[
 
 #[test]
 fn paragraphs_of_pages(rt: HostRuntime) {
-    for (page, wanted, own) in PAGES {
+    for (page, expected, own) in PAGES {
         let mut shown = Shown {
             lines: String::new(rt.alloc()),
             own: 0,
         };
         push_page(rt.alloc(), &mut shown, page).expect(&rt, "memory");
-        assert_eq!(rt; (*page, shown.lines.as_str()), (*page, *wanted));
+        assert_eq!(rt; (*page, shown.lines.as_str()), (*page, *expected));
         assert_eq!(rt; (*page, shown.own), (*page, *own));
     }
 }

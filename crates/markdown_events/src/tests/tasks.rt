@@ -83,9 +83,9 @@ fn events_of_tasks(rt: HostRuntime) {
         tasks: true,
         ..PageSetting::commonmark()
     };
-    for (page, wanted) in PAGES {
+    for (page, expected) in PAGES {
         let shown = shown(rt.alloc(), page, asked).expect(&rt, "memory");
-        assert_eq!(rt; (*page, shown.as_str()), (*page, *wanted));
+        assert_eq!(rt; (*page, shown.as_str()), (*page, *expected));
     }
 }
 

@@ -40,7 +40,7 @@ one_length text place m n a b =
       ]
     ]
 
--- of two strings of one length behind a place, with none between it and them, one is the other
+-- of two strings of one length after a place, with none between it and them, one is the other
 pub one_next : (text : List ℕ) (n from a b : ℕ) → from ≤ a → from ≤ b → IsBacktickString text a n → IsBacktickString text b n
     → HasNone text n from a → HasNone text n from b → a ≡ b
 one_next text n from a b at_a at_b is_a is_b none_a none_b =
@@ -126,7 +126,7 @@ opens_counted text n is =
       | inr none ↦ absurd (none_behind text 0 run refl (ap (λ k. get_or text k 0) (omega (arith, none)) ∙ is.backticks 0 is.some))
     ]
 
--- a string behind the one at the front doesn't touch it
+-- a string after the one at the front doesn't touch it
 pub strings_apart : (text : List ℕ) (n place m : ℕ) → IsBacktickString text 0 n → IsBacktickString text place m → n ≤ place → n < place
 strings_apart text n place m first later behind =
     elim (cases_lt n place) [

@@ -85,7 +85,7 @@ read_out setting from reading within only = by (nat_lt from (length reading.text
     )
     by false none = (omega (arith, ltb-false from (length reading.text) none, within), refl)
 
--- pieces behind others, and more behind these
+-- pieces after others, and more after these
 pub added : (pieces between later : List Piece) (piece : Piece) (all : List Piece)
     → all ≡ (pieces ++ between) ++ piece ∷ [] → all ++ later ≡ pieces ++ (between ++ piece ∷ later)
 added pieces between later piece all is =

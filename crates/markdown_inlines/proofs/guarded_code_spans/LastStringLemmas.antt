@@ -15,7 +15,7 @@ use Rattle.markdown_inlines.proofs.code_spans.CodeSpanLemmas.{backticks_at, none
 pub if_none : {A P : Type 0} {answer : Option A} → answer ≡ None → P → IfNone answer P
 if_none {A} {P} none holds = subst (λ r. IfNone r P) (sym none) holds
 
--- The last strings of those that begin behind one place and before another, which cuts none.
+-- The last strings of those that begin after one place and before another, which cuts none.
 pub record AreLastBetween (text : List ℕ) (from : ℕ) (lasts : List ℕ) (place : ℕ) : Type 0 where
   pub within : place ≤ length text
   pub apart : 0 < place → get_or text place 0 ≢ backtick
@@ -163,7 +163,7 @@ pub IfNone-map : {A P Q : Type 0} (answer : Option A) → (P → Q) → IfNone a
 IfNone-map None holds is = holds is
 IfNone-map (Some a) holds is = tt
 
--- ---- the strings behind the one at a place
+-- ---- the strings after the one at a place
 -- the backticks at the place have no string in them but the one that begins there
 pub first_behind : (text lasts : List ℕ) (place run : ℕ) → place ≤ length text → run ≡ prefix_len is_backtick (drop place text)
     → ((k : ℕ) → get_or lasts k 0 ≡ 0) → AreLastBetween text place lasts (place + run)

@@ -30,9 +30,9 @@ before_length text = cond (begins_with is_backslash text) 1 (prefix_len is_space
 abbrev pub before_is_hard : List ℕ → Bool
 before_is_hard text = begins_with is_backslash text || nat_le 2 (before_length text)
 
-pub hard_told : (text : List ℕ) (n : ℕ) (is_hard : Bool) → is_hard ≡ (begins_with is_backslash text || nat_le 2 n)
+pub hard_given : (text : List ℕ) (n : ℕ) (is_hard : Bool) → is_hard ≡ (begins_with is_backslash text || nat_le 2 n)
     → n ≡ before_length text → is_hard ≡ before_is_hard text
-hard_told text n is_hard told is = told ∙ ap (λ k. begins_with is_backslash text || nat_le 2 k) is
+hard_given text n is_hard given is = given ∙ ap (λ k. begins_with is_backslash text || nat_le 2 k) is
 
 -- a place in the rest of a text
 pub rest_within : (bytes : List ℕ) (i k : ℕ) → i ≤ length bytes → k ≤ length (take (length bytes - i) (drop i bytes))
@@ -90,7 +90,7 @@ before_there (b ∷ bs) n is = elim (cases_Bool (b == 92)) [
       )
 ]
 
--- A break by what scans answer: n bytes, a line ending, and the spaces behind it.
+-- A break by what scans answer: n bytes, a line ending, and the spaces after it.
 module _ (text : List ℕ) (n ending spaces : ℕ) (before : n ≡ before_length text) (within : n ≤ length text)
     (ends : Some ending ≡ line_ending (take (length text - n) (drop n text)))
     (run : spaces ≡ prefix_len is_space (take (length text - (n + ending)) (drop (n + ending) text))) where
@@ -128,7 +128,7 @@ module _ (text : List ℕ) (n ending spaces : ℕ) (before : n ≡ before_length
       ap (λ k. prefix_len is_space (drop k is.after)) ending_is ∙ ap (λ t. prefix_len is_space (drop ending t)) here ∙ run_there in
       (omega (arith, is.counted, only.0, before, ending_is, spaces_are), only.2)
 
--- A text may be cut behind spaces,
+-- A text may be cut after spaces,
 space_ascii : (b : ℕ) → is_space b ≡ true → nat_lt b 128 ≡ true
 space_ascii b is = grind (arith, nat_tests)
 
@@ -140,7 +140,7 @@ spaces_cut text n counted within utf8 =
           (ap (λ k. list_all is_space (take k text)) counted ∙ list_all-prefix is_space text),
     )
 
--- behind what may stand before a line ending,
+-- after what may stand before a line ending,
 cut_before : (text : List ℕ) (n : ℕ) → n ≡ before_length text → n ≤ length text → IsUtf8 text → IsCharBoundary text n
 cut_before [] n is within utf8 = spaces_cut [] n is within utf8
 cut_before (b ∷ bs) n is within utf8 = elim (cases_Bool (b == 92)) [
@@ -152,7 +152,7 @@ cut_before (b ∷ bs) n is within utf8 = elim (cases_Bool (b == 92)) [
   | inr plain ↦ spaces_cut (b ∷ bs) n (is ∙ rw plain refl) within utf8
 ]
 
--- behind that ending,
+-- after that ending,
 cut_ending : (rest : List ℕ) (ending : ℕ) → line_ending rest ≡ Some ending → IsUtf8 rest → IsCharBoundary rest ending
 cut_ending rest ending ends utf8 =
     let none : 0 ≡ prefix_len is_space_or_tab rest =
@@ -164,7 +164,7 @@ cut_ending rest ending ends utf8 =
     no_spaces [] none = refl
     no_spaces (b ∷ bs) none = rw none refl
 
--- and behind the break.
+-- and after the break.
 pub cut_behind_break : (text : List ℕ) (n ending spaces : ℕ) → n ≡ before_length text → n ≤ length text
     → Some ending ≡ line_ending (take (length text - n) (drop n text)) → n + ending ≤ length text
     → spaces ≡ prefix_len is_space (take (length text - (n + ending)) (drop (n + ending) text))

@@ -26,7 +26,7 @@ pub opened : (text : List ℕ) → begins_with (λ b. b == 40) text ≡ true →
 opened [] begins = cc
 opened (b ∷ text) begins = ap (λ x. x ∷ text) (eqb-true b 40 begins)
 
--- a text may be cut behind it
+-- a text may be cut after it
 pub cut_opened : (text : List ℕ) → begins_with (λ b. b == 40) text ≡ true → IsUtf8 text → IsCharBoundary text 1
 cut_opened text begins utf8 =
     let opens = opened text begins in
@@ -49,7 +49,7 @@ closed : (text : List ℕ) → begins_with (λ b. b == 41) text ≡ true → tex
 closed [] begins = cc
 closed (b ∷ text) begins = ap (λ x. x ∷ text) (eqb-true b 41 begins)
 
--- What closes a tail stands behind the gap at the front.
+-- What closes a tail stands after the gap at the front.
 module _ (text : List ℕ) (gap : ℕ) (gap_is : gap ≡ gap_length text) where
   pub closing_found : begins_with (λ b. b == 41) (take (length text - gap) (drop gap text)) ≡ true → IsClosing text (gap + 1)
   closing_found begins =
@@ -107,7 +107,7 @@ no_destination most rest taken raw (inl is) some = absurd (omega (arith, ap (λ 
 no_destination most rest taken raw (inr is) some =
     unmatched most rest is.bare.inner is.bare.more is.bare.splits (omega (arith, some, is.bare.n_is_length)) is.bare.balanced
 
--- A destination behind a gap, where the tail is opened.
+-- A destination after a gap, where the tail is opened.
 module _ (most : ℕ) (bytes : List ℕ) (gap : ℕ) (opens : bytes ≡ 40 ∷ drop 1 bytes)
     (gap_is : gap ≡ gap_length (take (length bytes - 1) (drop 1 bytes))) where
   -- what a scan of a destination is given
@@ -171,7 +171,7 @@ module _ (most : ℕ) (bytes : List ℕ) (gap : ℕ) (opens : bytes ≡ 40 ∷ d
         ends = subst (λ p. IsTailEnd bytes p title len) (omega (arith, counted)) ends;
       }
 
--- A title behind the destination that ends at a place.
+-- A title after the destination that ends at a place.
 module _ (bytes : List ℕ) (place gap : ℕ) (gap_is : gap ≡ gap_length (take (length bytes - place) (drop place bytes))) where
   -- what a scan of a title is given
   abbrev from_title : List ℕ

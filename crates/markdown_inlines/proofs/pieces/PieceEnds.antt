@@ -38,7 +38,7 @@ use Rattle.markdown_inlines.proofs.pieces.NoSkipTags.{tag_ends}
 use Rattle.markdown_inlines.proofs.pieces.Openings.{begins_class, byte_class, no_kind}
 use Rattle.markdown_inlines.proofs.wiki_links.WikiLinkLemmas.{head_ends}
 
--- some bytes from a place on are in the text, and behind them it may be cut
+-- some bytes from a place on are in the text, and after them it may be cut
 pub record IsPart (text : List ℕ) (place len : ℕ) : Type 0 where
   pub some : 0 < len
   pub within : place + len ≤ length text

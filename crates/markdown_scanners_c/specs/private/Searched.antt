@@ -18,5 +18,5 @@ abbrev pub searched : List Skip → ℕ → ℕ
 searched skips place = halved (length skips) skips place
 
 -- how many bytes of a rest of the text are left out, all of them where the table names more
-abbrev pub told_skip : List Skip → List ℕ → List ℕ → ℕ
-told_skip skips bytes rest = min (searched skips (length bytes - length rest)) (length rest)
+abbrev pub returned_skip : List Skip → List ℕ → List ℕ → ℕ
+returned_skip skips bytes rest = min (searched skips (length bytes - length rest)) (length rest)

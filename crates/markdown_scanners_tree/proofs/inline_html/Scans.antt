@@ -75,7 +75,7 @@ looked_before Cdata = 7
 looked_before Declaration = 1
 looked_before Processing = 0
 
--- what is passed over in a search, with what was looked at before it, is what is told of the kind
+-- what is passed over in a search, with what was looked at before it, is what is given of the kind
 module _ (text : List ℕ) (p : ℕ) where
   span-is : (kind : Kind) (found : Option ℕ) → found ≡ first_closer text kind p → p + lead kind ≤ length text
       → span text p (closed_at text kind p)
@@ -103,7 +103,7 @@ module _ (t u : CountedBytes) (before : ℕ) (counted : u ≡ passing t before) 
       e ∙ ap (λ w. passing w (searched_bytes w.text bytes i r)) counted
       ∙ passing-twice t (passing t before) before (searched_bytes t.text bytes i r) _ refl refl
 
--- A scan that its guard does not stop: it looks at some bytes and searches behind them.
+-- A scan that its guard does not stop: it looks at some bytes and searches after them.
 module _ (t u v : CountedBytes) (guard : HtmlScanGuard) (p before : ℕ) (kind : Kind) (found : Option ℕ)
     (free : is_stopped guard p kind ≡ false) (counted : u ≡ passing t before)
     (answer : found ≡ first_place u.text (closer kind) (p + lead kind))

@@ -207,7 +207,7 @@ pub true-processing : (text : List ℕ) (guard : HtmlScanGuard) (p : ℕ) (answe
 true-processing text guard p answer after a g opener is =
     true-scan text guard _ p answer after a g (opening_at-processing text p opener) (processing-lead text p) is
 
--- the same where the scan was told over the text with one byte counted
+-- the same where the scan was given over the text with one byte counted
 pub true-declared-after : (t u : CountedBytes) (guard : HtmlScanGuard) (p count : ℕ) (answer : Option ℕ) (after : HtmlScanGuard)
     → u ≡ passing t count
     → answer ≡ guarded_answer u.text guard (declared_at u.text p) p → after ≡ guard_after u.text guard (declared_at u.text p) p

@@ -28,11 +28,11 @@ use Rattle.markdown_scanners_tree.proofs.line.SpaceLemmas.{state_of, further-col
 use Rattle.markdown_scanners_tree.proofs.line.WrittenLemmas.{written-first, head-cons}
 use Rattle.markdown_scanners_tree.proofs.scanners.lines.BlankLemmas.{is_blank-found, is_blank-only}
 
--- the columns behind a marker that belong to it, where no tab stands among the spaces
+-- the columns after a marker that belong to it, where no tab stands among the spaces
 abbrev marker_columns : List ℕ → ℕ
 marker_columns rest = 1 + (if is_blank rest then 0 else marker_spaces (leading_spaces rest - 1))
 
--- the bytes behind a space
+-- the bytes after a space
 tab-later : (b : ℕ) (bs : List ℕ) → (b == 32) ≡ true → is_tab_behind_spaces (b ∷ bs) ≡ false
     → is_tab_behind_spaces bs ≡ false
 tab-later b bs is_space plain = rw (is_space, one-add) at plain
@@ -202,7 +202,7 @@ found-no_break line r answer =
     (λ yes. absurd (let none = answer-none line (break-no_marker line yes) in cc))
     (λ no. no)
 
--- both calls answer the same indent where no tab stands in the space behind the marker
+-- both calls answer the same indent where no tab stands in the space after the marker
 pub same_indent : (line : List ℕ) (n delimiter start indent content : ℕ)
     → is_before_tab line (list_marker line) ≡ false → IsListItem line n delimiter start indent
     → item_at_start line ≡ Some (delimiter, start, content) → content ≡ indent

@@ -85,7 +85,7 @@ marker-only : (line : List ℕ) (m : Marker) → list_marker line ≡ Some m
     → IsListMarker (take m.width line) m.delimiter m.start
 marker-only line m found = marker-by line m (bullet_marker line) refl found
 
--- an item behind a marker that was found
+-- an item after a marker that was found
 item_behind : (line : List ℕ) (m : Marker) → list_marker line ≡ Some m → is_item_rest (drop m.width line) ≡ true
     → HasItem line m.delimiter m.start
 item_behind line m found is =
@@ -111,7 +111,7 @@ follows : (line : List ℕ) (m : Marker)
 follows line m = marker_rest-written ((0 + m.width) % 4) (drop (0 + m.width) line)
     ∙ ap (λ k. is_marker_rest (drop k line)) (zero-add m.width)
 
--- the state behind the marker and its one column of space
+-- the state after the marker and its one column of space
 abbrev pub behind_marker : List ℕ → ℕ → LineState
 behind_marker line width = after_space 1 (bytes_further width (start_of line))
 
@@ -339,7 +339,7 @@ first_false : (a b c : Bool) → a ≡ false → (a && b && c) ≡ false
 first_false true b c h = cc
 first_false false b c h = refl
 
--- where there is no thematic break, and no vertical white space behind a marker, there is no such item
+-- where there is no thematic break, and no vertical white space after a marker, there is no such item
 pub no_item_alone : (line : List ℕ) → is_thematic_break line ≡ false
     → is_before_vertical line (list_marker line) ≡ false → is_item_alone line ≡ false
 unfolding is_item_alone

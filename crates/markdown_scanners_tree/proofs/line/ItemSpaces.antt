@@ -1,4 +1,4 @@
--- What may stand behind a list marker, to the two calls that look for a list item.
+-- What may stand after a list marker, to the two calls that look for a list item.
 use Rattle.std.specs.Prelude.{ℕ, not, Bool, true, false, ◌≡◌, refl, ◌==◌, ◌||◌, nat_lt, List, [], ◌∷◌, ◌++◌, ◌+◌, ◌-◌, ◌<◌, ◌≤◌, length, if◌then◌else◌}
 use Rattle.std.proofs.Common.{sym, ◌∙◌, ap, inl, inr, arith}
 use Rattle.std.specs.List.{list_all}
@@ -21,7 +21,7 @@ use Rattle.markdown_scanners_tree.proofs.scanners.lines.BlankLemmas.{is_blank-fo
 abbrev pub is_item_rest : List ℕ → Bool
 is_item_rest rest = is_blank rest || begins_with is_space_or_tab rest
 
--- behind the marker of a line start a space or a tab stands, or the line ends
+-- after the marker of a line start a space or a tab stands, or the line ends
 abbrev pub is_marker_rest : List ℕ → Bool
 is_marker_rest rest = begins_with is_space_or_tab rest || is_at_line_end rest
 
@@ -71,7 +71,7 @@ some_column [] (b ∷ rest) begins stop =
 some_column (b ∷ prefix) rest begins stop =
     omega (arith, after-more 0 b, past-grows prefix (column_after 0 b))
 
--- space behind a marker belongs to the item
+-- space after a marker belongs to the item
 pub blank_space : (rest : List ℕ) → is_blank rest ≡ true → IsItemSpace rest 0 1
 blank_space rest is = blank (line_length rest) (is_blank-only rest is)
 
@@ -136,7 +136,7 @@ item_space-only rest place space (indented_code p s full indent deep) =
 item_space-only rest place space (text p s full indent some few) =
     rw (indent-begins rest p s indent some) (or_true (is_blank rest))
 
--- what a line start looks at behind the marker: a column of space, or the end of the line
+-- what a line start looks at after the marker: a column of space, or the end of the line
 lead-written : (b : ℕ) (more : List ℕ) → nat_lt 0 (leading_spaces ((if b == 9 then 32 else b) ∷ more)) ≡ is_space_or_tab b
 lead-written b more =
     let some : nat_lt 0 (1 + leading_spaces more) ≡ true = lt-ltb 0 (1 + leading_spaces more) (omega arith) in

@@ -113,7 +113,7 @@ item_alone_break : (is_item_alone (codes "- - -") ≡ true) × (is_item_alone (c
 unfolding is_item_alone
 item_alone_break = (refl, refl)
 
--- with a space before the vertical tab, or a letter behind it
+-- with a space before the vertical tab, or a letter after it
 no_item_alone : (is_item_alone (45 ∷ 32 ∷ 11 ∷ 10 ∷ []) ≡ false) × (is_item_alone (45 ∷ 11 ∷ 120 ∷ []) ≡ false)
 unfolding is_item_alone
 no_item_alone = (refl, refl)

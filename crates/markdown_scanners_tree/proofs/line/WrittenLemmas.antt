@@ -68,14 +68,14 @@ head-spaces : (n : ℕ) (bs : List ℕ) → line_head (spaces n ++ bs) ≡ space
 head-spaces zero bs = refl
 head-spaces (suc n) bs = head-cons 32 (spaces n ++ bs) refl ∙ ap (λ h. 32 ∷ h) (head-spaces n bs)
 
--- what is told of a head byte by byte, where a space tells nothing
+-- what is given of a head byte by byte, where a space tells nothing
 module _ {A : Type 0} (of : List ℕ → A) (step : ℕ → A → A) (cons : (b : ℕ) (h : List ℕ) → of (b ∷ h) ≡ step b (of h))
     (space : (a : A) → step 32 a ≡ a) where
   past-spaces : (n : ℕ) (h : List ℕ) → of (spaces n ++ h) ≡ of h
   past-spaces zero h = refl
   past-spaces (suc n) h = cons 32 (spaces n ++ h) ∙ space (of (spaces n ++ h)) ∙ past-spaces n h
 
-  -- where a tab tells nothing too, the same is told of both heads
+  -- where a tab tells nothing too, the same is given of both heads
   head-written : ((a : A) → step 9 a ≡ a) → (bs : List ℕ) (c : ℕ)
       → of (line_head (written_out c bs)) ≡ of (line_head bs)
   head-written tab [] c = refl

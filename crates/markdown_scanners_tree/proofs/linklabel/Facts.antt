@@ -76,7 +76,7 @@ tells_none = record {
   plain_is = refl;
 }
 
--- white space behind a word adds a space to the text
+-- white space after a word adds a space to the text
 gap_adds : (word run : Bool) → space_len word true ≡ space_len word run + gap_len word run
 gap_adds true true = refl
 gap_adds true false = refl

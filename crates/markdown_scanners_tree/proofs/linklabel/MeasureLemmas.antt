@@ -20,8 +20,8 @@ use Rattle.markdown_scanners_tree.specs.declared.linklabel.tally.Tally.{Tally}
 use Rattle.markdown_scanners_tree.proofs.linklabel.Facts.{Facts, facts_past_ending, facts_past_space, facts_past_word}
 use Rattle.markdown_scanners_tree.proofs.linklabel.Facts.{Tells, tells_ending, tells_space, tells_word, tells_length}
 use Rattle.markdown_scanners_tree.proofs.linklabel.SourceSteps.{IsAt, IsOnlySkip, at_closing, from_closing, none_at_closing, byte_at}
-use Rattle.markdown_scanners_tree.proofs.linklabel.SourceSteps.{after_word, after_space, after_ending, byte_rest, byte_fits, ending_fits, told_word}
-use Rattle.markdown_scanners_tree.proofs.linklabel.SourceSteps.{told_space, told_ending}
+use Rattle.markdown_scanners_tree.proofs.linklabel.SourceSteps.{after_word, after_space, after_ending, byte_rest, byte_fits, ending_fits, given_word}
+use Rattle.markdown_scanners_tree.proofs.linklabel.SourceSteps.{given_space, given_ending}
 use Rattle.markdown_scanners_tree.proofs.linklabel.SeenBytes.{Seen, content_of_seen, plain_of_seen, length_of_seen, stands_in_source}
 
 -- what holds at a place of the source, where this tally was kept of the bytes before it
@@ -34,7 +34,7 @@ pub record IsTallied (a : List ℕ → ℕ → Type 0) (t : Bool) (source : List
   pub tells : Tells y ix facts
   pub seen : List KeptByte
   pub at : IsAt a source escaped seen ix (drop ix source)
-  pub told : Seen t source seen ix (drop ix source) facts
+  pub given : Seen t source seen ix (drop ix source) facts
 
 is_not : (v : Bool) → not v ≡ true → v ≡ false
 is_not v h = sym (not-not v) ∙ ap not h
@@ -55,9 +55,9 @@ prefix_taken source front rest ix e d h =
 
 module _ (a : List ℕ → ℕ → Type 0) (source : List ℕ) (t escaped : Bool) (seen : List KeptByte) (ix : ℕ) (y : Facts)
     (here : IsAt a source escaped seen ix (drop ix source)) (bracket : IsBracket escaped (drop ix source) right_bracket)
-    (told : Seen t source seen ix (drop ix source) y) where
+    (given : Seen t source seen ix (drop ix source) y) where
   at_bracket : Seen t source seen ix (right_bracket ∷ bracket.1.0) y
-  at_bracket = subst (λ r. Seen t source seen ix r y) bracket.1.1 told
+  at_bracket = subst (λ r. Seen t source seen ix r y) bracket.1.1 given
 
   content : is_label_content seen ≡ (nat_le y.characters 999 && y.has_word)
   content = content_of_seen t source seen ix (93 ∷ bracket.1.0) y at_bracket
@@ -121,7 +121,7 @@ module _ (a : List ℕ → ℕ → Type 0) (t : Bool) (source : List ℕ) where
         tells = tells;
         seen = here.seen ++ in_line b ix ∷ [];
         at = after_word _ _ _ _ _ _ here.at _ _ _ o next;
-        told = told_word _ _ _ _ _ _ _ here.told _ _ _ o next;
+        given = given_word _ _ _ _ _ _ _ here.given _ _ _ o next;
       })
 
   module _ (ix : ℕ) (y : Tally) (b : ℕ) (here : IsTallied a t source (length source) false ix y)
@@ -200,7 +200,7 @@ module _ (a : List ℕ → ℕ → Type 0) (t : Bool) (source : List ℕ) where
           tells = tells_space _ _ _ here.tells b;
           seen = here.seen ++ in_line b ix ∷ [];
           at = after_space _ _ _ _ _ _ here.at _ _ o refl;
-          told = told_space _ _ _ _ _ _ _ here.told _ o refl;
+          given = given_space _ _ _ _ _ _ _ here.given _ o refl;
         }
 
     module _ (ends : is_line_ending b ≡ true) where
@@ -221,10 +221,10 @@ module _ (a : List ℕ → ℕ → Type 0) (t : Bool) (source : List ℕ) where
             tells = tells_ending _ _ _ here.tells len skip jx refl (ending_fits source ix len o).1;
             seen = here.seen ++ kept_line ix (drop ix source);
             at = subst (IsAt _ _ _ _ jx) (drop-drop (len + skip) ix source) (after_ending _ _ _ _ _ _ here.at _ o _ only);
-            told = told_ending _ _ _ _ _ _ _ here.told jx _ o (sym here.tells.ending_is ∙ first);
+            given = given_ending _ _ _ _ _ _ _ here.given jx _ o (sym here.tells.ending_is ∙ first);
           }
 
-  -- past a space, and one more where it stands behind it
+  -- past a space, and one more where it stands after it
   module _ (ix : ℕ) (y : Tally) (here : IsTallied a t source (length source) false ix y)
       (inside : ix < length source) (is : get_or source ix 0 ≡ 32) where
     first : IsTallied a t source (length source) false (ix + 1) (tally_past_space y 32)

@@ -223,7 +223,7 @@ module _ (a : List ℕ → ℕ → Type 0) (source : List ℕ) where
           after None e = cc
           after (Some b) e = (let broken = many_seen t source seen ix rest y b.content s many in cc (rw broken at e))
 
-      -- where the bracket stands behind no content of a label
+      -- where the bracket stands after no content of a label
       pub none_at_closing : IsBracket escaped rest right_bracket → is_label_content seen ≡ false
           → (t : Bool) (label : Label) → IsLabel a source t label → ⊥
       none_at_closing o h t label l = (let e = from_closing o t label l in cc (rw h at e))
@@ -337,21 +337,21 @@ byte_rest source ix b bs e = sym (drop-drop 1 ix source) ∙ ap (drop 1) e
 -- the tally after what stands next
 module _ (t : Bool) (source : List ℕ) (seen : List KeptByte) (ix : ℕ) (rest rest' : List ℕ) (y : Facts)
     (s : Seen t source seen ix rest y) where
-  pub told_word : (escaped : Bool) (b : ℕ) (escapes : Bool) (h : IsWord escaped rest b escapes) → rest' ≡ h.others
+  pub given_word : (escaped : Bool) (b : ℕ) (escapes : Bool) (h : IsWord escaped rest b escapes) → rest' ≡ h.others
       → Seen t source (seen ++ in_line b ix ∷ []) (ix + 1) rest' (facts_past_word y b (starts_dropped t rest))
-  told_word escaped b escapes h e = subst (λ x. x)
+  given_word escaped b escapes h e = subst (λ x. x)
       (λ i. Seen t source (seen ++ in_line b ix ∷ []) (ix + 1) (sym e i)
       (facts_past_word y b (starts_dropped t (sym h.parts i))))
       (Seen-word t source seen ix b h.others y h.not_white (subst (λ r. Seen t source seen ix r y) h.parts s))
 
-  pub told_space : (b : ℕ) (h : IsSpace rest b) → rest' ≡ h.others
+  pub given_space : (b : ℕ) (h : IsSpace rest b) → rest' ≡ h.others
       → Seen t source (seen ++ in_line b ix ∷ []) (ix + 1) rest' (facts_past_space y b)
-  told_space b h e = subst (λ r. Seen t source (seen ++ in_line b ix ∷ []) (ix + 1) r (facts_past_space y b)) (sym e)
+  given_space b h e = subst (λ r. Seen t source (seen ++ in_line b ix ∷ []) (ix + 1) r (facts_past_space y b)) (sym e)
       (Seen-space t source seen ix b h.others y h.white (subst (λ r. Seen t source seen ix r y) h.parts s))
 
-  pub told_ending : (jx len : ℕ) (h : IsEnding rest len) → y.has_ending ≡ false
+  pub given_ending : (jx len : ℕ) (h : IsEnding rest len) → y.has_ending ≡ false
       → Seen t source (seen ++ kept_line ix rest) jx rest' (facts_past_ending y len)
-  told_ending jx len h first = subst (λ x. x)
+  given_ending jx len h first = subst (λ x. x)
       (λ i. Seen t source (seen ++ kept_line ix (sym h.parts i)) jx rest'
       (facts_past_ending y (sym (h.takes ∙ ap line_len h.parts) i)))
       (Seen-ending t source seen ix h.byte jx h.others rest' y h.ends first

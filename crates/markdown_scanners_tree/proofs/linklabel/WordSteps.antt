@@ -140,7 +140,7 @@ module _ (a : List ℕ → ℕ → Type 0) (t : Bool) (source : List ℕ) where
       tells = tells_none;
       seen = [];
       at = at_start _ _;
-      told = Seen-none _ _;
+      given = Seen-none _ _;
     };
     counted = refl;
   }
@@ -218,5 +218,5 @@ module _ (a : List ℕ → ℕ → Type 0) (t : Bool) (source : List ℕ) where
       let bracket : IsBracket false (drop n source) right_bracket =
       (refl, bracket_first right_bracket (drop n source) closes) in
       subst (λ m. IsMeasure a source t (record { close = n; length = m; is_plain = true })) (omega arith)
-      (measured_by a source t false here.seen n here.facts here.at bracket here.told (word_tally w.skipped) here.tells
+      (measured_by a source t false here.seen n here.facts here.at bracket here.given (word_tally w.skipped) here.tells
       here.within refl (omega (arith, few)))

@@ -17,7 +17,7 @@ take_next : (xs : List ℕ) (n b : ℕ) (bs : List ℕ) → drop n xs ≡ b ∷ 
 take_next xs n b bs e = (let at = byte_at xs n b bs e in
     take_more xs n 0 at.0 ∙ ap (λ x. take n xs ++ x ∷ []) at.1)
 
--- a part of the text up to a place, and the bytes behind it
+-- a part of the text up to a place, and the bytes after it
 pub slice_run : (text : List ℕ) (mark ix jx len : ℕ) → mark ≤ ix → jx ≡ ix + len
     → take (ix - mark) (drop mark text) ++ take len (drop ix text) ≡ take (jx - mark) (drop mark text)
 slice_run text mark ix jx len h e =

@@ -37,12 +37,12 @@ AgreeOnItems line =
 abbrev pub is_blank_from_vertical : List ℕ → Bool
 is_blank_from_vertical rest = begins_with (is_between 11 12) rest && is_blank rest
 
--- such a rest stands behind the marker at the front
+-- such a rest stands after the marker at the front
 abbrev pub is_before_vertical : List ℕ → Option Marker → Bool
 is_before_vertical line None = false
 is_before_vertical line (Some m) = is_blank_from_vertical (drop m.width line)
 
--- a thematic break, and a space or a tab stands behind the bullet at its front
+-- a thematic break, and a space or a tab stands after the bullet at its front
 abbrev pub is_break_like_item : List ℕ → Bool
 is_break_like_item line =
     is_thematic_break line && begins_with is_bullet line
@@ -56,7 +56,7 @@ is_item_alone line = is_break_like_item line || is_before_vertical line (list_ma
 abbrev pub is_tab_behind_spaces : List ℕ → Bool
 is_tab_behind_spaces rest = begins_with (λ b. b == tab) (drop (leading_spaces rest) rest)
 
--- such spaces, or that tab alone, stand behind the marker at the front
+-- such spaces, or that tab alone, stand after the marker at the front
 abbrev pub is_before_tab : List ℕ → Option Marker → Bool
 is_before_tab line None = false
 is_before_tab line (Some m) = is_tab_behind_spaces (drop m.width line)

@@ -147,7 +147,7 @@ ends_in_backslash [] = false
 ends_in_backslash (b ∷ []) = b == backslash
 ends_in_backslash (b ∷ c ∷ bs) = ends_in_backslash (c ∷ bs)
 
--- The text with a closing bracket behind it is the label of itself, without an answer of any
+-- The text with a closing bracket after it is the label of itself, without an answer of any
 -- handler, and so for each.
 abbrev pub ReadsBack : List ℕ → Type 0
 ReadsBack text = IsLabel (λ rest skip. ⊥) (text ++ right_bracket ∷ []) false (record {

@@ -3,7 +3,7 @@ use Rattle.std.specs.Prelude.{ℕ, List, ◌≡◌, false}
 use Rattle.markdown_scanners_tree.specs.NoSkips.{SkipsNothing}
 use Rattle.markdown_scanners_tree.specs.linklabel.Label.{Label, IsLabel}
 
--- A label stands behind its opening bracket, and takes n bytes with its closing one.
+-- A label stands after its opening bracket, and takes n bytes with its closing one.
 pub record IsLabelLength (after : List ℕ) (n : ℕ) : Type 0 where
   pub label : Label
   pub is_label : IsLabel SkipsNothing after false label

@@ -51,7 +51,7 @@ Interrupts bytes =
     IsThematicBreak bytes ⊎ (IsSomeHeading bytes ⊎ (IsSomeFence bytes ⊎ (IsSomeQuote bytes
     ⊎ (IsInterruptingItem bytes ⊎ IsInterruptingHtml bytes))))
 
--- the line behind at most three spaces
+-- the line after at most three spaces
 abbrev pub behind_indent : List ℕ → List ℕ
 behind_indent line = drop (prefix_len (λ b. b == space) (take 3 line)) line
 

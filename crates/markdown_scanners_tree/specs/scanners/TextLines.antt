@@ -15,7 +15,7 @@ with_first b [] = (b ∷ []) ∷ []
 with_first b (line ∷ lines) = (b ∷ line) ∷ lines
 
 -- the lines of a text, each with its ending, if it has one: what ends a line is its last byte, and each other byte
--- belongs to the line that goes on behind it
+-- belongs to the line that goes on after it
 abbrev pub lines_of : List ℕ → List (List ℕ)
 lines_of [] = []
 lines_of (b ∷ bs) =

@@ -28,7 +28,7 @@ impl KeyBlock {
         }
     }
 
-    /// Adds a byte, behind a write of those that fill a block.
+    /// Adds a byte, after a write of those that fill a block.
     pub(crate) fn push<H: Hasher>(&mut self, byte: u8, state: &mut H)
         ensures { (rest : List ℕ)
             → fold H.write state.new (blocks_behind (take self.new.len self.new.bytes) rest)

@@ -1,4 +1,4 @@
-//! The first pass over a label, which finds its end, and what memory it wants.
+//! The first pass over a label, which finds its end, and how much memory it needs.
 ghost use Rattle.std.specs.Prelude.{◌≡◌, ◌≤◌, ◌<◌, ◌+◌, ◌-◌, ◌==◌, true, false, length, drop};
 ghost use Rattle.std.specs.Prelude.{IfSome, IfNone, IsTrue};
 ghost use Rattle.markdown_scanners_tree.specs.Ascii.{left_bracket, right_bracket};
@@ -153,7 +153,7 @@ fn ending_len(rest: &[u8]) -> usize
     }
 }
 
-// How many spaces are read at once: a space, and one more where it stands behind it.
+// How many spaces are read at once: a space, and one more where it stands after it.
 fn spaces_len(behind: &[u8]) -> usize
     ensures { result ≡ spaces_len behind.now }
 {
@@ -163,7 +163,7 @@ fn spaces_len(behind: &[u8]) -> usize
     }
 }
 
-// The tally after a space, and one more where it stands behind it.
+// The tally after a space, and one more where it stands after it.
 fn past_spaces(tally: Tally, behind: &[u8]) -> Tally
     requires { tally.left_out + 2 ≤ usize.MAX }
     ensures { result ≡ tally_past_spaces tally behind.now }

@@ -10,7 +10,7 @@ const PART: usize = 255;
 
 // What is known of the bytes of a label that were read: how many of them begin none of its
 // characters, how many its text leaves out, where the space between two words counts as soon as white
-// space stands behind the first; whether there is a word, whether a run of white space ends them, and
+// space stands after the first; whether there is a word, whether a run of white space ends them, and
 // whether a line ending is in it; and whether they stand in the label as they are. What changes with
 // no byte of most words is kept, and the rest is derived from it.
 #[derive(Clone, Copy, Drop)]
@@ -38,7 +38,7 @@ impl Tally {
         }
     }
 
-    // After a line ending of this many bytes, and those that are skipped behind it.
+    // After a line ending of this many bytes, and those that are skipped after it.
     pub(crate) fn past_ending(self, len: usize, skip: usize) -> Tally
         requires some { 1 ≤ len }
         requires skipped_fits { self.skipped + skip ≤ usize.MAX }
@@ -108,7 +108,7 @@ impl Tally {
         self.in_run && self.has_ending
     }
 
-    // How many bytes of the text white space adds: the space behind a word.
+    // How many bytes of the text white space adds: the space after a word.
     fn gap(self) -> usize
         ensures { result ≡ gap_len self.has_word self.in_run }
     {

@@ -34,7 +34,7 @@ pub(crate) fn word_run(rest: &[u8], escaped: bool, is_in_table: bool) -> Run
     run
 }
 
-// Whether a byte of a word escapes what stands behind it. None for a backslash that a cell of a
+// Whether a byte of a word escapes what stands after it. None for a backslash that a cell of a
 // table drops or that ends the text, and for what is no byte of a word.
 fn kept_byte(byte: u8, behind: &[u8], escaped: bool, is_in_table: bool) -> Option<bool>
     ensures { IfSome result (IsKeptByte is_in_table escaped (byte ∷ behind.now) byte) }
@@ -51,7 +51,7 @@ fn kept_byte(byte: u8, behind: &[u8], escaped: bool, is_in_table: bool) -> Optio
 }
 
 // Whether the byte is no white space, bracket or backslash. These three are neighbors, `[`, `\` and
-// `]`, and most bytes stand behind them: so one comparison tells most bytes.
+// `]`, and most bytes stand after them: so one comparison tells most bytes.
 pub(crate) fn is_ordinary(byte: u8) -> bool
     ensures { result ≡ is_ordinary byte }
 {

@@ -44,7 +44,7 @@ fn words_of_characters(bytes: &[u8], is_in_table: bool) -> usize
 }
 
 // How many bytes words with one space between them take at the front, where so many bytes are such
-// and were read: up to this end, or a byte behind it.
+// and were read: up to this end, or a byte after it.
 #[inline(always)]
 fn words_up_to(bytes: &[u8], from: usize, end: usize, is_in_table: bool) -> usize
     requires words { AreWords is_in_table bytes.now from }

@@ -48,7 +48,7 @@ fn scan_fence_of(bytes: &[u8], byte: u8) -> Option<(usize, u8)>
 fn has_backtick(bytes: &[u8]) -> bool
     ensures { result ≡ has_backtick_in_line bytes.now }
 {
-    // A fence alone in its line is told without a search, which costs more.
+    // A fence alone in its line is given without a search, which costs more.
     if let [b'\n', ..] = bytes {
         return false;
     }

@@ -77,10 +77,10 @@ impl HtmlBlockKind {
 // The names of start condition 1.
 const RAW_TEXT_NAMES: [&str; 4] = ["pre", "script", "style", "textarea"];
 
-// How many bytes behind `<` tell a block name: a `/`, ten bytes at most, and `/>`.
+// How many bytes after `<` tell a block name: a `/`, ten bytes at most, and `/>`.
 const BLOCK_NAME_BYTES: usize = 13;
 
-/// The kind of the HTML block that begins at the front, behind the indent of its line.
+/// The kind of the HTML block that begins at the front, after the indent of its line.
 ///
 /// It is the first whose start condition holds: a tag that stands alone in its line and has a block
 /// name too begins a block by its name. (CommonMark 0.31.2, section 4.6)
@@ -95,7 +95,7 @@ pub fn scan_html_block_start(bytes: &[u8]) -> Option<HtmlBlockKind>
     }
 }
 
-// The kind that a mark behind `<` begins: 2 to 5.
+// The kind that a mark after `<` begins: 2 to 5.
 fn scan_marked_kind(rest: &[u8]) -> Option<HtmlBlockKind>
     ensures { result ≡ marked_kind rest.now }
 {
@@ -106,7 +106,7 @@ fn scan_marked_kind(rest: &[u8]) -> Option<HtmlBlockKind>
     }
 }
 
-// The kind that begins behind `<!`.
+// The kind that begins after `<!`.
 fn scan_declared_kind(bytes: &[u8]) -> Option<HtmlBlockKind>
     ensures { result ≡ declared_kind bytes.now }
 {
@@ -131,7 +131,7 @@ fn begins_with_letter(bytes: &[u8]) -> bool
     }
 }
 
-// The kind that a tag begins, where no mark stands behind its `<`: 1, 6 or 7.
+// The kind that a tag begins, where no mark stands after its `<`: 1, 6 or 7.
 fn scan_tag_kind(bytes: &[u8], rest: &[u8]) -> Option<HtmlBlockKind>
     requires opened { bytes.now ≡ less_than_sign ∷ rest.now }
     requires no_mark { marked_kind rest.now ≡ None }
@@ -163,7 +163,7 @@ pub(in crate::scanners) fn begins_interrupting_html(rest: &[u8]) -> bool
     begins_block_name(rest)
 }
 
-// Whether a name of start condition 6 stands behind `<`, and what must follow it. Only the bytes
+// Whether a name of start condition 6 stands after `<`, and what must follow it. Only the bytes
 // that tell it are looked at.
 fn begins_block_name(rest: &[u8]) -> bool
     ensures { IsTrue result ↔ IsBlockStart rest.now }
@@ -171,7 +171,7 @@ fn begins_block_name(rest: &[u8]) -> bool
     starts_html_block_type_6(first_bytes(rest, BLOCK_NAME_BYTES))
 }
 
-// Whether a name of start condition 1 stands behind `<`, and what must follow it.
+// Whether a name of start condition 1 stands after `<`, and what must follow it.
 fn begins_raw_text(rest: &[u8]) -> bool
     ensures { result ≡ begins_with_raw_name ends_raw_name rest.now }
 {
@@ -181,7 +181,7 @@ fn begins_raw_text(rest: &[u8]) -> bool
     }
 }
 
-// Whether the tag whose name stands behind `<` has a name of start condition 1.
+// Whether the tag whose name stands after `<` has a name of start condition 1.
 fn has_raw_name(rest: &[u8]) -> bool
     ensures { result ≡ begins_with_raw_name ends_tag_name rest.now }
 {

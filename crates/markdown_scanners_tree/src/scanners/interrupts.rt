@@ -16,7 +16,7 @@ use crate::scanners::runs::{first_bytes, scan_ch_repeat};
 // More columns of space make an indented code block, which interrupts nothing.
 const MOST_INDENT: usize = 3;
 
-/// Whether the line at the front can interrupt a paragraph, behind at most three columns of indent.
+/// Whether the line at the front can interrupt a paragraph, after at most three columns of indent.
 ///
 /// What can is a thematic break, an ATX heading, an opening code fence, a block quote marker, a
 /// list item that is not blank and has a bullet or the number 1, and an HTML block but one whose
@@ -28,7 +28,7 @@ pub fn interrupts_paragraph(line: &[u8]) -> bool
     interrupts(without_indent(line))
 }
 
-// The line behind at most three spaces; a tab makes more than three columns.
+// The line after at most three spaces; a tab makes more than three columns.
 fn without_indent(line: &[u8]) -> &[u8]
     ensures { result.now ≡ behind_indent line.now }
 {

@@ -32,7 +32,7 @@ pub fn scan_wikilink_pipe_bytes(bytes: &[u8], len: usize) -> Option<usize>
     ensures within { IfSome result (λ n. n < length bytes.now) }
     ensures cut { IfSome result (λ n. slice_index bytes.now n ≡ vertical_line) }
 
-    // A text may be cut before the pipe and behind it.
+    // A text may be cut before the pipe and after it.
     ensures before { IfSome result (λ n. IsUtf8 bytes.now → IsCharBoundary bytes.now n) }
     ensures behind { IfSome result (λ n. IsUtf8 bytes.now → IsCharBoundary bytes.now (n + 1)) }
 {
@@ -74,7 +74,7 @@ pub fn scan_link_dest_bytes(bytes: &[u8], max_next: usize) -> Option<(usize, Ran
     ensures ordered { IfSome result (λ r. (r.1.start ≤ r.1.end) × (r.1.end ≤ r.0)) }
     ensures within { IfSome result (λ r. r.0 ≤ length bytes.now) }
 
-    // A text may be cut where its raw text begins and ends, and behind all that it takes.
+    // A text may be cut where its raw text begins and ends, and after all that it takes.
     ensures begins { IfSome result (λ r. IsUtf8 bytes.now → IsCharBoundary bytes.now r.1.start) }
     ensures ends { IfSome result (λ r. IsUtf8 bytes.now → IsCharBoundary bytes.now r.1.end) }
     ensures behind { IfSome result (λ r. IsUtf8 bytes.now → IsCharBoundary bytes.now r.0) }
@@ -108,7 +108,7 @@ pub fn scan_link_dest(text: &str, start: usize, max_next: usize) -> Option<(usiz
     Some((taken, &text[start + raw.start..start + raw.end]))
 }
 
-// How many bytes stand before the first unescaped `>`, behind the `<`.
+// How many bytes stand before the first unescaped `>`, after the `<`.
 fn pointed_len(bytes: &[u8]) -> Option<usize>
     ensures found { SomeExactly (IsPointedFrom bytes.now) result }
     ensures within { IfSome result (λ n. n < length bytes.now) }
@@ -175,7 +175,7 @@ fn plain_len(bytes: &[u8]) -> usize
     bytes.iter().take_while(|b| is_in_destination(**b)).count()
 }
 
-/// The length of the absolute URI at the front of the bytes, behind which stands its `>`.
+/// The length of the absolute URI at the front of the bytes, after which stands its `>`.
 ///
 /// The form of `scan_autolink` for bytes, which need not be UTF-8. (CommonMark 0.31.2, section
 /// 6.5.)
@@ -186,7 +186,7 @@ pub fn scan_autolink_bytes(bytes: &[u8]) -> Option<usize>
     ensures only { IsOnly (IsUriAutolink bytes.now)
         (option_map (λ n. take n bytes.now) result) }
 
-    // A `>` is behind it, and a text may be cut on both sides of that.
+    // A `>` is after it, and a text may be cut on both sides of that.
     ensures within { IfSome result (λ n. n < length bytes.now) }
     ensures cut { IfSome result (λ n. slice_index bytes.now n ≡ greater_than_sign) }
     ensures before { IfSome result (λ n. IsUtf8 bytes.now → IsCharBoundary bytes.now n) }
@@ -214,7 +214,7 @@ pub fn scan_autolink<'a>(text: &'a str, start: usize) -> Option<(usize, CowStr<'
     ensures only { IsOnly (IsUriAutolink (drop start text.now))
         (option_map (λ r. cow_text r.1) result) }
 
-    // It is lent from the text, and the answered place is behind its `>`.
+    // It is lent from the text, and the answered place is after its `>`.
     ensures place { IfSome result (λ r. r.0 ≡ start + length (cow_text r.1) + 1) }
     ensures slice { IfSome result (λ r. cow_text r.1 ≡ slice_range text.now start (r.0 - 1)) }
     ensures boundary { IfSome result (λ r. IsCharBoundary text.now r.0) }
@@ -241,7 +241,7 @@ fn scheme_len(bytes: &[u8]) -> Option<usize>
     Some(n)
 }
 
-// How many bytes at the front can stand in a scheme behind its letter.
+// How many bytes at the front can stand in a scheme after its letter.
 fn scheme_prefix_len(bytes: &[u8]) -> usize
     ensures count { result ≡ prefix_len is_scheme_byte bytes.now }
     ensures within { result ≤ length bytes.now }
@@ -252,7 +252,7 @@ fn scheme_prefix_len(bytes: &[u8]) -> usize
         .count()
 }
 
-// How many bytes at the front can stand in a URI behind its colon.
+// How many bytes at the front can stand in a URI after its colon.
 fn address_prefix_len(bytes: &[u8]) -> usize
     ensures count { result ≡ prefix_len is_uri_byte bytes.now }
     ensures within { result ≤ length bytes.now }

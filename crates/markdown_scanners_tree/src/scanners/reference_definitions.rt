@@ -49,7 +49,7 @@ pub fn scan_reference_definition(bytes: &[u8], max_next: usize) -> Option<Refere
     ensures title { IfSome result (λ d. IfSome d.title (λ title. (d.destination.end < title.start)
         × (title.start ≤ title.end) × (title.end < d.len))) }
 
-    // A text may be cut where each of them begins and ends, and behind all that it takes.
+    // A text may be cut where each of them begins and ends, and after all that it takes.
     ensures label_cut { IfSome result (λ d. IsUtf8 bytes.now → IsCutAt bytes.now d.label) }
     ensures destination_cut { IfSome result (λ d. IsUtf8 bytes.now
         → IsCutAt bytes.now d.destination) }
@@ -67,7 +67,7 @@ pub fn scan_reference_definition(bytes: &[u8], max_next: usize) -> Option<Refere
     })
 }
 
-// The label and the destination of a definition, and the place behind them.
+// The label and the destination of a definition, and the place after them.
 #[derive(Drop)]
 struct Target {
     label: Range<usize>,
@@ -102,7 +102,7 @@ fn scan_target(bytes: &[u8], max_next: usize) -> Option<Target>
     })
 }
 
-// The length of the label at the front, with its brackets and the colon behind them.
+// The length of the label at the front, with its brackets and the colon after them.
 fn scan_label_and_colon(bytes: &[u8]) -> Option<usize>
     ensures found { SomeExactly (IsLabelWithColon bytes.now) result }
     ensures within { IfSome result (λ n. (3 ≤ n) × (n ≤ length bytes.now)) }
@@ -127,7 +127,7 @@ fn begins_with_colon(rest: &[u8]) -> bool
 }
 
 // How a definition ends whose destination ends at the place: the title, if it has one, and the place
-// behind its last line.
+// after its last line.
 fn scan_end(bytes: &[u8], place: usize) -> Option<(Option<Range<usize>>, usize)>
     requires { place ≤ length bytes.now }
     ensures found { SomeExactly (λ r. IsEnd bytes.now place r.0 r.1) result }
@@ -148,7 +148,7 @@ fn scan_end(bytes: &[u8], place: usize) -> Option<(Option<Range<usize>>, usize)>
     }
 }
 
-// The title behind the destination that ends at the place, and the place behind its line.
+// The title after the destination that ends at the place, and the place after its line.
 fn scan_title_line(bytes: &[u8], place: usize) -> Option<(Range<usize>, usize)>
     requires { place ≤ length bytes.now }
     ensures found { SomeExactly (λ r. IsTitleLine bytes.now place r.0 r.1) result }

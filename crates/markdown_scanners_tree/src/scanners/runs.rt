@@ -106,7 +106,7 @@ pub(in crate::scanners) fn scan_alphanumerics(bytes: &[u8]) -> usize
         .count()
 }
 
-// The first bytes, so many or all. A run that may have no more than `count - 1` bytes is told from
+// The first bytes, so many or all. A run that may have no more than `count - 1` bytes is given from
 // a longer one by these.
 pub(in crate::scanners) fn first_bytes(bytes: &[u8], count: usize) -> &[u8]
     ensures first { result.now ≡ take count bytes.now }

@@ -40,7 +40,7 @@ pub(crate) enum TagState {
     ClosingEnded,
 }
 
-// Whether the byte may stand in a tag name behind its first.
+// Whether the byte may stand in a tag name after its first.
 fn continues_tag_name(byte: u8) -> bool
     ensures { result ≡ is_tag_name_byte byte }
 {
@@ -54,7 +54,7 @@ fn begins_attribute(byte: u8) -> bool
     is_ascii_letter(byte) || byte == b'_' || byte == b':'
 }
 
-// Whether the byte may stand in an attribute name behind its first.
+// Whether the byte may stand in an attribute name after its first.
 fn continues_attribute(byte: u8) -> bool
     ensures { result ≡ is_attribute_byte byte }
 {

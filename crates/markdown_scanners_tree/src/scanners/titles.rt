@@ -14,7 +14,7 @@ use crate::scanners::runs::scan_whitespace_no_nl;
 /// The length in bytes of the link title at the front, with the two bytes around it: straight
 /// double quotes, straight single quotes, or matching parentheses.
 ///
-/// Neither of the two stands between them but behind a backslash. A title may span lines, of which
+/// Neither of the two stands between them but after a backslash. A title may span lines, of which
 /// none is blank; what a container has at the front of a line is not left out. (CommonMark 0.31.2,
 /// section 6.3.)
 pub fn scan_link_title(bytes: &[u8]) -> Option<usize>
@@ -23,7 +23,7 @@ pub fn scan_link_title(bytes: &[u8]) -> Option<usize>
     ensures only { IsOnly (IsLinkTitle bytes.now) result }
     ensures within { IfSome result (λ n. (2 ≤ n) × (n ≤ length bytes.now)) }
 
-    // A text may be cut where its own bytes begin and end, and behind all that it takes.
+    // A text may be cut where its own bytes begin and end, and after all that it takes.
     ensures begins { IfSome result (λ n. IsUtf8 bytes.now → IsCharBoundary bytes.now 1) }
     ensures ends { IfSome result (λ n. IsUtf8 bytes.now → IsCharBoundary bytes.now (n - 1)) }
     ensures behind { IfSome result (λ n. IsUtf8 bytes.now → IsCharBoundary bytes.now n) }
@@ -47,7 +47,7 @@ fn closing_of(opening: u8) -> Option<u8>
     }
 }
 
-// How many bytes stand before the first unescaped `closing`, behind the `opening`.
+// How many bytes stand before the first unescaped `closing`, after the `opening`.
 fn inner_len(bytes: &[u8], opening: u8, closing: u8) -> Option<usize>
     requires { closing_of opening ≡ Some closing }
     ensures found { SomeExactly (IsTitleFrom opening closing bytes.now) result }
@@ -90,7 +90,7 @@ fn ends_line(bytes: &[u8]) -> bool
     }
 }
 
-// Whether the line at the front is blank. No byte is read behind the one that tells.
+// Whether the line at the front is blank. No byte is read after the one that tells.
 fn is_blank(bytes: &[u8]) -> bool
     ensures { result ≡ is_blank bytes.now }
 {

@@ -105,8 +105,8 @@ fn push_meanings<E: Entities>(
 }
 
 // Where a changed piece stands at the place, appends the text from `run` up to it, and what stands
-// in for its front. Answers where the text begins that isn't appended yet, and the place behind the
-// piece, or behind a run of pieces that mean themselves.
+// in for its front. Answers where the text begins that isn't appended yet, and the place after the
+// piece, or after a run of pieces that mean themselves.
 fn push_first<E: Entities>(
     out: &mut String,
     text: &str,
@@ -278,7 +278,7 @@ fn backslash_size(bytes: &[u8], is_in_table: bool) -> PieceSize
     piece_size(dropped + 1, dropped, 0)
 }
 
-// The same at an ampersand. Where no reference stands there, the letters and digits behind it mean
+// The same at an ampersand. Where no reference stands there, the letters and digits after it mean
 // themselves too.
 fn ampersand_size<E: Entities>(bytes: &[u8], entities: &E) -> PieceSize
     requires some { 0 < length bytes.now }
@@ -327,7 +327,7 @@ fn piece_size(source: usize, dropped: usize, inserted: usize) -> PieceSize
 }
 
 // How many bytes at the front come before a byte with which a changed piece may begin. A byte alone
-// is told from a longer run before the search, which costs more than one byte is worth, as in
+// is given from a longer run before the search, which costs more than one byte is worth, as in
 // `\*a\*a`.
 fn plain_len(bytes: &[u8]) -> usize
     requires some { 0 < length bytes.now }

@@ -1,4 +1,4 @@
--- A walk of a forest by its links: what it has told, and what it has still to follow.
+-- A walk of a forest by its links: what it has listed, and what it has still to follow.
 use Rattle.std.proofs.Common.{◌≡◌, ◌≢◌, inl, inr, ℕ, ◌+◌, ◌<◌, ◌≤◌, true, false, List, [], ◌∷◌, ◌++◌, length, map}
 use Rattle.std.proofs.Common.{refl, ap, sym, ◌∙◌, arith, Option, Some, None, append_assoc, append-nil, length-append}
 use Rattle.std.specs.Prelude.{slice_get, option_to_list, All, IfSome, nat_eq, eqb, ◌==◌, if◌then◌else◌}
@@ -22,14 +22,14 @@ with_link pending link depth = pending ++ map (λ ix. (ix, depth)) (option_to_li
 module _ {T : Type 0} (nodes : List (Node T)) where
   -- from these links on, the last of them first, and each at its depth, the walk tells these nodes
   abbrev pub Tells : List (ℕ × ℕ) → List (ℕ × ℕ) → Type 0
-  Tells [] told = told ≡ []
-  Tells (e ∷ pending) told =
-      (forest : Forest) × (before : List (ℕ × ℕ)) × IsLinkedAs nodes (Some e.0) forest × Tells pending before × (told ≡ before ++ in_order e.1 forest)
+  Tells [] listed = listed ≡ []
+  Tells (e ∷ pending) listed =
+      (forest : Forest) × (before : List (ℕ × ℕ)) × IsLinkedAs nodes (Some e.0) forest × Tells pending before × (listed ≡ before ++ in_order e.1 forest)
 
-  Tells-push : (pending : List (ℕ × ℕ)) (ix depth : ℕ) (forest : Forest) (told : List (ℕ × ℕ)) → IsLinkedAs nodes (Some ix) forest → Tells pending told
-      → Tells (pending ++ (ix, depth) ∷ []) (in_order depth forest ++ told)
-  Tells-push [] ix depth forest told link h = (forest, [], link, refl, ap (λ t. in_order depth forest ++ t) h ∙ append-nil (in_order depth forest))
-  Tells-push (e ∷ pending) ix depth forest told link h = (
+  Tells-push : (pending : List (ℕ × ℕ)) (ix depth : ℕ) (forest : Forest) (listed : List (ℕ × ℕ)) → IsLinkedAs nodes (Some ix) forest → Tells pending listed
+      → Tells (pending ++ (ix, depth) ∷ []) (in_order depth forest ++ listed)
+  Tells-push [] ix depth forest listed link h = (forest, [], link, refl, ap (λ t. in_order depth forest ++ t) h ∙ append-nil (in_order depth forest))
+  Tells-push (e ∷ pending) ix depth forest listed link h = (
     h.0,
     in_order depth forest ++ h.1,
     h.2,
@@ -38,17 +38,17 @@ module _ {T : Type 0} (nodes : List (Node T)) where
   )
 
   -- a link more, and the forest that it leads to
-  Tells-with_link : (pending : List (ℕ × ℕ)) (link : Option ℕ) (depth : ℕ) (forest : Forest) (told : List (ℕ × ℕ)) → IsLinkedAs nodes link forest → Tells pending told
-      → Tells (with_link pending link depth) (in_order depth forest ++ told)
-  Tells-with_link pending None depth no_tree told link h = rw append-nil h
-  Tells-with_link pending None depth (tree r cs later) told link h = let none = link.0 in cc
-  Tells-with_link pending (Some ix) depth forest told link h = Tells-push pending ix depth forest told link h
+  Tells-with_link : (pending : List (ℕ × ℕ)) (link : Option ℕ) (depth : ℕ) (forest : Forest) (listed : List (ℕ × ℕ)) → IsLinkedAs nodes link forest → Tells pending listed
+      → Tells (with_link pending link depth) (in_order depth forest ++ listed)
+  Tells-with_link pending None depth no_tree listed link h = rw append-nil h
+  Tells-with_link pending None depth (tree r cs later) listed link h = let none = link.0 in cc
+  Tells-with_link pending (Some ix) depth forest listed link h = Tells-push pending ix depth forest listed link h
 
   -- what the last link tells first
-  Tells-last : (pending : List (ℕ × ℕ)) (e : ℕ × ℕ) (told : List (ℕ × ℕ)) → Tells (pending ++ e ∷ []) told
-      → (forest : Forest) × (rest : List (ℕ × ℕ)) × IsLinkedAs nodes (Some e.0) forest × Tells pending rest × (told ≡ in_order e.1 forest ++ rest)
-  Tells-last [] e told h = (h.0, [], h.2, refl, h.4 ∙ ap (λ t. t ++ in_order e.1 h.0) h.3 ∙ sym (append-nil (in_order e.1 h.0)))
-  Tells-last (d ∷ pending) e told h =
+  Tells-last : (pending : List (ℕ × ℕ)) (e : ℕ × ℕ) (listed : List (ℕ × ℕ)) → Tells (pending ++ e ∷ []) listed
+      → (forest : Forest) × (rest : List (ℕ × ℕ)) × IsLinkedAs nodes (Some e.0) forest × Tells pending rest × (listed ≡ in_order e.1 forest ++ rest)
+  Tells-last [] e listed h = (h.0, [], h.2, refl, h.4 ∙ ap (λ t. t ++ in_order e.1 h.0) h.3 ∙ sym (append-nil (in_order e.1 h.0)))
+  Tells-last (d ∷ pending) e listed h =
       let below = Tells-last pending e h.1 h.3 in (
         below.0,
         below.1 ++ in_order d.1 h.0,
@@ -57,10 +57,10 @@ module _ {T : Type 0} (nodes : List (Node T)) where
         h.4 ∙ ap (λ t. t ++ in_order d.1 h.0) below.4 ∙ append_assoc (in_order e.1 below.0) below.1 (in_order d.1 h.0),
       )
 
-  -- a node is told, and its links are put on those to be followed
+  -- a node is listed, and its links are put on those to be followed
   by_node : (pending : List (ℕ × ℕ)) (ix depth : ℕ) (node : Node T) (forest : Forest) (rest : List (ℕ × ℕ)) → slice_get nodes ix ≡ Some node
       → IsLinkedAs nodes (Some ix) forest → Tells pending rest
-      → (told : List (ℕ × ℕ)) × Tells (with_link (with_link pending node.next depth) node.child (depth + 1)) told × (in_order depth forest ++ rest ≡ (ix, depth) ∷ told)
+      → (listed : List (ℕ × ℕ)) × Tells (with_link (with_link pending node.next depth) node.child (depth + 1)) listed × (in_order depth forest ++ rest ≡ (ix, depth) ∷ listed)
   by_node pending ix depth node no_tree rest here link h = cc
   by_node pending ix depth node (tree r cs later) rest here link h =
       let root = link.0 in
@@ -74,10 +74,10 @@ module _ {T : Type 0} (nodes : List (Node T)) where
         rw (sym index) (ap (λ (t : List (ℕ × ℕ)). (ix, depth) ∷ t) (append_assoc (in_order (depth + 1) cs) (in_order depth later) rest)),
       )
 
-  pub Tells-step : (pending : List (ℕ × ℕ)) (ix depth : ℕ) (node : Node T) (told : List (ℕ × ℕ)) → slice_get nodes ix ≡ Some node → Tells (pending ++ (ix, depth) ∷ []) told
-      → (rest : List (ℕ × ℕ)) × Tells (with_link (with_link pending node.next depth) node.child (depth + 1)) rest × (told ≡ (ix, depth) ∷ rest)
-  Tells-step pending ix depth node told here h =
-      let last = Tells-last pending (ix, depth) told h in
+  pub Tells-step : (pending : List (ℕ × ℕ)) (ix depth : ℕ) (node : Node T) (listed : List (ℕ × ℕ)) → slice_get nodes ix ≡ Some node → Tells (pending ++ (ix, depth) ∷ []) listed
+      → (rest : List (ℕ × ℕ)) × Tells (with_link (with_link pending node.next depth) node.child (depth + 1)) rest × (listed ≡ (ix, depth) ∷ rest)
+  Tells-step pending ix depth node listed here h =
+      let last = Tells-last pending (ix, depth) listed h in
       let step = by_node pending ix depth node last.0 last.1 here last.2 last.3 in (step.0, step.1, last.4 ∙ step.2)
 
   -- before a walk of the whole forest
@@ -101,13 +101,13 @@ times-append k (x ∷ xs) ys = omega (arith, times-append k xs ys)
 
 -- the nodes that a walk tells
 abbrev pub nodes_of : List (ℕ × ℕ) → List ℕ
-nodes_of told = map (λ node. node.0) told
+nodes_of listed = map (λ node. node.0) listed
 
 nodes_of-append : (xs ys : List (ℕ × ℕ)) → nodes_of (xs ++ ys) ≡ nodes_of xs ++ nodes_of ys
 nodes_of-append [] ys = refl
 nodes_of-append (x ∷ xs) ys = ap (λ l. x.0 ∷ l) (nodes_of-append xs ys)
 
--- a node is told as often as it stands in the forest
+-- a node is listed as often as it stands in the forest
 times-in_order : (k depth : ℕ) (forest : Forest) → times k (nodes_of (in_order depth forest)) ≡ count_in k forest
 times-in_order k depth no_tree = refl
 times-in_order k depth (tree r cs later) =
@@ -166,46 +166,46 @@ module _ {T : Type 0} where
       (let stands = times-found k (nodes_of (in_order 0 forest)) found in omega (arith, times-in_order k 0 forest))) in
       omega (arith, length-map (in_order 0 forest) (λ node. node.0))
 
-  -- what a walk has told and has still to follow, where it has told this many nodes
-  pub record IsWalked (t : Linked T) (told : ℕ) (order pending : List (ℕ × ℕ)) : Type 0 where
-    pub count : length order ≡ told
-    pub told_lead : All (λ node. node.0 < length t.nodes) order
-    pub pending_lead : All (λ node. (node.0 < length t.nodes) × (node.1 ≤ told)) pending
+  -- what a walk has listed and has still to follow, where it has listed this many nodes
+  pub record IsWalked (t : Linked T) (listed : ℕ) (order pending : List (ℕ × ℕ)) : Type 0 where
+    pub count : length order ≡ listed
+    pub listed_lead : All (λ node. node.0 < length t.nodes) order
+    pub pending_lead : All (λ node. (node.0 < length t.nodes) × (node.1 ≤ listed)) pending
     pub whole : (forest : Forest) → HasForest t forest → (rest : List (ℕ × ℕ)) × Tells t.nodes pending rest × (order ++ rest ≡ in_order 0 forest)
 
   -- a link that leads to a node, at a depth of which there have been enough nodes
-  All-with_link : (t : Linked T) (told : ℕ) (pending : List (ℕ × ℕ)) (link : Option ℕ) (depth : ℕ) → IsLinkWithin (length t.nodes) link → depth ≤ told
-      → All (λ node. (node.0 < length t.nodes) × (node.1 ≤ told)) pending
-      → All (λ node. (node.0 < length t.nodes) × (node.1 ≤ told)) (with_link pending link depth)
-  All-with_link t told pending None depth within deep h = rw append-nil h
-  All-with_link t told pending (Some ix) depth within deep h = All-push (λ node. (node.0 < length t.nodes) × (node.1 ≤ told)) pending (ix, depth) h (within, deep)
+  All-with_link : (t : Linked T) (listed : ℕ) (pending : List (ℕ × ℕ)) (link : Option ℕ) (depth : ℕ) → IsLinkWithin (length t.nodes) link → depth ≤ listed
+      → All (λ node. (node.0 < length t.nodes) × (node.1 ≤ listed)) pending
+      → All (λ node. (node.0 < length t.nodes) × (node.1 ≤ listed)) (with_link pending link depth)
+  All-with_link t listed pending None depth within deep h = rw append-nil h
+  All-with_link t listed pending (Some ix) depth within deep h = All-push (λ node. (node.0 < length t.nodes) × (node.1 ≤ listed)) pending (ix, depth) h (within, deep)
 
   pub IsWalked-first : (t : Linked T) (link : Option ℕ) → link ≡ first_root t.nodes → IsLinkWithin (length t.nodes) link → IsWalked t 0 [] (with_link [] link 0)
   IsWalked-first t link is within = record {
     count = refl;
-    told_lead = All-nil (λ node. node.0 < length t.nodes);
+    listed_lead = All-nil (λ node. node.0 < length t.nodes);
     pending_lead = All-with_link t 0 [] link 0 within (omega arith) (All-nil (λ node. (node.0 < length t.nodes) × (node.1 ≤ 0)));
     whole = λ forest h. (in_order 0 forest, Tells-first t.nodes link forest (rw is h.links), refl);
   }
 
   -- the link that is followed leads to a node, at a depth of which there have been enough nodes
-  pub IsWalked-pop : (t : Linked T) (told : ℕ) (order old new : List (ℕ × ℕ)) (popped : Option (ℕ × ℕ)) → old ≡ new ++ option_to_list popped → IsWalked t told order old
-      → IfSome popped (λ node. (node.0 < length t.nodes) × (node.1 ≤ told))
-  IsWalked-pop t told order old new popped parts h = (All-pop (λ node. (node.0 < length t.nodes) × (node.1 ≤ told)) old new popped parts h.pending_lead).1
+  pub IsWalked-pop : (t : Linked T) (listed : ℕ) (order old new : List (ℕ × ℕ)) (popped : Option (ℕ × ℕ)) → old ≡ new ++ option_to_list popped → IsWalked t listed order old
+      → IfSome popped (λ node. (node.0 < length t.nodes) × (node.1 ≤ listed))
+  IsWalked-pop t listed order old new popped parts h = (All-pop (λ node. (node.0 < length t.nodes) × (node.1 ≤ listed)) old new popped parts h.pending_lead).1
 
-  pub IsWalked-step : (t : Linked T) (told : ℕ) (order pending : List (ℕ × ℕ)) (ix depth : ℕ) (node : Node T) → IsNodeAt t ix node
-      → IsWalked t told order (pending ++ (ix, depth) ∷ [])
-      → IsWalked t (told + 1) (order ++ (ix, depth) ∷ []) (with_link (with_link pending node.next depth) node.child (depth + 1))
-  IsWalked-step t told order pending ix depth node here h =
-      let leads : ℕ × ℕ → Type 0 = λ node. (node.0 < length t.nodes) × (node.1 ≤ told) in
-      let leads' : ℕ × ℕ → Type 0 = λ node. (node.0 < length t.nodes) × (node.1 ≤ told + 1) in
+  pub IsWalked-step : (t : Linked T) (listed : ℕ) (order pending : List (ℕ × ℕ)) (ix depth : ℕ) (node : Node T) → IsNodeAt t ix node
+      → IsWalked t listed order (pending ++ (ix, depth) ∷ [])
+      → IsWalked t (listed + 1) (order ++ (ix, depth) ∷ []) (with_link (with_link pending node.next depth) node.child (depth + 1))
+  IsWalked-step t listed order pending ix depth node here h =
+      let leads : ℕ × ℕ → Type 0 = λ node. (node.0 < length t.nodes) × (node.1 ≤ listed) in
+      let leads' : ℕ × ℕ → Type 0 = λ node. (node.0 < length t.nodes) × (node.1 ≤ listed + 1) in
       let parts = All-pop leads (pending ++ (ix, depth) ∷ []) pending (Some (ix, depth)) refl h.pending_lead in
       let weaker : (node : ℕ × ℕ) → leads node → leads' node = λ node within. (within.0, omega (arith, within.1)) in
       record {
         count = length-append order ((ix, depth) ∷ []) ∙ ap (λ n. n + 1) h.count;
-        told_lead = All-push (λ node. node.0 < length t.nodes) order (ix, depth) h.told_lead parts.1.0;
-        pending_lead = All-with_link t (told + 1) (with_link pending node.next depth) node.child (depth + 1) here.child (omega (arith, parts.1.1))
-            (All-with_link t (told + 1) pending node.next depth here.next (omega (arith, parts.1.1)) (All-weaker leads leads' weaker pending parts.0));
+        listed_lead = All-push (λ node. node.0 < length t.nodes) order (ix, depth) h.listed_lead parts.1.0;
+        pending_lead = All-with_link t (listed + 1) (with_link pending node.next depth) node.child (depth + 1) here.child (omega (arith, parts.1.1))
+            (All-with_link t (listed + 1) pending node.next depth here.next (omega (arith, parts.1.1)) (All-weaker leads leads' weaker pending parts.0));
         whole = λ forest links.
             let before = h.whole forest links in
             let step = Tells-step t.nodes pending ix depth node before.0 here.here before.1 in (
@@ -216,12 +216,12 @@ module _ {T : Type 0} where
       }
 
   -- nothing is left to follow
-  pub IsWalked-done : (t : Linked T) (told : ℕ) (order pending : List (ℕ × ℕ)) → length pending ≡ 0 → IsWalked t told order pending
+  pub IsWalked-done : (t : Linked T) (listed : ℕ) (order pending : List (ℕ × ℕ)) → length pending ≡ 0 → IsWalked t listed order pending
       → (forest : Forest) → HasForest t forest → order ≡ in_order 0 forest
-  IsWalked-done t told order [] none h forest links = let all = h.whole forest links in sym (append-nil order) ∙ ap (λ l. order ++ l) (sym all.1) ∙ all.2
-  IsWalked-done t told order (node ∷ pending) none h forest links = absurd (omega (arith, none))
+  IsWalked-done t listed order [] none h forest links = let all = h.whole forest links in sym (append-nil order) ∙ ap (λ l. order ++ l) (sym all.1) ∙ all.2
+  IsWalked-done t listed order (node ∷ pending) none h forest links = absurd (omega (arith, none))
 
-  -- as many nodes are told as there are
+  -- as many nodes are listed as there are
   pub IsWalked-all : (t : Linked T) (order pending : List (ℕ × ℕ)) → IsWalked t (length t.nodes) order pending → (forest : Forest) → HasForest t forest → order ≡ in_order 0 forest
   IsWalked-all t order pending h forest links = let all = h.whole forest links in by_rest all.0 all.2
     where

@@ -1,4 +1,4 @@
--- The order in which the nodes of a forest are told.
+-- The order in which the nodes of a forest are listed.
 use Rattle.std.specs.Prelude.{ℕ, ◌+◌, List, [], ◌∷◌, ◌++◌}
 use Rattle.markdown_values.specs.tree.Forest.{Forest, no_tree, tree}
 

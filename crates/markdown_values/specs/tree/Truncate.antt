@@ -114,7 +114,7 @@ module _ {T : Type 0} where
         )
         else record t { nodes = with_next (with_item t.nodes ix (with_range item range.start e)) ix None; focus = Some ix }
 
-    -- where there is a first other child, c, it is cut behind those that are kept
+    -- where there is a first other child, c, it is cut after those that are kept
     abbrev pub CutsFirstOther : (T → ℕ → ℕ → T) → ℕ → Linked T → Linked T → Type 0
     CutsFirstOther with_range e old new =
         (kept : List (ℕ × Node T)) (c : ℕ × Node T) (later : List (ℕ × Node T))

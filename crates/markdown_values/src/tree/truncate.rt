@@ -43,7 +43,7 @@ impl<T: SpanItem + Drop> Tree<T> {
     ///
     /// Children that end before `end` stay. The first other child becomes the last where it ends
     /// there; is dropped, with those after it, where it starts there; and else ends there and
-    /// becomes the last. One that starts there behind a backslash becomes the backslash instead,
+    /// becomes the last. One that starts there after a backslash becomes the backslash instead,
     /// and those after it stay. Where there is no other child, nothing changes.
     pub fn truncate_siblings(&mut self, end: usize)
         requires parent { IsSome (last self.old.spine) }
@@ -55,7 +55,7 @@ impl<T: SpanItem + Drop> Tree<T> {
         ensures kept { (children : _)
             → AllEndBefore T.span end self.old.nodes (first_sibling self.old) children
             → self.new ≡ self.old }
-        // Else the first other child is cut behind those that are kept.
+        // Else the first other child is cut after those that are kept.
         ensures cut { CutsFirstOther T.span T.with_range end self.old self.new }
 
         // The same, by the ranges of the children.

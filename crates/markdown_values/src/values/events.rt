@@ -20,15 +20,15 @@ pub enum Event<'a> {
     Text(CowStr<'a>),
     /// A code span. (CommonMark 0.31.2, section 6.1)
     Code(CowStr<'a>),
-    /// Mathematics in a line. Wants `ENABLE_MATH`.
+    /// Mathematics in a line. Needs `ENABLE_MATH`.
     InlineMath(CowStr<'a>),
-    /// Mathematics on lines of its own. Wants `ENABLE_MATH`.
+    /// Mathematics on lines of its own. Needs `ENABLE_MATH`.
     DisplayMath(CowStr<'a>),
     /// A line of an HTML block. (CommonMark 0.31.2, section 4.6)
     Html(CowStr<'a>),
     /// HTML within a line. (CommonMark 0.31.2, section 6.6)
     InlineHtml(CowStr<'a>),
-    /// The label of a footnote, where it is called. Wants `ENABLE_FOOTNOTES` or
+    /// The label of a footnote, where it is called. Needs `ENABLE_FOOTNOTES` or
     /// `ENABLE_OLD_FOOTNOTES`.
     FootnoteReference(CowStr<'a>),
     /// A line ending in a paragraph. (CommonMark 0.31.2, section 6.8)
@@ -37,7 +37,7 @@ pub enum Event<'a> {
     HardBreak,
     /// A thematic break. (CommonMark 0.31.2, section 4.1)
     Rule,
-    /// The box of a task: true where it is checked. Wants `ENABLE_TASKLISTS`. (GFM, section 5.3)
+    /// The box of a task: true where it is checked. Needs `ENABLE_TASKLISTS`. (GFM, section 5.3)
     TaskListMarker(bool),
 }
 

@@ -19,7 +19,7 @@ use std::alloc::{AllocError, Global};
 pub enum Tag<'a> {
     /// A paragraph. (4.8)
     Paragraph,
-    /// A heading. (4.2, 4.3) What stands in braces after it wants `ENABLE_HEADING_ATTRIBUTES`.
+    /// A heading. (4.2, 4.3) What stands in braces after it needs `ENABLE_HEADING_ATTRIBUTES`.
     Heading {
         /// Its level.
         level: HeadingLevel,
@@ -40,15 +40,15 @@ pub enum Tag<'a> {
     List(Option<u64>),
     /// A list item. (5.2)
     Item,
-    /// A footnote, with its label. Wants `ENABLE_FOOTNOTES` or `ENABLE_OLD_FOOTNOTES`.
+    /// A footnote, with its label. Needs `ENABLE_FOOTNOTES` or `ENABLE_OLD_FOOTNOTES`.
     FootnoteDefinition(CowStr<'a>),
-    /// A list of terms and definitions. Wants `ENABLE_DEFINITION_LIST`.
+    /// A list of terms and definitions. Needs `ENABLE_DEFINITION_LIST`.
     DefinitionList,
     /// A term.
     DefinitionListTitle,
     /// A definition of the terms before it.
     DefinitionListDefinition,
-    /// A table, with the alignment of each column. Wants `ENABLE_TABLES`.
+    /// A table, with the alignment of each column. Needs `ENABLE_TABLES`.
     Table(Vec<Alignment>),
     /// The first row of a table, which has its headings.
     TableHead,
@@ -60,11 +60,11 @@ pub enum Tag<'a> {
     Emphasis,
     /// Strong emphasis. (6.2)
     Strong,
-    /// Text struck through. Wants `ENABLE_STRIKETHROUGH`.
+    /// Text struck through. Needs `ENABLE_STRIKETHROUGH`.
     Strikethrough,
-    /// Text set higher. Wants `ENABLE_SUPERSCRIPT`.
+    /// Text set higher. Needs `ENABLE_SUPERSCRIPT`.
     Superscript,
-    /// Text set lower. Wants `ENABLE_SUBSCRIPT`.
+    /// Text set lower. Needs `ENABLE_SUBSCRIPT`.
     Subscript,
     /// A link. (6.3, 6.5)
     Link {

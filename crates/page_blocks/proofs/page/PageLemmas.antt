@@ -27,9 +27,9 @@ use Rattle.markdown_blocks.specs.walk.Walk.{IsStep, IsContentOf}
 use Rattle.markdown_blocks.proofs.ForCallers.{events_of_nodes, page_lists, page_shown, shown_events, step_events, step_shown}
 use Rattle.markdown_blocks.proofs.taken.TakenLemmas.{lines_bytes}
 use Rattle.page_blocks.specs.declared.words.Form.{Form}
-use Rattle.page_blocks.specs.page.Going.{GoesOnTelling}
-use Rattle.page_blocks.specs.page.Told.{Place, Printed, place_of, place_after, after, after_all, ended_line, event_lines, lines_of_events}
-use Rattle.page_blocks.specs.page.Told.{last_lines, lines_to_end, the_front, TellsFront, TellsPage}
+use Rattle.page_blocks.specs.page.Going.{GoesOnPrinting}
+use Rattle.page_blocks.specs.page.Printed.{Place, Printed, place_of, place_after, after, after_all, ended_line, event_lines, lines_of_events}
+use Rattle.page_blocks.specs.page.Printed.{last_lines, lines_to_end, the_front, PrintsFront, PrintsPage}
 
 -- events that are printed one after the other
 pub lines-append : (form : Form) (p : Printed) (shown later : List Shown)
@@ -162,12 +162,12 @@ module _ (form : Form) (outer now : Between) (before : Taken) (lists : Tracked) 
     (subst (IsPiece outer s.piece) is s.is_piece, subst (λ o. AreBlocks o later rest) s.open_now each),
   )
 
-  pub telling-next : (page text longer : List ℕ) (next : Printed) → next ≡ after_all so_far shown
+  pub printing-next : (page text longer : List ℕ) (next : Printed) → next ≡ after_all so_far shown
       → longer ≡ text ++ lines_of_events form so_far shown
-      → GoesOnTelling form page text so_far outer (lines_of lines ++ more)
-      → GoesOnTelling form page longer next now (lines_of (drop step.block.taken.bytes lines) ++ more)
-  unfolding GoesOnTelling left
-  telling-next page text longer next is_next tells goes later others rest is each are =
+      → GoesOnPrinting form page text so_far outer (lines_of lines ++ more)
+      → GoesOnPrinting form page longer next now (lines_of (drop step.block.taken.bytes lines) ++ more)
+  unfolding GoesOnPrinting left
+  printing-next page text longer next is_next prints goes later others rest is each are =
       let front = front_with later rest is each in
       let behind = subst (λ (o : Between). AreShownOf o.containers (before.lines + length (s.piece.first ∷ s.piece.later))
       (before.bytes + length (concat (s.piece.first ∷ s.piece.later))) later others) s.open_now
@@ -180,7 +180,7 @@ module _ (form : Form) (outer now : Between) (before : Taken) (lists : Tracked) 
         shown = whole.shown;
         are_its_blocks = subst (λ a. IsFront a page whole.pieces rest) (sym on) whole.are_its_blocks;
         are_their_events = whole.are_their_events;
-        lines = ap (λ t. t ++ lines_of_events form next others) tells
+        lines = ap (λ t. t ++ lines_of_events form next others) prints
             ∙ ap (λ (q : Printed). (text ++ lines_of_events form so_far shown) ++ lines_of_events form q others) is_next
             ∙ append_assoc text (lines_of_events form so_far shown) _
             ∙ ap (λ t. text ++ t) (sym (lines-append form so_far shown others)) ∙ whole.lines;
@@ -188,10 +188,10 @@ module _ (form : Form) (outer now : Between) (before : Taken) (lists : Tracked) 
         open_now = ap (λ (o : Between). open_after (length o.containers) later) s.open_now ∙ whole.open_now;
       }
 
-pub telling-first : (form : Form) (page : List ℕ) (p : Printed) (outer : Between) (text : List ℕ) → p ≡ the_front → outer ≡ root outer.extensions → text ≡ []
-    → GoesOnTelling form page text p outer (lines_of page)
-unfolding GoesOnTelling
-telling-first form page p outer text front none empty later shown rest is each are = record {
+pub printing-first : (form : Form) (page : List ℕ) (p : Printed) (outer : Between) (text : List ℕ) → p ≡ the_front → outer ≡ root outer.extensions → text ≡ []
+    → GoesOnPrinting form page text p outer (lines_of page)
+unfolding GoesOnPrinting
+printing-first form page p outer text front none empty later shown rest is each are = record {
   pieces = later;
   shown = shown;
   are_its_blocks = record { joined = sym is; each = subst (λ o. AreBlocks o later rest) none each };
@@ -203,12 +203,12 @@ telling-first form page p outer text front none empty later shown rest is each a
 }
 
 -- the text, in this form, prints blocks at the front of the page
-pub telling-front : (asked : BlockExtensions) (form other : Form) (page text words : List ℕ) (p : Printed) (outer : Between) (lines : List (List ℕ))
-    → form ≡ other → outer.extensions ≡ asked → text ≡ words → GoesOnTelling form page text p outer lines → TellsFront asked other page words
-unfolding GoesOnTelling
-telling-front asked form other page text words p outer lines same on is goes =
+pub printing-front : (asked : BlockExtensions) (form other : Form) (page text words : List ℕ) (p : Printed) (outer : Between) (lines : List (List ℕ))
+    → form ≡ other → outer.extensions ≡ asked → text ≡ words → GoesOnPrinting form page text p outer lines → PrintsFront asked other page words
+unfolding GoesOnPrinting
+printing-front asked form other page text words p outer lines same on is goes =
     let whole = goes [] [] lines refl tt refl in
-    subst (λ a. TellsFront a other page words) on record {
+    subst (λ a. PrintsFront a other page words) on record {
       pieces = whole.pieces;
       rest = lines;
       shown = whole.shown;
@@ -226,10 +226,10 @@ to_end form p shown later =
     ∙ ap (λ (q : Printed). lines_of_events form p (shown ++ later) ++ ended_line form (closed q.lists)) (sym (after-append p shown later))
 
 -- with the last lines it prints the whole page
-pub telling-page : (form : Form) (page text longer : List ℕ) (p : Printed) (outer : Between)
-    → longer ≡ text ++ last_lines form p (length outer.containers) → GoesOnTelling form page text p outer [] → TellsPage outer.extensions form page longer
-unfolding GoesOnTelling
-telling-page form page text longer p outer tells goes =
+pub printing-page : (form : Form) (page text longer : List ℕ) (p : Printed) (outer : Between)
+    → longer ≡ text ++ last_lines form p (length outer.containers) → GoesOnPrinting form page text p outer [] → PrintsPage outer.extensions form page longer
+unfolding GoesOnPrinting
+printing-page form page text longer p outer prints goes =
     let whole = goes [] [] [] refl tt refl in
     let last : List Shown = replicate (open_after 0 whole.pieces) end_shown in
     let is_page : IsPage outer.extensions page whole.pieces =
@@ -241,7 +241,7 @@ telling-page form page text longer p outer tells goes =
       shown = whole.shown ++ last;
       are_its_events = all;
       are_its_lists = (nodes.0, subst (IsEventsOf outer.extensions page) nodes.1 are, ap (lists_behind at_start) nodes.1 ∙ page_lists nodes.0);
-      lines = tells ∙ ap (λ n. text ++ last_lines form p n) whole.open_now
+      lines = prints ∙ ap (λ n. text ++ last_lines form p n) whole.open_now
           ∙ ap (λ (q : Printed). text ++ lines_to_end form q last) whole.so_far
           ∙ ap (λ t. t ++ lines_to_end form (after_all the_front whole.shown) last) (sym (append-nil text) ∙ whole.lines)
           ∙ to_end form the_front whole.shown last;
@@ -257,8 +257,8 @@ last_more form p count less more =
 
 pub end_step : (form same : Form) (p next : Printed) (text longer all : List ℕ) (count less : ℕ) → count ≡ suc less → same ≡ form → next ≡ after p ends
     → longer ≡ text ++ event_lines form p end_shown → text ++ last_lines form p count ≡ all → longer ++ last_lines same next less ≡ all
-end_step form same p next text longer all count less more form_is next_is tells whole =
-    ap (λ t. t ++ last_lines same next less) tells
+end_step form same p next text longer all count less more form_is next_is prints whole =
+    ap (λ t. t ++ last_lines same next less) prints
     ∙ append_assoc text (event_lines form p end_shown) (last_lines same next less)
     ∙ ap (λ f. text ++ (event_lines form p end_shown ++ last_lines f next less)) form_is
     ∙ ap (λ (q : Printed). text ++ (event_lines form p end_shown ++ last_lines form q less)) next_is

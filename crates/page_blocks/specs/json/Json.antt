@@ -64,7 +64,7 @@ abbrev pub definition_json : Option Written → List ℕ
 definition_json None = []
 definition_json (Some written) = written_json written
 
--- the kind, and what is known of a block whose first line has this text behind its containers; of a definition what is written in it
+-- the kind, and what is known of a block whose first line has this text after its containers; of a definition what is written in it
 abbrev pub kind_json : BlockKind → List ℕ → Option Written → List ℕ
 kind_json Blank first written = codes "\"blank\""
 kind_json Break first written = codes "\"break\""

@@ -5,9 +5,9 @@ use Rattle.markdown_blocks.specs.containers.Containers.{Between}
 use Rattle.markdown_blocks.specs.declared.containers.BlockExtensions.{BlockExtensions}
 use Rattle.markdown_blocks.specs.events.Events.{open_after}
 use Rattle.markdown_blocks.specs.events.Shown.{AreShownOf, Shown}
-use Rattle.page_blocks.specs.declared.page.Telling.{Telling}
+use Rattle.page_blocks.specs.declared.page.Printing.{Printing}
 use Rattle.page_blocks.specs.declared.words.Form.{Form}
-use Rattle.page_blocks.specs.page.Told.{Printed, lines_of_events, after_all, the_front}
+use Rattle.page_blocks.specs.page.Printed.{Printed, lines_of_events, after_all, the_front}
 use Rattle.page_blocks.specs.printer.Printers.{printed_of}
 
 -- With these extensions on, the text has the lines of the events of blocks at the front of the page, and these lines follow them. So far the page is printed
@@ -23,17 +23,17 @@ pub record IsPrinted (asked : BlockExtensions) (form : Form) (page text : List �
 
 -- The text prints a page as far as these lines, before which the page is printed so far and these containers are open: whatever
 -- blocks the first of them are, with the lines of their events it prints blocks at the front of the page.
-unfoldable pub GoesOnTelling : Form → List ℕ → List ℕ → Printed → Between → List (List ℕ) → Type 0
-GoesOnTelling form page text p outer lines =
+unfoldable pub GoesOnPrinting : Form → List ℕ → List ℕ → Printed → Between → List (List ℕ) → Type 0
+GoesOnPrinting form page text p outer lines =
     (later : List Piece) (shown : List Shown) (rest : List (List ℕ)) → lines ≡ lines_in later ++ rest → AreBlocks outer later rest
     → AreShownOf outer.containers p.at.lines p.at.bytes later shown
     → IsPrinted outer.extensions form page (text ++ lines_of_events form p shown) (after_all p shown) (open_after (length outer.containers) later) rest
 
 -- what was written, and then the lines that are not yet written, print the page as far as these lines
-abbrev pub HasTold : List ℕ → List ℕ → Telling → List (List ℕ) → Type 0
-HasTold page written telling lines =
-    GoesOnTelling telling.printer.form page (written ++ string_bytes telling.printer.text) (printed_of telling.printer) telling.walk lines
+abbrev pub HasPrinted : List ℕ → List ℕ → Printing → List (List ℕ) → Type 0
+HasPrinted page written printing lines =
+    GoesOnPrinting printing.printer.form page (written ++ string_bytes printing.printer.text) (printed_of printing.printer) printing.walk lines
 
 -- of each page that is printed as far as the ones, it goes on to print it as far as the others
-abbrev pub Tells : Telling → List (List ℕ) → Telling → List (List ℕ) → Type 0
-Tells old lines new rest = (page written : List ℕ) → HasTold page written old lines → HasTold page written new rest
+abbrev pub Prints : Printing → List (List ℕ) → Printing → List (List ℕ) → Type 0
+Prints old lines new rest = (page written : List ℕ) → HasPrinted page written old lines → HasPrinted page written new rest

@@ -5,7 +5,7 @@ use Rattle.markdown_blocks.specs.events.Events.{Event}
 use Rattle.markdown_blocks.specs.events.Given.{BlockLeft, GivesBlock}
 use Rattle.markdown_blocks.specs.events.Shown.{AreShown, Shown}
 use Rattle.page_blocks.specs.declared.printer.Printer.{Printer}
-use Rattle.page_blocks.specs.page.Told.{Printed, place_of, lines_of_events, after_all}
+use Rattle.page_blocks.specs.page.Printed.{Printed, place_of, lines_of_events, after_all}
 
 -- how far it has printed the page
 abbrev pub printed_of : Printer → Printed

@@ -19,7 +19,7 @@ definition_lists = codes "--definition-lists"
 abbrev pub own_options : List (List ℕ)
 own_options = json ∷ footnotes ∷ definition_lists ∷ []
 
--- blocks are told as JSON Lines where a word asks for them
+-- blocks are printed as JSON Lines where a word asks for them
 abbrev pub form_of : List (Bor (List ℕ)) → Form
 form_of words = if asks json words then Json else Words
 

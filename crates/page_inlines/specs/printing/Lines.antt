@@ -17,7 +17,7 @@ use Rattle.markdown_inlines.specs.declared.pieces.Piece.{Piece}
 use Rattle.markdown_inlines.specs.declared.pieces.PieceKind.{PieceKind}
 use Rattle.markdown_inlines.specs.declared.pieces.PieceKind.TheVariants as K
 use Rattle.page_blocks.specs.info.Info.{bytes_text}
-use Rattle.page_blocks.specs.page.Told.{kind_text}
+use Rattle.page_blocks.specs.page.Printed.{kind_text}
 
 -- the blocks that have inlines: headings and paragraphs (CommonMark 0.31.2, chapter 6; the cells of tables are left out)
 abbrev pub has_inlines : BlockKind → Bool

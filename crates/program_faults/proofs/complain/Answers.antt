@@ -1,5 +1,5 @@
 use Rattle.std.proofs.Common.{sym, ◌∙◌}
-use Rattle.program_faults.proofs.StepLemmas.{told-more, given-nothing, given-refused, given-failed, given-taken}
+use Rattle.program_faults.proofs.StepLemmas.{printed-more, given-nothing, given-refused, given-failed, given-taken}
 use Rattle.program_faults.proofs.complain.Goals as goal
 
 pub returns-then-count-eq0-clause-given : goal.returns-then-count-eq0-clause-given
@@ -9,8 +9,8 @@ returns-then-count-eq0-clause-given g c =
 
 pub loop-rest-preserved : goal.loop-rest-preserved
 loop-rest-preserved g c = record {
-  told = told-more (g.V.Write.contents c.args.faults.now) (g.V.Write.contents c.loop-rest.faults) (g.V.Write.contents c.write_once.new.self) c.args.line.now
-      c.loop-rest.rest.now c.in-Ok.count c.loop-rest.invariant.told c.in-Ok.ensures.bytes;
+  printed = printed-more (g.V.Write.contents c.args.faults.now) (g.V.Write.contents c.loop-rest.faults) (g.V.Write.contents c.write_once.new.self) c.args.line.now
+      c.loop-rest.rest.now c.in-Ok.count c.loop-rest.invariant.printed c.in-Ok.ensures.bytes;
   given = λ end more. c.loop-rest.invariant.given end (given-taken g.V.StepWriter.writes c.loop-rest.faults c.write_once.new.self end c.loop-rest.rest.now
       c.in-Ok.count c.if-count-eq0.false c.in-Ok.ensures.step more);
 }

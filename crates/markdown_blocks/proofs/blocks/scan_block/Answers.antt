@@ -33,4 +33,4 @@ returns-in_default c = λ line h.
 pub returns-in-Paragraph : goal.returns-in-Paragraph
 returns-in-Paragraph c =
     IfOk-weaker c.scan_paragraph.result _ _
-    (λ block told line h. told line h c.in-Paragraph.ensures) c.scan_paragraph.ensures
+    (λ block given line h. given line h c.in-Paragraph.ensures) c.scan_paragraph.ensures

@@ -14,8 +14,8 @@ returns-in_default c = λ line h begins.
 
 pub returns-in-Some-2 : goal.returns-in-Some-2
 returns-in-Some-2 c = λ line h begins.
-    let told = rw c.in-Some-2.is at c.in_ok-columns.ensures in
-    let there = subst (λ (l : Line). IsHead l.outer c.rest.inside.text.now c.in-Some-2.columns l.bytes) c.new-line.ensures told in
+    let given = rw c.in-Some-2.is at c.in_ok-columns.ensures in
+    let there = subst (λ (l : Line). IsHead l.outer c.rest.inside.text.now c.in-Some-2.columns l.bytes) c.new-line.ensures given in
     let head = subst (λ (r : Rest). IsHead c.args.outer.now r.text c.in-Some-2.columns c.in-Some.line.now) c.rest.view_is there in
     table_block c.args.text.now c.args.outer.now line c.args.rest.now c.args.first h
     c.in-Some-2.columns c.in-Some.line.now c.in-Some.second c.take_rows.result begins c.in-Some.ensures.line head c.take_rows.ensures
@@ -23,7 +23,7 @@ returns-in-Some-2 c = λ line h begins.
 pub returns-in-GoesOn : goal.returns-in-GoesOn
 returns-in-GoesOn c =
     let text = ap (λ (r : Rest). r.text) c.rest.view_is in
-    IfOk-weaker c.scan_lines.result _ _ (λ block told line h begins. told line c.in-Some.line.now h c.in-Some.ensures.line
+    IfOk-weaker c.scan_lines.result _ _ (λ block given line h begins. given line c.in-Some.line.now h c.in-Some.ensures.line
     (rw (c.in-GoesOn.is, c.new-line.ensures, text) at (c.in_ok-next_line.ensures line [] h h)) begins
     (rw c.in-Some.ensures.line.parts (rw (c.in_default-2.is, c.new-line.ensures, text) at c.in_ok-columns.ensures))) c.scan_lines.ensures
 

@@ -17,7 +17,7 @@ returns-clause-found c =
     let level = c.underline_level-level.result in
     let asked = rw c.outer.ensures at c.extensions-extensions.ensures in
     let rest : Rest = record { indent = c.rest.inside.indent; text = c.rest.inside.text.now } in
-    let told : SomeExactly (λ l. IsUnderline l rest) level =
+    let given : SomeExactly (λ l. IsUnderline l rest) level =
     subst (λ r. SomeExactly (λ l. IsUnderline l r) level) (sym c.rest.view_is) c.underline_level-level.ensures in
     let defines : level ≡ None → DefinesTerm c.extensions-extensions.result rest = elim c.else-is_none.branch [
       | else-is_none-via-then-is_none+else-not-defines_term w ↦ λ none. subst (DefinesTerm c.extensions-extensions.result) (sym c.rest.view_is)
@@ -26,4 +26,4 @@ returns-clause-found c =
     ] in
     end_inside c.args.line.now.outer c.args.line.now.bytes rest (c.rest.view_is ∙ c.in_ok-rest.ensures.rest) c.in_ok-rest.ensures.inside
     (record { level = level; interrupts = c.interrupts.result })
-    (rw asked at (some_end c.extensions-extensions.result rest level told defines)) (rw asked at c.interrupts.ensures)
+    (rw asked at (some_end c.extensions-extensions.result rest level given defines)) (rw asked at c.interrupts.ensures)

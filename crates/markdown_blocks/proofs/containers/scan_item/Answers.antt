@@ -1,12 +1,12 @@
 use Rattle.std.proofs.Common.{◌∙◌, arith}
 use Rattle.markdown_scanners_tree.specs.line.Outcome.{item_outcome}
-use Rattle.markdown_blocks.proofs.containers.ContainerLemmas.{item_told, blank_at}
+use Rattle.markdown_blocks.proofs.containers.ContainerLemmas.{item_given, blank_at}
 use Rattle.markdown_blocks.proofs.containers.StartLemmas.{start_small}
 use Rattle.markdown_blocks.proofs.containers.scan_item.Goals as goal
 
 pub returns-clause-found : goal.returns-clause-found
 returns-clause-found c =
-    item_told (item_outcome c.args.indent c.args.start.now) c.scan_list_marker_with_indent.new.self _ _ _ _
+    item_given (item_outcome c.args.indent c.args.start.now) c.scan_list_marker_with_indent.new.self _ _ _ _
     c.in_ok-delimiter.ensures.answer c.in_ok-delimiter.ensures.state
     (blank_at c.args.line.now c.scan_list_marker_with_indent.new.self c.bytes_scanned.result c.is_blank.result
     (c.in_ok-delimiter.ensures.bytes ∙ c.requires.bytes) c.bytes_scanned.ensures.place c.is_blank.ensures)

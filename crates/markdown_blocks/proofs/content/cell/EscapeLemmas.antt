@@ -15,7 +15,7 @@ use Rattle.markdown_blocks.specs.declared.cells.Cell.{Cell}
 use Rattle.markdown_blocks.specs.declared.content.Segment.{Segment}
 use Rattle.markdown_blocks.proofs.content.SegmentLemmas.{lent_seen, places_all, rising_parts, seen, start}
 
--- the bytes before the first backslash that escapes a pipe, and those behind each
+-- the bytes before the first backslash that escapes a pipe, and those after each
 abbrev pub run_part : ℕ → List ℕ → Part
 run_part place bytes = record { columns = 0; place = place; bytes = take (escape_at bytes) bytes }
 
@@ -128,14 +128,14 @@ escape_here bytes i below is = by (drop i bytes) refl
   where
     by : (rest : List ℕ) → drop i bytes ≡ rest → escape_at (drop i bytes) ≡ 0
     by [] at = ap escape_at at
-    by (b ∷ bs) at = let told = rw at at is in rw (at, told) refl
+    by (b ∷ bs) at = let given = rw at at is in rw (at, given) refl
 
 pub escape_on : (bytes : List ℕ) (i : ℕ) → i < length bytes → escapes_pipe (drop i bytes) ≡ false
     → escape_at (drop i bytes) ≡ suc (escape_at (drop (i + 1) bytes))
 escape_on bytes i below is =
     let at = drop_more bytes i 0 below in
-    let told = rw at at is in
-    rw (at, told) refl
+    let given = rw at at is in
+    rw (at, given) refl
 
 -- each place is one of the bytes'
 pub places_below : (place limit : ℕ) (bytes : List ℕ) (i : ℕ) → place + length bytes < limit → get_or (unescaped_places place bytes) i 0 < limit
@@ -208,7 +208,7 @@ pub no_bytes : (bytes : List ℕ) → length bytes < 1 → bytes ≡ []
 no_bytes [] few = refl
 no_bytes (b ∷ bs) few = absurd (omega arith)
 
--- where a cell begins in its row, or behind it
+-- where a cell begins in its row, or after it
 pub content_is : (row : List ℕ) (cell : Cell) (place : ℕ) (bytes : List ℕ) → bytes ≡ bytes_of_cell row cell → place ≡ min cell.start (length row)
     → (length row ≤ cell.start → bytes ≡ [])
     → record { text = unescaped bytes; places = unescaped_places place bytes } ≡ content_of_cell row cell

@@ -5,10 +5,10 @@ use Rattle.markdown_blocks.proofs.definitions.add_content.Goals.{in-Paragraph, i
 use Rattle.markdown_blocks.proofs.definitions.add_content.Goals as goal
 
 pub returns : goal.returns
-returns c = IfOk-weaker c.add_lines.result _ _ (λ unit told line later t.
+returns c = IfOk-weaker c.add_lines.result _ _ (λ unit given line later t.
     let h = first_line c.args.lines.now line later c.args.block.taken t c.nothing.result c.in-Some.first _ (c.nothing.ensures c.args.lines.now)
     c.in-Some.ensures.line in
-    let is = rw c.new-outer.ensures at (told line h) in
+    let is = rw c.new-outer.ensures at (given line h) in
     elim c.match-block.branch [
       | in-Paragraph w ↦
           let all = rw (w.count-is, later_lines c.args.lines.now line later c.in-Some.first c.args.block.taken h t) at is in

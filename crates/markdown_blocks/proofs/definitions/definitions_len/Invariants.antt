@@ -3,7 +3,7 @@ use Rattle.markdown_scanners_tree.specs.declared.scanners.reference_definitions.
 use Rattle.markdown_blocks.specs.definitions.Definitions.{AreDefinitions}
 use Rattle.markdown_blocks.proofs.definitions.definitions_len.Given as goal
 
--- whatever definitions stand behind those that are taken, all of them stand at the front
+-- whatever definitions stand after those that are taken, all of them stand at the front
 abbrev pub invariant-loop-definition : goal.invariant-loop-definition
 invariant-loop-definition l =
     (l.taken ≤ length l.content)

@@ -3,7 +3,7 @@ use Rattle.markdown_scanners_tree.specs.line.State.{rest_of, leading_spaces}
 use Rattle.markdown_blocks.specs.containers.Footnotes.{after_columns}
 use Rattle.markdown_blocks.proofs.footnotes.pass_columns.Given as goal
 
--- behind the columns that are left is the place behind all
+-- after the columns that are left is the place after all
 abbrev pub invariant-loop : goal.invariant-loop
 invariant-loop l =
     (after_columns l.start ≡ after_columns l.fn.start) × (l.start.bytes ≡ l.fn.start.bytes)

@@ -1,4 +1,4 @@
--- Spaces and tabs alone stand behind the end.
+-- Spaces and tabs alone stand after the end.
 use Rattle.std.proofs.Common.{◌≡◌, ◌+◌, ◌≤◌, length, take}
 use Rattle.std.specs.List.{suffix_len}
 use Rattle.markdown_scanners_tree.specs.Bytes.{is_space_or_tab}

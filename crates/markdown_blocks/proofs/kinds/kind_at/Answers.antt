@@ -1,9 +1,9 @@
-use Rattle.markdown_blocks.proofs.kinds.KindLemmas.{not_told}
+use Rattle.markdown_blocks.proofs.kinds.KindLemmas.{not_given}
 use Rattle.markdown_blocks.proofs.kinds.kind_at.Goals as goal
 
 pub returns : goal.returns
 returns c = (
-  not_told c.if-is_break.false c.is_break.ensures.1,
+  not_given c.if-is_break.false c.is_break.ensures.1,
   c.in_default.ensures.found,
   c.in_default-scan_code_fence.ensures.found,
   c.in_default-scan_html_block_start.ensures.found,

@@ -2,7 +2,7 @@ use Rattle.std.proofs.Common.{ℕ, ◌≤◌, ◌<◌, length, drop, IsTrue}
 use Rattle.markdown_blocks.specs.taken.Whole.{surely_ends_line}
 use Rattle.markdown_blocks.proofs.whole.whole_lines.Given as goal
 
--- no line surely ends behind the place
+-- no line surely ends after the place
 abbrev pub invariant-loop-end : goal.invariant-loop-end
 invariant-loop-end l =
     (l.end ≤ length l.text) × ((place : ℕ) → l.end ≤ place → place < length l.text → ¬ IsTrue (surely_ends_line (drop place l.text)))

@@ -1,4 +1,4 @@
--- What is written of the inlines that are left makes, behind what is written, the events of all.
+-- What is written of the inlines that are left makes, after what is written, the events of all.
 use Rattle.markdown_events.proofs.inline_events.PassLemmas.{Goes}
 use Rattle.markdown_events.proofs.inline_events.push_inlines.Given as goal
 

@@ -37,18 +37,18 @@ line_there text bytes from n same low is within =
       omega (arith, within, ap length rest, length-drop from bytes, sizes, low),
     )
 
--- The text may be cut there, and the events of the lines from there on make, behind those that are told, the events of all.
-pub record AreTold (is_html : Bool) (text : List ℕ) (events : List (Event × Range ℕ)) (from : ℕ) : Type 0 where
+-- The text may be cut there, and the events of the lines from there on make, after those that are given, the events of all.
+pub record AreGiven (is_html : Bool) (text : List ℕ) (events : List (Event × Range ℕ)) (from : ℕ) : Type 0 where
   pub within : from ≤ length text
   pub cut : IsCharBoundary text from
-  pub told : map seen_event events ++ line_events (line_event is_html) from (lines_of (drop from text))
+  pub given : map seen_event events ++ line_events (line_event is_html) from (lines_of (drop from text))
       ≡ line_events (line_event is_html) 0 (lines_of text)
 
-pub none_told : (is_html : Bool) (text : List ℕ) → IsUtf8 text → AreTold is_html text [] 0
-none_told is_html text utf8 = record { within = omega arith; cut = IsCharBoundary-start text utf8; told = refl }
+pub none_given : (is_html : Bool) (text : List ℕ) → IsUtf8 text → AreGiven is_html text [] 0
+none_given is_html text utf8 = record { within = omega arith; cut = IsCharBoundary-start text utf8; given = refl }
 
 module _ (is_html : Bool) (text : List ℕ) (events : List (Event × Range ℕ)) (from n : ℕ) (utf8 : IsUtf8 text) (low : from < length text)
-    (is : n ≡ line_length (drop from text)) (inside : from + n ≤ length text) (holds : AreTold is_html text events from) where
+    (is : n ≡ line_length (drop from text)) (inside : from + n ≤ length text) (holds : AreGiven is_html text events from) where
   abbrev rest : List ℕ
   rest = drop from text
 
@@ -84,23 +84,23 @@ module _ (is_html : Bool) (text : List ℕ) (events : List (Event × Range ℕ))
       ap (λ (e : RangedEvent). e ∷ tell (from + n) later) seen_line
       ∙ (ap (λ k. ranged (line_event is_html line) from (from + k) ∷ tell (from + k) later) (sym size) ∙ ap (tell from) (sym lines))
 
-  pub next_told : (event : Event × Range ℕ) → seen_event event ≡ ranged (line_event is_html (take (from + n - from) rest)) from (from + n)
-      → AreTold is_html text (events ++ event ∷ []) (from + n)
-  next_told event seen = record {
+  pub next_given : (event : Event × Range ℕ) → seen_event event ≡ ranged (line_event is_html (take (from + n - from) rest)) from (from + n)
+      → AreGiven is_html text (events ++ event ∷ []) (from + n)
+  next_given event seen = record {
     within = inside;
     cut = next_cut;
-    told = ap (λ (es : List RangedEvent). es ++ tell (from + n) later) (map-append seen_event events (event ∷ []))
+    given = ap (λ (es : List RangedEvent). es ++ tell (from + n) later) (map-append seen_event events (event ∷ []))
         ∙ (append_assoc (map seen_event events) (seen_event event ∷ []) (tell (from + n) later)
-        ∙ (ap (λ (es : List RangedEvent). map seen_event events ++ es) (here event seen) ∙ holds.told));
+        ∙ (ap (λ (es : List RangedEvent). map seen_event events ++ es) (here event seen) ∙ holds.given));
   }
 
--- in the end all are told
-pub all_told : (is_html : Bool) (text : List ℕ) (events : List (Event × Range ℕ)) (from : ℕ) → length text ≤ from
-    → AreTold is_html text events from → map seen_event events ≡ line_events (line_event is_html) 0 (lines_of text)
-all_told is_html text events from past holds =
+-- in the end all are given
+pub all_given : (is_html : Bool) (text : List ℕ) (events : List (Event × Range ℕ)) (from : ℕ) → length text ≤ from
+    → AreGiven is_html text events from → map seen_event events ≡ line_events (line_event is_html) 0 (lines_of text)
+all_given is_html text events from past holds =
     let none : line_events (line_event is_html) from (lines_of (drop from text)) ≡ [] =
     ap (λ (t : List ℕ). line_events (line_event is_html) from (lines_of t)) (drop_all from text past) in
-    sym (append-nil (map seen_event events)) ∙ (ap (λ es. map seen_event events ++ es) (sym none) ∙ holds.told)
+    sym (append-nil (map seen_event events)) ∙ (ap (λ es. map seen_event events ++ es) (sym none) ∙ holds.given)
 
 -- ---- within the text
 
@@ -111,8 +111,8 @@ lines_within event count from (line ∷ lines) within =
     let joined = length-append line (concat lines) in
     (omega (arith, within, joined), lines_within event count (from + length line) lines (omega (arith, within, joined)))
 
-pub told_within : (is_html : Bool) (text : List ℕ) (events : List RangedEvent) → events ≡ line_events (line_event is_html) 0 (lines_of text)
+pub given_within : (is_html : Bool) (text : List ℕ) (events : List RangedEvent) → events ≡ line_events (line_event is_html) 0 (lines_of text)
     → EndWithin (length text) events
-told_within is_html text events are =
+given_within is_html text events are =
     subst (EndWithin (length text)) (sym are)
     (lines_within (line_event is_html) (length text) 0 (lines_of text) (omega (arith, ap length (lines_joined text))))

@@ -11,13 +11,13 @@ use Rattle.markdown_events.specs.InlineEvents.{RangedEvent, seen_event}
 use Rattle.markdown_events.specs.page.LeafContent.{EndWithin}
 use Rattle.markdown_events.specs.page.LeafEvents.{page_range, placed}
 
--- The events before the index are moved, and the others as they were; none of those ends behind the content.
+-- The events before the index are moved, and the others as they were; none of those ends after the content.
 pub record AreMovedTo (before : ℕ) (content : Placed) (old now : List (Event × Range ℕ)) (index : ℕ) : Type 0 where
   pub moved : map seen_event now
       ≡ map (placed before content.places) (take index (map seen_event old)) ++ drop index (map seen_event old)
   pub within : EndWithin (length content.text) (drop index (map seen_event old))
 
--- those behind the next end within the content too
+-- those after the next end within the content too
 later_within : (count index : ℕ) (events : List RangedEvent) → EndWithin count (drop index events) → EndWithin count (drop (suc index) events)
 later_within count zero [] within = within
 later_within count zero (event ∷ events) within = within.1

@@ -11,7 +11,7 @@ use Rattle.markdown_blocks.specs.cells.Contents.{content_of_cell}
 use Rattle.markdown_blocks.specs.containers.Containers.{Rest, rest_in}
 use Rattle.markdown_blocks.specs.declared.cells.Cell.{Cell}
 use Rattle.markdown_blocks.specs.declared.containers.Container.{Container}
-use Rattle.markdown_blocks.specs.rows.Rows.{AreAlignments, AreTold, TextAt, rows_of}
+use Rattle.markdown_blocks.specs.rows.Rows.{AreAlignments, AreGiven, TextAt, rows_of}
 use Rattle.markdown_blocks.specs.content.Content.{Placed}
 use Rattle.markdown_blocks.specs.declared.blocks.BlockKind.{BlockKind}
 use Rattle.markdown_blocks.specs.declared.blocks.BlockKind.TheVariants.{Blank, Break, Heading, Setext, Indented, Fenced, Html, Paragraph, Definition, Table}
@@ -29,7 +29,7 @@ use Rattle.markdown_events.proofs.inline_events.Unique.{one_list_of_inline_event
 
 -- ---- tables
 
-one_of_columns : (rest : Rest) (alignments others : List Alignment) → AreTold rest alignments → AreTold rest others → alignments ≡ others
+one_of_columns : (rest : Rest) (alignments others : List Alignment) → AreGiven rest alignments → AreGiven rest others → alignments ≡ others
 one_of_columns rest alignments others (inl (near, n, is)) (inl (near', n', is')) =
     ap (λ (p : ℕ × List Alignment). p.1) (one_row rest.text n alignments n' others is is')
 one_of_columns rest alignments others (inl columns) (inr (none, empty)) = absurd (none alignments columns)
@@ -67,8 +67,8 @@ one_table : (page : List ℕ) (setting : EventSetting) (here : Place) (block : L
 one_table page setting here block columns events events' is is' =
     let lines = lines_in_page page block in
     let rows = one_rows setting columns block.start true (rows_of here.kept here.containers lines) is.rows is'.rows is.are_rows is'.are_rows in
-    let told = one_alignments here.containers lines is.alignments is'.alignments is.are_alignments is'.are_alignments in
-    is.are_events ∙ (ap (λ (a : List Alignment). element (table a) block.place (block_end block) is.rows) told
+    let given = one_alignments here.containers lines is.alignments is'.alignments is.are_alignments is'.are_alignments in
+    is.are_events ∙ (ap (λ (a : List Alignment). element (table a) block.place (block_end block) is.rows) given
     ∙ (ap (element (table is'.alignments) block.place (block_end block)) rows ∙ sym is'.are_events))
 
 module _ (page : List ℕ) (setting : EventSetting) (here : Place) (block : LeafBlock) where

@@ -101,17 +101,17 @@ module _ (left end : ℕ) (old new : List Cell) (cell : Cell) (some : 0 < left)
       → ((later : List RangedEvent) → AreCellEvents setting before text (shown_cells left end old) later
       → AreCellEvents setting before text all (events ++ later)) → (later : List RangedEvent)
       → AreCellEvents setting before text (shown_cells (left - 1) end new) later → AreCellEvents setting before text all (more ++ later)
-  cells_more setting before text all events more here inlines are is added told later rest =
+  cells_more setting before text all events more here inlines are is added given later rest =
       let whole : AreCellEvents setting before text (cell ∷ shown_cells (left - 1) end new) (here ++ later) =
       (inlines, later, are, rest, ap (λ (es : List RangedEvent). es ++ later) is) in
       subst (λ (es : List RangedEvent). AreCellEvents setting before text all es)
       (sym (ap (λ (es : List RangedEvent). es ++ later) added ∙ append_assoc events here later))
-      (told (here ++ later) (subst (λ (cs : List Cell). AreCellEvents setting before text cs (here ++ later)) (sym shown) whole))
+      (given (here ++ later) (subst (λ (cs : List Cell). AreCellEvents setting before text cs (here ++ later)) (sym shown) whole))
 
 -- after the last
 pub cells_end : (setting : EventSetting) (before : ℕ) (text : List ℕ) (left end : ℕ) (cells all : List Cell) (events : List RangedEvent) → left ≡ 0
     → ((later : List RangedEvent) → AreCellEvents setting before text (shown_cells left end cells) later
     → AreCellEvents setting before text all (events ++ later)) → AreCellEvents setting before text all events
-cells_end setting before text left end cells all events none told =
+cells_end setting before text left end cells all events none given =
     subst (λ (es : List RangedEvent). AreCellEvents setting before text all es) (append-nil events)
-    (told [] (subst (λ n. AreCellEvents setting before text (shown_cells n end cells) []) (sym none) refl))
+    (given [] (subst (λ n. AreCellEvents setting before text (shown_cells n end cells) []) (sym none) refl))

@@ -78,17 +78,17 @@ module _ (before columns : ℕ) (row : TextAt) (rows new : List TextAt) (next : 
       → ((later : List RangedEvent) → AreRowEvents setting columns before is_head rows later
       → AreRowEvents setting columns before true all (events ++ later)) → (later : List RangedEvent)
       → AreRowEvents setting columns before false new later → AreRowEvents setting columns before true all (more ++ later)
-  rows_more setting is_head all events more here cells are is added told later rest =
+  rows_more setting is_head all events more here cells are is added given later rest =
       let whole : AreRowEvents setting columns before is_head (row ∷ new) (here ++ later) =
       (cells, later, are, rest, ap (λ (es : List RangedEvent). es ++ later) is) in
       subst (λ (es : List RangedEvent). AreRowEvents setting columns before true all es)
       (sym (ap (λ (es : List RangedEvent). es ++ later) added ∙ append_assoc events here later))
-      (told (here ++ later) (subst (λ (rs : List TextAt). AreRowEvents setting columns before is_head rs (here ++ later)) (sym next) whole))
+      (given (here ++ later) (subst (λ (rs : List TextAt). AreRowEvents setting columns before is_head rs (here ++ later)) (sym next) whole))
 
 -- after the last
 pub all_rows : (setting : EventSetting) (columns before : ℕ) (is_head : Bool) (rows all : List TextAt) (events : List RangedEvent) → rows ≡ []
     → ((later : List RangedEvent) → AreRowEvents setting columns before is_head rows later
     → AreRowEvents setting columns before true all (events ++ later)) → AreRowEvents setting columns before true all events
-all_rows setting columns before is_head rows all events none told =
+all_rows setting columns before is_head rows all events none given =
     subst (λ (es : List RangedEvent). AreRowEvents setting columns before true all es) (append-nil events)
-    (told [] (subst (λ (rs : List TextAt). AreRowEvents setting columns before is_head rs []) (sym none) refl))
+    (given [] (subst (λ (rs : List TextAt). AreRowEvents setting columns before is_head rs []) (sym none) refl))

@@ -3,7 +3,7 @@ use Rattle.markdown_scanners_tree.specs.Bytes.{line_ending}
 use Rattle.markdown_scanners_tree.proofs.PrefixLemmas.{from_place}
 use Rattle.markdown_scanners_tree.proofs.SomeExactlyLemmas.{SomeExactly-from_none}
 use Rattle.markdown_inlines.specs.LineBreaks.{IsLineBreak}
-use Rattle.markdown_inlines.proofs.line_breaks.LineBreakLemmas.{before_only, hard_told, rest_within, break_found}
+use Rattle.markdown_inlines.proofs.line_breaks.LineBreakLemmas.{before_only, hard_given, rest_within, break_found}
 use Rattle.markdown_inlines.proofs.line_breaks.LineBreakLemmas.{break_only, cut_behind_break, one_line_break}
 use Rattle.markdown_inlines.proofs.line_breaks.scan_line_break.Goals as goal
 
@@ -33,7 +33,7 @@ returns-clause-found c =
     let first = rest_within bytes before.result.0 c.in_ok-start.field-0 before.ensures.within c.in_ok-start.ensures.within in
     let second = rest_within bytes (before.result.0 + c.in_ok-start.field-0) c.scan_ch_repeat.result first c.scan_ch_repeat.ensures.within in
     subst (λ h. IsLineBreak bytes (record { is_hard = h; len = len }))
-    (sym (hard_told bytes before.result.0 before.result.1 before.ensures.hard before.ensures.count))
+    (sym (hard_given bytes before.result.0 before.result.1 before.ensures.hard before.ensures.count))
     (break_found bytes before.result.0 c.in_ok-start.field-0 c.scan_ch_repeat.result before.ensures.count
     before.ensures.within c.in_ok-start.ensures.ending c.scan_ch_repeat.ensures.run (omega (arith, second, c.if-len-bytes.false)))
 

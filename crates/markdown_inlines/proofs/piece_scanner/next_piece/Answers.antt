@@ -96,23 +96,23 @@ loop-place-preserved c =
     let place = c.loop-place.place in
     let next = c.past_text-place.result in
     let same = c.as_bytes-bytes.ensures.value in
-    let told = c.past_text-place.ensures in
+    let given = c.past_text-place.ensures in
     let text = c.args.text.now in
-    let past_run = subst (λ t. place + run_length (drop place t) ≤ next) same told.past_run in
+    let past_run = subst (λ t. place + run_length (drop place t) ≤ next) same given.past_run in
     let unsearched = subst (λ t. (s : Searched) → text_searched t place (next - place) s ≡ text_searched t place (run_length (drop place t)) s) same
-    told.unsearched in
+    given.unsearched in
     let only = subst (λ t. (from ≤ place) → HasOnlyText c.args.extensions t from place
     → ((kind : PieceKind) (len : ℕ) → ¬ BeginsAt c.args.extensions t from place kind len) → HasOnlyText c.args.extensions t from next) same
-    (told.text c.args.extensions from) in (
-      omega (arith, told.later, c.loop-place.invariant.0),
-      subst (λ t. next ≤ length t) same told.within,
+    (given.text c.args.extensions from) in (
+      omega (arith, given.later, c.loop-place.invariant.0),
+      subst (λ t. next ≤ length t) same given.within,
       only c.loop-place.invariant.0 c.loop-place.invariant.2
           (λ kind len. none from c.loop-place.invariant.3 (kind, len)),
-      λ at later before. subst (λ t. get_or t next 0 ≡ 96 → get_or t (next - 1) 0 ≡ 96 → ⊥) same told.apart at before,
+      λ at later before. subst (λ t. get_or t next 0 ≡ 96 → get_or t (next - 1) 0 ≡ 96 → ⊥) same given.apart at before,
       c.in_ok-found.ensures.text ∙ c.loop-place.invariant.4,
-      stays next told.later tt past_run,
+      stays next given.later tt past_run,
       counts
           ∙ (sym (unsearched c.loop-place.searches)
           ∙ (ap (text_searched text place (next - place)) c.loop-place.invariant.6
-          ∙ parts_between text from place next c.args.searches.now c.loop-place.invariant.0 (omega (arith, told.later)))),
+          ∙ parts_between text from place next c.args.searches.now c.loop-place.invariant.0 (omega (arith, given.later)))),
     )

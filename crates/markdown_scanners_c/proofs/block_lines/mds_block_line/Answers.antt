@@ -1,9 +1,9 @@
 use Rattle.std.proofs.Common.{inl, inr, refl, take}
-use Rattle.markdown_scanners_c.specs.BlockLines.{IsLineTold}
+use Rattle.markdown_scanners_c.specs.BlockLines.{IsLineReturned}
 use Rattle.markdown_scanners_c.proofs.block_lines.mds_block_line.Goals as goal
 
 pub returns-in_default-clause-line : goal.returns-in_default-clause-line
-unfolding IsLineTold
+unfolding IsLineReturned
 returns-in_default-clause-line c =
     inr (inr (
       c.if-page-gt-ALL_EXTENSIONS.false,
@@ -14,7 +14,7 @@ returns-in_default-clause-line c =
     ))
 
 pub returns-clause-line : goal.returns-clause-line
-unfolding IsLineTold
+unfolding IsLineReturned
 returns-clause-line c =
     inr (inr (
       c.if-page-gt-ALL_EXTENSIONS.false,

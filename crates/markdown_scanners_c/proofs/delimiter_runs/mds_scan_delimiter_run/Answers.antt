@@ -4,7 +4,7 @@ use Rattle.std.proofs.lemmas.List.{take_rest, length-take, length-drop, drop-dro
 use Rattle.std.specs.Str.{IsUtf8, IsCharBoundary}
 use Rattle.markdown_scanners_tree.specs.Ascii.{asterisk, underscore}
 use Rattle.markdown_inlines.specs.DelimiterRuns.{IsDelimiterRun}
-use Rattle.markdown_scanners_c.specs.DelimiterRuns.{IsToldRun}
+use Rattle.markdown_scanners_c.specs.DelimiterRuns.{IsReturnedRun}
 use Rattle.markdown_scanners_c.proofs.DelimiterRuns.{IsSameAround, count_of, run_len, around, moved, made_run, same_around, window_text, same_counts}
 use Rattle.markdown_scanners_c.proofs.delimiter_runs.mds_scan_delimiter_run.Goals as goal
 
@@ -56,7 +56,7 @@ same_of bytes place count front back within all byte (inr is) =
     same_counts bytes place count front back within byte (omega (arith, all, ap (λ b. count_of b (drop place bytes)) is))
 
 pub returns-in_default-clause-run : goal.returns-in_default-clause-run
-unfolding IsToldRun
+unfolding IsReturnedRun
 returns-in_default-clause-run c =
     let bytes = c.args.bytes.now in
     let place = c.args.place in
@@ -73,7 +73,7 @@ returns-in_default-clause-run c =
     inr (inside, inr (inl (c.no_run-in_default.ensures, λ utf8. c.in_default.ensures.cases.0 (text utf8))))
 
 pub returns-in-Some-clause-run : goal.returns-in-Some-clause-run
-unfolding IsToldRun
+unfolding IsReturnedRun
 returns-in-Some-clause-run c =
     let bytes = c.args.bytes.now in
     let place = c.args.place in

@@ -2,7 +2,7 @@
 use Rattle.markdown_scanners_c.proofs.HtmlScans.{IsScan, guarded, ends, ends_first, in_turn}
 use Rattle.markdown_scanners_c.proofs.html.mds_scan_inline_html.Goals as goal
 
-scanned : (c : goal.After-end_told)
+scanned : (c : goal.After-end_returned)
     → IsScan c.args.bytes.now c.args.place c.args.guard.now c.of.result c.scan_inline_html_counted-found.result
     c.scan_inline_html_counted-found.new.text
 scanned c =
@@ -19,7 +19,7 @@ scanned c =
 
 pub returns : goal.returns
 returns c =
-    rw (c.end_told.ensures, c.passed.ensures.value) (record {
+    rw (c.end_returned.ensures, c.passed.ensures.value) (record {
       scan = guarded _ _ _ _ _ _ (scanned c);
       finds = ends _ _ _ _ _ _ (scanned c);
       first = ends_first _ _ _ _ _ _ (scanned c);

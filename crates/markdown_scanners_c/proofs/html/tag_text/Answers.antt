@@ -6,7 +6,7 @@ use Rattle.markdown_scanners_c.specs.Buffer.{IsWritten}
 use Rattle.markdown_scanners_c.specs.Skips.{LeavesOut}
 use Rattle.markdown_scanners_c.specs.Tags.{IsTagText}
 use Rattle.markdown_scanners_c.proofs.Buffers.{front_changed, no_refused_place}
-use Rattle.markdown_scanners_c.proofs.TagLemmas.{Told, tag_of_more, tag_too, tag_room, told_is_left_out, left_out_is_told}
+use Rattle.markdown_scanners_c.proofs.TagLemmas.{Returned, tag_of_more, tag_too, tag_room, returned_is_left_out, left_out_is_returned}
 use Rattle.markdown_scanners_c.proofs.html.tag_text.Goals as goal
 
 pub returns-in-Ok-Some : goal.returns-in-Ok-Some
@@ -17,22 +17,22 @@ returns-in-Ok-Some c =
     let source = take_rest bytes c.args.start in
     let found = rw c.in-Ok-Some.field-0-is at c.in-Ok-Some.ensures.found in
     let within = rw c.in-Ok-Some.field-0-is at c.in-Ok-Some.ensures.within in
-    let told : IsKeptTag (Told skips bytes) (drop c.args.start bytes) found.0 =
-    subst (λ s. IsKeptTag (Told skips bytes) s found.0) source
-    (tag_of_more _ (Told skips bytes) (λ rest skip x. subst (λ r. Told skips bytes r skip) x.shows x.says.met) _ found.0 found.1) in
+    let returned : IsKeptTag (Returned skips bytes) (drop c.args.start bytes) found.0 =
+    subst (λ s. IsKeptTag (Returned skips bytes) s found.0) source
+    (tag_of_more _ (Returned skips bytes) (λ rest skip x. subst (λ r. Returned skips bytes r skip) x.shows x.says.met) _ found.0 found.1) in
     let text : c.deref.result.now ≡ tag_buffer found.0 = c.deref.ensures.value ∙ found.2.0 in
     let w = c.write_text-status in
     let written = subst (λ t. IsWritten t c.args.buffer.now w.new.buffer w.result.status w.result.length) text w.ensures.written in
     record {
       tag = λ behind stand. inr (inr (
         found.0,
-        tag_too bytes _ (LeavesOut skips bytes) (told_is_left_out skips bytes behind stand) c.args.start found.0 told,
+        tag_too bytes _ (LeavesOut skips bytes) (returned_is_left_out skips bytes behind stand) c.args.start found.0 returned,
         omega (arith, w.ensures.taken, found.2.1),
         written,
       ));
       there = no_refused_place _ _ _ _ _ written;
       within = omega (arith, w.ensures.taken, within, ap length source, length-drop c.args.start bytes, c.requires);
-      room = omega (arith, w.ensures.taken, written.0, found.2.1, tag_room _ _ found.0 told);
+      room = omega (arith, w.ensures.taken, written.0, found.2.1, tag_room _ _ found.0 returned);
       kept = front_changed _ _ _ _ _ written;
     }
 
@@ -46,10 +46,10 @@ returns-in-Ok-None c =
       tag = λ behind stand. inl (
         c.no_tag.ensures,
         refl,
-        λ tag is. none tag (tag_of_more (Told skips bytes) _
+        λ tag is. none tag (tag_of_more (Returned skips bytes) _
             (λ rest skip e. record { shown = record c.args.bytes { now = rest }; shows = refl; says = record { met = e } })
             (drop c.args.start bytes) tag
-            (tag_too bytes (LeavesOut skips bytes) (Told skips bytes) (left_out_is_told skips bytes behind stand) c.args.start tag is)),
+            (tag_too bytes (LeavesOut skips bytes) (Returned skips bytes) (left_out_is_returned skips bytes behind stand) c.args.start tag is)),
       );
       there = λ past. omega (arith, past, c.no_tag.ensures.0);
       within = omega (arith, c.no_tag.ensures.1);
@@ -63,14 +63,14 @@ returns-in-Err c =
     let bytes = c.args.bytes.now in
     let skips = c.args.skips.now in
     let found = c.in-Err.ensures.memory in
-    let told : IsKeptTag (Told skips bytes) (drop c.args.start bytes) found.0 =
-    subst (λ s. IsKeptTag (Told skips bytes) s found.0) (take_rest bytes c.args.start)
-    (tag_of_more _ (Told skips bytes) (λ rest skip x. subst (λ r. Told skips bytes r skip) x.shows x.says.met) _ found.0 found.1) in
+    let returned : IsKeptTag (Returned skips bytes) (drop c.args.start bytes) found.0 =
+    subst (λ s. IsKeptTag (Returned skips bytes) s found.0) (take_rest bytes c.args.start)
+    (tag_of_more _ (Returned skips bytes) (λ rest skip x. subst (λ r. Returned skips bytes r skip) x.shows x.says.met) _ found.0 found.1) in
     record {
       tag = λ behind stand. inr (inl (
         c.no_tag-in-Err.ensures,
         refl,
-        (found.0, tag_too bytes _ (LeavesOut skips bytes) (told_is_left_out skips bytes behind stand) c.args.start found.0 told, found.2),
+        (found.0, tag_too bytes _ (LeavesOut skips bytes) (returned_is_left_out skips bytes behind stand) c.args.start found.0 returned, found.2),
       ));
       there = λ past. omega (arith, past, c.no_tag-in-Err.ensures.0);
       within = omega (arith, c.no_tag-in-Err.ensures.1);
@@ -83,11 +83,11 @@ scan_html_block_inner-requires c = record {
   callable = search (rules, of_calls);
   steady = record {
     one_answer = λ rest m n a b.
-        (let one = subst (λ r. Told c.args.skips.now c.args.bytes.now r m) a.shows a.says.met in
-        let other = subst (λ r. Told c.args.skips.now c.args.bytes.now r n) b.shows b.says.met in
+        (let one = subst (λ r. Returned c.args.skips.now c.args.bytes.now r m) a.shows a.says.met in
+        let other = subst (λ r. Returned c.args.skips.now c.args.bytes.now r n) b.shows b.says.met in
         one ∙ sym other);
     inside = λ rest n a.
-        (let told = subst (λ r. Told c.args.skips.now c.args.bytes.now r n) a.shows a.says.met in
-        omega (arith, told));
+        (let returned = subst (λ r. Returned c.args.skips.now c.args.bytes.now r n) a.shows a.says.met in
+        omega (arith, returned));
   };
 }

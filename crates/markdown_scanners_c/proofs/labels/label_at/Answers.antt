@@ -7,8 +7,8 @@ use Rattle.markdown_scanners_tree.specs.linklabel.Answer.{answered_label}
 use Rattle.markdown_scanners_tree.specs.linklabel.Label.{IsLabel}
 use Rattle.markdown_scanners_tree.proofs.ForCallers.{label_of_more}
 use Rattle.markdown_scanners_c.specs.Labels.{IsLabelText, IsStart}
-use Rattle.markdown_scanners_c.specs.private.LabelText.{told_ascii, ToldAscii}
-use Rattle.markdown_scanners_c.proofs.LabelLemmas.{given_length, label_changed, no_refused_label, started, told_front, label_of_told, label_as_told}
+use Rattle.markdown_scanners_c.specs.private.LabelText.{returned_ascii, ReturnedAscii}
+use Rattle.markdown_scanners_c.proofs.LabelLemmas.{given_length, label_changed, no_refused_label, started, returned_front, label_of_returned, label_as_returned}
 use Rattle.markdown_scanners_c.proofs.labels.label_at.Goals as goal
 
 pub returns-in-Ok-Some : goal.returns-in-Ok-Some
@@ -24,9 +24,9 @@ returns-in-Ok-Some c =
     let room = rw c.in-Ok-Some.field-0-is at c.in-Ok-Some.ensures.room in
     let slice = rw (c.in-Ok-Some.field-0-is, source) at c.in-Ok-Some.ensures.slice in
     let label = answered_label (c.in-Ok-Some.taken, c.in-Ok-Some.label) in
-    let told : IsLabel (ToldAscii skips bytes) (drop start bytes) t label =
-    label_of_more _ (ToldAscii skips bytes)
-    (λ rest skip x. ap (told_ascii skips bytes) (sym x.shows) ∙ sym x.says.met) (drop start bytes) t label found.0 in
+    let returned : IsLabel (ReturnedAscii skips bytes) (drop start bytes) t label =
+    label_of_more _ (ReturnedAscii skips bytes)
+    (λ rest skip x. ap (returned_ascii skips bytes) (sym x.shows) ∙ sym x.says.met) (drop start bytes) t label found.0 in
     let place = rw source at c.start_of-place.ensures in
     let starts : IsStart bytes label c.start_of-place.result =
     started bytes start c.requires.within label c.in-Ok-Some.taken c.start_of-place.result (is_borrowed c.in-Ok-Some.label) refl
@@ -36,7 +36,7 @@ returns-in-Ok-Some c =
     record {
       label = λ behind stand ascii. inr (inr (
         label,
-        (label_of_told skips bytes behind stand ascii start t label told, found.1),
+        (label_of_returned skips bytes behind stand ascii start t label returned, found.1),
         omega (arith, w.ensures.taken),
         starts,
         given,
@@ -57,10 +57,10 @@ returns-in-Ok-None-clause-label c behind stand ascii =
       c.no_label.ensures,
       refl,
       λ label is. none label (
-        label_of_more (ToldAscii skips bytes) _
-            (λ rest skip told. record { shown = record c.args.bytes { now = rest }; shows = refl; says = record { met = sym told } })
+        label_of_more (ReturnedAscii skips bytes) _
+            (λ rest skip returned. record { shown = record c.args.bytes { now = rest }; shows = refl; says = record { met = sym returned } })
             (drop c.args.start bytes) c.args.is_in_table label
-            (label_as_told skips bytes behind stand ascii c.args.start c.args.is_in_table label is.0),
+            (label_as_returned skips bytes behind stand ascii c.args.start c.args.is_in_table label is.0),
         is.1,
       ),
     )
@@ -78,17 +78,17 @@ returns-in-Err-clause-label c behind stand ascii =
       c.no_label-in-Err.ensures,
       refl,
       (λ none. false≢true (no_label (λ label is. none label (
-        label_of_told skips bytes behind stand ascii start c.args.is_in_table label
-            (label_of_more _ (ToldAscii skips bytes)
-            (λ rest skip x. ap (told_ascii skips bytes) (sym x.shows) ∙ sym x.says.met) (drop start bytes) c.args.is_in_table
+        label_of_returned skips bytes behind stand ascii start c.args.is_in_table label
+            (label_of_more _ (ReturnedAscii skips bytes)
+            (λ rest skip x. ap (returned_ascii skips bytes) (sym x.shows) ∙ sym x.says.met) (drop start bytes) c.args.is_in_table
             label is.0),
         is.1,
       )))),
       (λ label is plain. false≢true (borrowed label (
-        label_of_more (ToldAscii skips bytes) _
-            (λ rest skip told. record { shown = record c.args.bytes { now = rest }; shows = refl; says = record { met = sym told } })
+        label_of_more (ReturnedAscii skips bytes) _
+            (λ rest skip returned. record { shown = record c.args.bytes { now = rest }; shows = refl; says = record { met = sym returned } })
             (drop start bytes) c.args.is_in_table label
-            (label_as_told skips bytes behind stand ascii start c.args.is_in_table label is.0),
+            (label_as_returned skips bytes behind stand ascii start c.args.is_in_table label is.0),
         is.1,
       ) plain)),
     ))
@@ -97,8 +97,8 @@ pub scan_link_label_bytes-requires : goal.scan_link_label_bytes-requires
 scan_link_label_bytes-requires c = record {
   callable = search (rules, of_calls);
   steady = record {
-    one_answer = λ rest a b x y. x.says.met ∙ ap (told_ascii c.args.skips.now c.args.bytes.now) (x.shows ∙ sym y.shows) ∙ sym y.says.met;
-    inside = λ rest skip x. told_front c.args.skips.now c.args.bytes.now rest skip
-        (ap (told_ascii c.args.skips.now c.args.bytes.now) (sym x.shows) ∙ sym x.says.met);
+    one_answer = λ rest a b x y. x.says.met ∙ ap (returned_ascii c.args.skips.now c.args.bytes.now) (x.shows ∙ sym y.shows) ∙ sym y.says.met;
+    inside = λ rest skip x. returned_front c.args.skips.now c.args.bytes.now rest skip
+        (ap (returned_ascii c.args.skips.now c.args.bytes.now) (sym x.shows) ∙ sym x.says.met);
   };
 }

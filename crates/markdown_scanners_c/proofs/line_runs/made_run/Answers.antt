@@ -78,8 +78,8 @@ module _ (c : goal.After-status_of) where
       ∙ run_ends c.loop-index.line c.loop-index.breaks _ (map line_call (drop (at + 1) calls)) c.in-Err.reason
       c.loop-index.invariant.0 (rw c.line_call.ensures at c.in-Err.ensures.refused)
 
-pub returns-in-Err-clause-told : goal.returns-in-Err-clause-told
-returns-in-Err-clause-told c sure =
+pub returns-in-Err-clause-returned : goal.returns-in-Err-clause-returned
+returns-in-Err-clause-returned c sure =
     let i = c.loop-index.invariant in
     rw (ended c sure) (
       c.status_of.ensures,

@@ -37,7 +37,7 @@ module _ (c : goal.After-learn) where
       c.learn.new.self c.args.answers.now c.made_run-ends.new.answers c.made_run-ends.result
   made sure = record {
     answers = subst (λ (run : StateRun). AreAnswers run.answers run.stop c.args.answers.now
-        c.made_run-ends.new.answers c.made_run-ends.result) same (c.made_run-ends.ensures.told sure);
+        c.made_run-ends.new.answers c.made_run-ends.result) same (c.made_run-ends.ensures.returned sure);
     state = left ∙ c.made_run-ends.ensures.state sure ∙ ap (λ (run : StateRun). run.state) same;
     known = c.learn.ensures.breaks ∙ c.made_run-ends.ensures.known sure
         ∙ ap (λ (run : StateRun). run.known) same;
@@ -83,12 +83,12 @@ returns-clause-front c can front =
     let new = c.made_run-ends.new.answers in
     let first = state_run (start_of bytes) (known_breaks start) calls in
     let plain = plain_run bytes calls in
-    let Told : List LineAnswer → Option LineStop → Type 0 =
+    let Returned : List LineAnswer → Option LineStop → Type 0 =
     λ answers stop. AreAnswers answers stop c.args.answers.now new c.made_run-ends.result in
-    let told : Told first.answers first.stop =
-    subst (λ (it : StateRun). Told it.answers it.stop) runs run.answers in
+    let returned : Returned first.answers first.stop =
+    subst (λ (it : StateRun). Returned it.answers it.stop) runs run.answers in
     record {
-      answers = subst (λ it. Told plain.answers it) alike.1 (subst (λ it. Told it first.stop) alike.0 told);
+      answers = subst (λ it. Returned plain.answers it) alike.1 (subst (λ it. Returned it first.stop) alike.0 returned);
       rest = ap rest_of state ∙ alike.2;
       scanned = ap (λ (s : LineState). s.place) state ∙ alike.3;
     }

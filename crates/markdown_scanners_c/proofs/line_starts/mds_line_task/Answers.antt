@@ -2,7 +2,7 @@ use Rattle.std.proofs.Common.{◌≡◌, ◌≤◌, ap, sym, subst, ◌∙◌}
 use Rattle.markdown_scanners_tree.specs.line.Outcome.{task_outcome}
 use Rattle.markdown_scanners_tree.specs.line.State.{LineState}
 use Rattle.markdown_scanners_tree.proofs.ForCallers.{task_forward}
-use Rattle.markdown_scanners_c.specs.LineStarts.{IsNext, state_on, task_told}
+use Rattle.markdown_scanners_c.specs.LineStarts.{IsNext, state_on, task_returned}
 use Rattle.markdown_scanners_c.proofs.line_starts.mds_line_task.Goals as goal
 
 module _ (c : goal.After-task_of) where
@@ -18,7 +18,7 @@ module _ (c : goal.After-task_of) where
 pub returns-clause-answer : goal.returns-clause-answer
 returns-clause-answer c is =
     c.task_of.ensures
-    ∙ ap task_told (c.scan_task_list_marker-checked.ensures.answer
+    ∙ ap task_returned (c.scan_task_list_marker-checked.ensures.answer
     ∙ ap (λ s. (task_outcome s).answer) c.in-Some.ensures.state)
 
 pub returns-clause-state : goal.returns-clause-state

@@ -27,7 +27,7 @@ loop-texts-preserved c = λ later gives.
       whole.0,
       whole.1,
       whole.2 ∙ sym (append_assoc events (event_record (length texts) event ∷ []) later_records)
-          ∙ ap (λ es. es ++ later_records) (sym c.in_ok-add_event.ensures.told)
+          ∙ ap (λ es. es ++ later_records) (sym c.in_ok-add_event.ensures.returned)
           ∙ ap (λ n. c.add_event.new.events.items ++ records_from n later) behind,
       whole.3 ∙ sym (append_assoc texts words (texts_of later))
           ∙ ap (λ ts. ts ++ texts_of later) (sym c.in_ok-add_event.ensures.words),

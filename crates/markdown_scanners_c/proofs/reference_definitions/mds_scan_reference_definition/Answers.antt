@@ -6,7 +6,7 @@ use Rattle.std.specs.Str.{IsUtf8}
 use Rattle.std.specs.declared.ops.Range.{Range}
 use Rattle.markdown_scanners_tree.specs.scanners.reference_definitions.ReferenceDefinition.{IsReferenceDefinition, IsCutAt}
 use Rattle.markdown_scanners_c.specs.Answers.{none}
-use Rattle.markdown_scanners_c.specs.ReferenceDefinitions.{IsToldDefinition, IsRangeAt, IsTitleAt, IsCutOut}
+use Rattle.markdown_scanners_c.specs.ReferenceDefinitions.{IsReturnedDefinition, IsRangeAt, IsTitleAt, IsCutOut}
 use Rattle.markdown_scanners_c.specs.TextPlace.{IsTextPlace}
 use Rattle.markdown_scanners_c.proofs.Parts.{place_in}
 use Rattle.markdown_scanners_c.proofs.reference_definitions.mds_scan_reference_definition.Goals as goal
@@ -25,7 +25,7 @@ module _ (start : ℕ) (bytes rest : List ℕ) (same : rest ≡ drop start bytes
   cut_title (Some range) from count is cut some = cut_range range from count is cut
 
 pub returns-in_default-clause-definition : goal.returns-in_default-clause-definition
-unfolding IsToldDefinition
+unfolding IsReturnedDefinition
 returns-in_default-clause-definition c =
     let rest = take_rest c.args.bytes.now c.args.start in
     inr (

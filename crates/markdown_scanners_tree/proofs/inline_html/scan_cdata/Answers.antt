@@ -30,7 +30,7 @@ returns-then-place-guard c =
       counts = scan-counts text c.starts-begins.new.self _ scan begins.counts refl;
     })
 
--- the search behind the opening
+-- the search after the opening
 pub returns-in_err-hit : goal.returns-in_err-hit
 returns-in_err-hit c =
     let text = c.args.text.now in

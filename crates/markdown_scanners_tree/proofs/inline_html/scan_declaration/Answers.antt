@@ -14,7 +14,7 @@ returns-then-place-guard c =
       counts = scan-counts text text 0 scan (passing-none text) (omega arith);
     })
 
--- the search behind the letter
+-- the search after the letter
 pub returns-in_err-hit-clause-counts : goal.returns-in_err-hit-clause-counts
 returns-in_err-hit-clause-counts c =
     let text = c.args.text.now in

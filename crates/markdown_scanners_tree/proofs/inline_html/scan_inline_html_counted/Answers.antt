@@ -1,4 +1,4 @@
--- What begins at the place is told by the mark.
+-- What begins at the place is given by the mark.
 use Rattle.std.proofs.Common.{◌≡◌, None, Some, sym, ap, ◌∙◌, arith}
 use Rattle.markdown_scanners_tree.specs.inline_html.Guard.{is_stopped}
 use Rattle.markdown_scanners_tree.specs.inline_html.InlineHtml.{Begins, Processing, declared_at}

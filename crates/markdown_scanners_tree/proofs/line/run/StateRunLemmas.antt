@@ -50,7 +50,7 @@ written_inside b c k w later inside =
           )
     ]
 
--- What is written out from a column on, behind a byte at a lower one.
+-- What is written out from a column on, after a byte at a lower one.
 written_behind : (b : ℕ) (bs : List ℕ) (c k : ℕ) → c < k → is_line_ending b ≡ false →
     let after = column_after c b in
     let left = bytes_below after bs k in
@@ -78,7 +78,7 @@ written_behind b bs c k later goes more =
           )
     ])
 
--- What is written out from a column on: the spaces that are left of a tab, and what the bytes behind it are written
+-- What is written out from a column on: the spaces that are left of a tab, and what the bytes after it are written
 -- out to.
 written_from : (bs : List ℕ) (c k : ℕ) → c ≤ k → k ≤ head_end c bs →
     let m = bytes_below c bs k in

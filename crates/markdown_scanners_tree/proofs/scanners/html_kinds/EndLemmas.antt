@@ -68,7 +68,7 @@ module _ (test : List ℕ → Bool) where
         here b bs (none_here b bs (none 0 (omega arith) (omega arith)))
         ∙ somewhere_behind bs k (omega arith) (λ j low high. none (suc j) (omega arith) (omega arith))
 
--- `>` stands behind the name that was found
+-- `>` stands after the name that was found
 abbrev at_name : Option ℕ → List ℕ → Bool
 at_name found bytes = elim found [ Some n ↦ begins_with (λ b. b == 62) (drop n bytes) | None ↦ false ]
 

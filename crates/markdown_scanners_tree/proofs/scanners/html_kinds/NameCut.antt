@@ -1,4 +1,4 @@
--- The first bytes behind `<` tell whether a block name stands there.
+-- The first bytes after `<` tell whether a block name stands there.
 use Rattle.std.proofs.Common.{ℕ, zero, suc, List, [], ◌∷◌, ◌++◌, ◌+◌, ◌-◌, ◌<◌, ◌≤◌, ◌≡◌, ◌⊎◌, ◌↔◌, inl, inr}
 use Rattle.std.proofs.Common.{Bool, true, IsTrue, length, take, drop, map, min, get_or, refl, sym, ap, ◌∙◌, subst, arith, append_assoc, length-append}
 use Rattle.std.specs.Prelude.{codes, nat_le}
@@ -81,9 +81,9 @@ module _ (bytes : List ℕ) where
         ended = ends_with_less b.rest more ∙ b.ended;
       }
 
-  pub told_by_front : (told : Bool) (cut : List ℕ) → cut ≡ take 13 bytes → (IsTrue told ↔ IsBlockStart cut)
-      → IsTrue told ↔ IsBlockStart bytes
-  told_by_front told cut is tells = (
+  pub given_by_front : (given : Bool) (cut : List ℕ) → cut ≡ take 13 bytes → (IsTrue given ↔ IsBlockStart cut)
+      → IsTrue given ↔ IsBlockStart bytes
+  given_by_front given cut is tells = (
     λ t. whole (subst IsBlockStart is (tells.0 t)),
     λ b. tells.1 (subst IsBlockStart (sym is) (front b)),
   )

@@ -29,7 +29,7 @@ named_raw_text = refl
 named_otherwise : begins_with_raw_name ends_tag_name (codes "pre-x>") ≡ false
 named_otherwise = refl
 
--- a closing tag has no name directly behind its `<`
+-- a closing tag has no name directly after its `<`
 closing_is_other : begins_with_raw_name ends_tag_name (codes "/pre>") ≡ false
 closing_is_other = refl
 

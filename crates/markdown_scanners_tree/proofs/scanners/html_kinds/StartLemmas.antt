@@ -315,7 +315,7 @@ marked_interruption rest some = by (marked_kind rest) refl some
     by None is some = cc
     by (Some k) is some = (k, marked_start rest k is, marked_low rest k is)
 
--- what stands behind the `<` that was found
+-- what stands after the `<` that was found
 pub behind_opener : (bytes rest : List ℕ) → begins_with_text (codes "<") bytes ≡ true → rest ≡ drop 1 bytes
     → bytes ≡ 60 ∷ rest
 behind_opener [] rest opened is = cc

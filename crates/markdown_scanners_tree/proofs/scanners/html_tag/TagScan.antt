@@ -379,7 +379,7 @@ scan_reads_on answers source place kept endings n from to s low inside l =
     scan_reads answers source endings n place kept from to s (omega arith)
     (subst (λ z. LeadsTo from (take n z) to) (from_place source place) l)
 
--- a line ends with the byte at the place, by what stands behind it
+-- a line ends with the byte at the place, by what stands after it
 pub ends_at : (source : List ℕ) (place : ℕ) → place < length source
     → ends_source_line (take (length source - place) (drop place source))
     ≡ ends_source_line (get_or source place 0 ∷ take (length source - (place + 1)) (drop (place + 1) source))

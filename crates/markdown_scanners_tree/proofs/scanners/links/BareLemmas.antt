@@ -78,7 +78,7 @@ abbrev pub head_of : List (List ℕ) → List ℕ
 head_of [] = []
 head_of (u ∷ us) = u
 
--- the destination goes on behind a unit exactly as it goes on after it
+-- the destination goes on after a unit exactly as it goes on after it
 pub step_forth : (most d d' n : ℕ) (t t' u : List ℕ) → units t ≡ u ∷ units t' → stands_bare u ≡ true → Turns u d d'
     → d ≤ most
     → IsBareFrom most d' t' n → IsBareFrom most d t (length u + n)
@@ -175,7 +175,7 @@ left_open most d n t open' stop is = go is.inner is.splits is.each_stands is.bal
       false≢true (sym stop ∙ (ap stands_bare (ap head_of splits)
       ∙ (both_true (stands_bare v) (list_all stands_bare inner) made).0))
 
--- After i bytes, behind `depth` open parentheses: the whole text's destinations are those of the
+-- After i bytes, after `depth` open parentheses: the whole text's destinations are those of the
 -- rest.
 pub record IsBareSoFar (most depth i : ℕ) (bytes : List ℕ) : Type 0 where
   pub within : i ≤ length bytes
@@ -199,7 +199,7 @@ so_far_more most d d' i j bytes u is first long in' stands turns low = record {
       (new.0, omega (arith, old.1, new.1, long), new.2);
 }
 
--- whether the byte ends a destination behind d open parentheses
+-- whether the byte ends a destination after d open parentheses
 abbrev ends_at : ℕ → ℕ → Bool
 ends_at b d = leb b space || (eqb b right_parenthesis && eqb d 0)
 

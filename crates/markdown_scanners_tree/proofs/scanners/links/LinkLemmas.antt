@@ -209,7 +209,7 @@ pub cut_at_end : (bytes : List ℕ) (n : ℕ) → n ≤ length bytes → (n < le
     → IsCharBoundary bytes n
 cut_at_end bytes n within ascii = (within, λ inside high. absurd (omega (arith, ascii inside, high)))
 
--- a byte of what stands behind the first byte
+-- a byte of what stands after the first byte
 pub byte_behind : (bytes : List ℕ) (n byte : ℕ) → n < length (take (length bytes - 1) (drop 1 bytes))
     → get_or (take (length bytes - 1) (drop 1 bytes)) n 0 ≡ byte
     → (1 + n < length bytes) × (get_or bytes (1 + n) 0 ≡ byte)

@@ -43,7 +43,7 @@ deep_row n is =
 empty_row : IsBareFrom 1 0 [] 0
 empty_row = bare_here 1 [] refl
 
--- `<ab:>` behind its `<`
+-- `<ab:>` after its `<`
 autolink_row : IsUriAutolink (codes "ab:>") (codes "ab:")
 autolink_row = record {
   scheme = codes "ab";

@@ -30,7 +30,7 @@ begun_by : (b : ℕ) (text : List ℕ) → begins_with (λ c. c == b) text ≡ t
 begun_by b [] first = cc
 begun_by b (c ∷ text) first = ap (λ x. x ∷ text) (eqb-true c b first)
 
--- a list behind one more element
+-- a list after one more element
 get_or-behind : (x : ℕ) (xs : List ℕ) (n : ℕ) → 1 ≤ n → get_or (x ∷ xs) n 0 ≡ get_or xs (n - 1) 0
 get_or-behind x xs zero some = absurd (omega (arith, some))
 get_or-behind x xs (suc n) some = (let e : n ≡ suc n - 1 = omega arith in ap (λ k. get_or xs k 0) e)
@@ -68,7 +68,7 @@ module _ (bytes inside : List ℕ) (opens : bytes ≡ 91 ∷ inside) where
         sym (ap (begins_with (λ b. b == 58)) here) ∙ (ap (begins_with (λ b. b == 58)) (sym (from_place inside n)) ∙ other) in
         cc
 
-    -- the cuts behind the opening bracket, before the closing one, and behind the colon
+    -- the cuts after the opening bracket, before the closing one, and after the colon
     pub cut_opened : IsUtf8 bytes → IsCharBoundary bytes 1
     cut_opened utf8 =
         cut_behind bytes 0 1 (omega arith) utf8 (omega (arith, ap length opens)) (omega (arith, ap (λ t. get_or t 0 0) opens))
@@ -133,7 +133,7 @@ raw_place most text taken start end (inr is) (inr inner) within some =
       length-take taken text,
     ))
 
--- What a definition begins with, behind a label with its colon.
+-- What a definition begins with, after a label with its colon.
 module _ (most : ℕ) (bytes : List ℕ) (named gap : ℕ) (is_named : IsLabelWithColon bytes named)
     (gap_is : gap ≡ gap_length (take (length bytes - named) (drop named bytes))) where
   -- what a scan of a destination is given
@@ -184,7 +184,7 @@ module _ (most : ℕ) (bytes : List ℕ) (named gap : ℕ) (is_named : IsLabelWi
         destination_ends = omega (arith, place.1);
       }
 
--- A title behind the destination that ends at a place.
+-- A title after the destination that ends at a place.
 module _ (bytes : List ℕ) (place gap : ℕ) (gap_is : gap ≡ gap_length (take (length bytes - place) (drop place bytes))) where
   -- what a scan of a title is given
   abbrev from_title : List ℕ

@@ -259,7 +259,7 @@ one_rest_of_line bytes n n' is is' =
     let ending : is.ending ≡ is'.ending = cc in
     omega (arith, is.counted, is'.counted, ap length same.0, ending)
 
--- A text may be cut behind a gap and behind the rest of a line, whose bytes are ASCII.
+-- A text may be cut after a gap and after the rest of a line, whose bytes are ASCII.
 abbrev is_ascii_byte : ℕ → Bool
 is_ascii_byte b = nat_lt b 128
 
@@ -299,7 +299,7 @@ ending_ascii (b ∷ bs) ending is = elim (cases_Bool (b == 10)) [
           )
     ]
 
--- ASCII bytes behind an ASCII front
+-- ASCII bytes after an ASCII front
 front_longer : (text : List ℕ) (m n : ℕ) → IsAsciiFront text m → IsAsciiFront (drop m text) n → IsAsciiFront text (m + n)
 front_longer text m n front further = (
   omega (arith, front.0, further.0, length-drop m text),

@@ -61,7 +61,7 @@ no_row bytes none n alignments it =
     (row_pipe it.piped it.cells it.last it.some_pipe) it.ends in
     false≢true (sym none ∙ ap is_passed at ∙ made)
 
--- what may be a row has a pipe in front of its cells or behind one
+-- what may be a row has a pipe in front of its cells or after one
 no_pipe : (bytes : List ℕ) → list_all is_cell_byte bytes ≡ true → list_any is_pipe bytes ≡ false
 no_pipe [] all = refl
 no_pipe (b ∷ bytes) all =

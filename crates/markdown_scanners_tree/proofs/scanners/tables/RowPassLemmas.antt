@@ -83,7 +83,7 @@ pub passed_len-row : (piped : Bool) (cells : List (List ℕ)) (last rest : List 
 passed_len-row true cells last rest ending all all' ends = ap suc (passed_len-last cells last rest ending all all' ends)
 passed_len-row false cells last rest ending all all' ends = passed_len-last cells last rest ending all all' ends
 
--- Bytes that are passed to their end, a pipe among them, are told by the pass.
+-- Bytes that are passed to their end, a pipe among them, are given by the pass.
 pub made_row : (row rest : List ℕ) (ending : ℕ) (piped : Bool) → begins_with is_pipe (row ++ rest) ≡ piped
     → passed_len piped (row ++ rest) ≡ length row → list_any is_pipe row ≡ true → line_ending rest ≡ Some ending
     → is_passed (row ++ rest) ≡ true
@@ -91,7 +91,7 @@ made_row row rest ending piped begins passed some ends =
     let run : row_len (row ++ rest) ≡ length row = rw begins passed in
     rw (run, drop-append_seam row rest, take-append_seam row rest, ends, some) refl
 
--- What is passed are bytes of a row, and all of them where none stands behind it.
+-- What is passed are bytes of a row, and all of them where none stands after it.
 passed-row_byte : (hyphen : Bool) (b : ℕ) (next : Bool) → hyphen_after hyphen b ≡ Some next → is_row_byte b ≡ true
 passed-row_byte hyphen b next e = elim (cases_Bool (is_pipe b)) [
   | inl pipe ↦ rw pipe (or_right (is_cell_byte b) true refl)

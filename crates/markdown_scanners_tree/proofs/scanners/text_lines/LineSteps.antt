@@ -43,7 +43,7 @@ plain_length b bs plain = rw (plain, one-add) (by (length (line_head bs)) _)
     by : (n m : ℕ) → suc n + m ≡ suc (n + m)
     by n m = omega arith
 
--- what is told of the first line
+-- what is given of the first line
 FirstLine : List ℕ → Type 0
 FirstLine bytes = lines_of bytes ≡ take (line_length bytes) bytes ∷ lines_of (drop (line_length bytes) bytes)
 

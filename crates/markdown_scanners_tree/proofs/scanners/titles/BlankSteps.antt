@@ -57,7 +57,7 @@ blank_at (b ∷ bs) = elim (cases_Bool (is_white_space_in_line b)) [
 marked : (b : ℕ) (bs : List ℕ) → IsMark b → is_blank (b ∷ bs) ≡ false
 marked b bs mark = blank_plain b bs mark.no_ending ∙ ap (λ x. x && is_blank bs) mark.no_space
 
--- what stands behind a mark says nothing of the line before it
+-- what stands after a mark says nothing of the line before it
 pub blank_cut : (mark : ℕ) → IsMark mark → (front rest : List ℕ)
     → is_blank (front ++ mark ∷ rest) ≡ is_blank (front ++ mark ∷ [])
 blank_cut mark is [] rest = marked mark rest is ∙ sym (marked mark [] is)
@@ -102,7 +102,7 @@ first_blank (b ∷ bs) = elim (cases_Bool (ends_line (b ∷ bs))) [
   go [] same = same_blank b [] bs same
   go (line ∷ lines) same = same_blank b line bs same
 
--- a byte that ends no line, and one behind which a line begins that is not blank
+-- a byte that ends no line, and one after which a line begins that is not blank
 pub filled_on : (b : ℕ) (bs : List ℕ) → ends_line (b ∷ bs) ≡ false
     → later_lines_filled (b ∷ bs) ≡ later_lines_filled bs
 filled_on b bs goes =
@@ -122,7 +122,7 @@ filled_ended b bs ends filled =
       go [] first = refl
       go (line ∷ lines) first = ap (λ x. not x && list_all is_filled lines) first
 
--- a byte behind which a blank line begins
+-- a byte after which a blank line begins
 pub not_filled : (b : ℕ) (bs : List ℕ) → ends_line (b ∷ bs) ≡ true → is_blank bs ≡ true → 0 < length bs
     → later_lines_filled (b ∷ bs) ≡ true → ⊥
 not_filled b bs ends blank some filled =
@@ -134,7 +134,7 @@ not_filled b bs ends blank some filled =
       go (line ∷ lines) first joined all =
           false≢true (sym (ap not first) ∙ (both_true (is_filled line) (list_all is_filled lines) all).0)
 
--- behind a mark each line is filled where each but the first is
+-- after a mark each line is filled where each but the first is
 pub all_filled : (b : ℕ) (bs : List ℕ) → IsMark b → later_lines_filled bs ≡ true
     → list_all is_filled (lines_of (b ∷ bs)) ≡ true
 all_filled b bs mark filled =

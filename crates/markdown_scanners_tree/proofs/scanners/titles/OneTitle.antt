@@ -1,4 +1,4 @@
--- A link title and what stands behind its opening; a text begins with one title at most.
+-- A link title and what stands after its opening; a text begins with one title at most.
 use Rattle.std.proofs.Common.{◌≡◌, ℕ, ◌+◌, ◌==◌, not, true, false, List, [], ◌∷◌, ◌++◌, length, take, drop, get_or, refl, ap, ◌∙◌, sym, subst, arith, Some, append_assoc}
 use Rattle.std.specs.List.{concat, list_all}
 use Rattle.std.proofs.lemmas.List.{length-append, take_at}

@@ -46,7 +46,7 @@ blank_with_returns :
     ≡ false
 blank_with_returns = refl
 
--- a parenthesis stands behind a backslash alone
+-- a parenthesis stands after a backslash alone
 nested_row : stands_in_title left_parenthesis right_parenthesis (codes "(") ≡ false
 nested_row = refl
 

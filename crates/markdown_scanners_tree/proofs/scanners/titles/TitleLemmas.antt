@@ -201,9 +201,9 @@ title_single opening closing i bytes mark is in' plain no_closing no_opening fin
 pub title_plain : (opening closing i : ℕ) (bytes : List ℕ) → closing_of opening ≡ Some closing
     → IsTitleSoFar opening closing i bytes → i < length bytes → get_or bytes i 0 ≢ closing
     → is_in_destination (get_or bytes i 0) ≡ true → IsTitleSoFar opening closing (i + 1) bytes
-title_plain opening closing i bytes matching is in' no_closing told =
+title_plain opening closing i bytes matching is in' no_closing given =
     let b = get_or bytes i 0 in
-    let plain = in_destination b told in
+    let plain = in_destination b given in
     let no_opening : b ≢ opening = λ e. elim (around opening closing matching) [
       | inl quotes ↦ no_closing (e ∙ quotes.0)
       | inr parens ↦ plain.no_open (e ∙ parens.0)
@@ -256,7 +256,7 @@ title_reopened opening closing i bytes is in' plain other again n there =
     let first = split_single opening closing i n bytes is in' plain other there in
     false≢true (sym (ap (λ x. not (x || b == closing)) (eq-eqb b opening again)) ∙ first.stands)
 
--- a blank line behind the byte: no title
+-- a blank line after the byte: no title
 pub title_blank : (opening closing i : ℕ) (bytes : List ℕ) → IsMark closing → IsTitleSoFar opening closing i bytes
     → i < length bytes → starts_escape (drop i bytes) ≡ false → get_or bytes i 0 ≢ closing
     → is_before_blank_line (drop i bytes) ≡ true → (n : ℕ) → IsTitleFrom opening closing bytes n → ⊥

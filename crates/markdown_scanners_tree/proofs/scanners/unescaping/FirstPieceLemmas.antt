@@ -309,7 +309,7 @@ pair_plain t known text n within few first second (suc zero) in' =
     (ap begins_change (get_or-drop 1 text 0 0) ∙ second (omega (arith, in')))
 pair_plain t known text n within few first second (suc (suc k)) in' = absurd (omega (arith, in', few))
 
--- the bytes from `#` on, of which one may be behind it
+-- the bytes from `#` on, of which one may be after it
 number_byte : (text : List ℕ) (n : ℕ) → get_or text 1 0 ≡ number_sign → n ≤ 2
     → (1 < n → begins_change (get_or (drop 1 text) 1 0) ≡ false) → (k : ℕ) → k < n
     → begins_change (get_or text (suc k) 0) ≡ false
@@ -318,7 +318,7 @@ number_byte text n number few third (suc zero) in' =
     sym (ap begins_change (get_or-drop 1 text 1 0)) ∙ third (omega (arith, in'))
 number_byte text n number few third (suc (suc k)) in' = absurd (omega (arith, in', few))
 
--- a byte that means itself, `#` behind it, and maybe one more that begins no change
+-- a byte that means itself, `#` after it, and maybe one more that begins no change
 pub number_plain : (t : Bool) (known : Lookup) (text : List ℕ) (n : ℕ) → IsFirstPiece t known text 1 0 []
     → get_or text 1 0 ≡ number_sign
     → n ≤ length (take (length text - 1) (drop 1 text)) → n ≤ 2
@@ -344,7 +344,7 @@ plain_alphanumeric b made =
       ne_eqb b carriage_return (other carriage_return refl),
     ) refl
 
--- where no reference stands at `&`, it means itself, and so do the letters and digits behind it
+-- where no reference stands at `&`, it means itself, and so do the letters and digits after it
 pub name_plain : (t : Bool) (known : Lookup) (text : List ℕ) (n : ℕ) → 0 < length text → get_or text 0 0 ≡ ampersand
     → ((k : ℕ) (meaning : List ℕ) → ¬ StartsWithReference known text k meaning)
     → n ≡ prefix_len is_alphanumeric (drop 1 text) → ArePlain t known text (n + 1)

@@ -221,7 +221,7 @@ module _ (in_table : Bool) (known : Lookup) (text : List ℕ) (i dropped inserte
       let whole : i ≡ length text = omega (arith, is.within, past) in
       omega (arith, all, is.counted, whole)
 
--- After i bytes: what the pieces of the text mean, behind `base`, is `out`, the bytes from `run` to
+-- After i bytes: what the pieces of the text mean, after `base`, is `out`, the bytes from `run` to
 -- i, and what the pieces of the rest mean.
 pub record IsBuilt (in_table : Bool) (known : Lookup) (text : List ℕ) (i run : ℕ) (base : List ℕ) (base_len : ℕ)
     (out : List ℕ) (out_len : ℕ) : Type 0 where

@@ -21,7 +21,7 @@ continued byte = if is_between 128 191 byte then 1 else 0
 abbrev pub due_len : Bool → ℕ
 due_len is_due = if is_due then 1 else 0
 
--- a word ends, and a word begins behind it, with white space between
+-- a word ends, and a word begins after it, with white space between
 abbrev pub due_after : ℕ → ℕ → Bool
 due_after end place = nat_lt 0 end && nat_lt end place
 
@@ -33,7 +33,7 @@ due_text is_due = if is_due then space ∷ [] else []
 abbrev pub space_len : Bool → Bool → ℕ
 space_len has_word in_run = due_len (has_word && in_run)
 
--- how many white space adds to a text: the space behind a word
+-- how many white space adds to a text: the space after a word
 abbrev pub gap_len : Bool → Bool → ℕ
 gap_len has_word in_run = due_len (has_word && not in_run)
 
@@ -54,7 +54,7 @@ tally_after_words count continued = record {
   is_plain = true;
 }
 
--- after a line ending of this many bytes, and those that are skipped behind it
+-- after a line ending of this many bytes, and those that are skipped after it
 abbrev pub tally_past_ending : Tally → ℕ → ℕ → Tally
 tally_past_ending y len skip = record y {
   skipped = y.skipped + skip;
@@ -73,11 +73,11 @@ tally_past_space y byte = record y {
   is_plain = y.is_plain && (byte == space && not y.in_run);
 }
 
--- how many spaces are read at once: a space, and one more where it stands behind it
+-- how many spaces are read at once: a space, and one more where it stands after it
 abbrev pub spaces_len : List ℕ → ℕ
 spaces_len behind = if begins_with (λ b. b == space) behind then 2 else 1
 
--- after a space, and one more where it stands behind it
+-- after a space, and one more where it stands after it
 abbrev pub tally_past_spaces : Tally → List ℕ → Tally
 tally_past_spaces y behind =
     let after = tally_past_space y space in
@@ -105,7 +105,7 @@ tally_past_backslash t y rest =
     then tally_past_word after (get_or rest 1 0) (starts_dropped t (drop 1 rest))
     else after
 
--- the source has one label, and the first pass told of it what the second one needs
+-- the source has one label, and the first pass given of it what the second one needs
 pub record IsMeasure (answers : List ℕ → ℕ → Type 0) (source : List ℕ) (is_in_table : Bool) (m : Measure) : Type 0 where
   pub label : Label
   pub is_label : IsLabel answers source is_in_table label
@@ -128,7 +128,7 @@ pub record HasLabelWithin (answers : List ℕ → ℕ → Type 0) (source : List
 abbrev pub word_text : Bool → Bool → ℕ → List ℕ
 word_text is_due drops byte = due_text is_due ++ (if drops then [] else byte ∷ [])
 
--- A byte of a word was written: what is appended then, and the text from `next` up to behind the
+-- A byte of a word was written: what is appended then, and the text from `next` up to after the
 -- byte, are what was appended before, the text from `mark` up to `end`, where the last word ends, and
 -- what the byte adds.
 pub record IsWordWritten {Z : Type 0} (is_in_table : Bool) (text : List ℕ) (mark end place : ℕ) (old new : String Z)

@@ -48,7 +48,7 @@ opening_count us = count_by (is_single left_parenthesis) us
 abbrev pub closing_count : List (List ℕ) → ℕ
 closing_count us = count_by (is_single right_parenthesis) us
 
--- Behind `depth` open parentheses, at each place of the units from none to `most` are open, and
+-- After `depth` open parentheses, at each place of the units from none to `most` are open, and
 -- none at the end.
 pub record IsBalanced (most depth : ℕ) (us : List (List ℕ)) : Type 0 where
   pub never_below : (k : ℕ) → k ≤ length us
@@ -64,7 +64,7 @@ ends_bare ([] ∷ us) = false
 ends_bare ((b ∷ []) ∷ us) = nat_le b space || b == right_parenthesis
 ends_bare ((b ∷ c ∷ cs) ∷ us) = false
 
--- The text begins with a bare destination of n bytes, read behind `depth` open parentheses: units
+-- The text begins with a bare destination of n bytes, read after `depth` open parentheses: units
 -- above space, balanced, up to the end, space or an unmatched `)`.
 pub record IsBareFrom (most depth : ℕ) (text : List ℕ) (n : ℕ) : Type 0 where
   pub inner : List (List ℕ)

@@ -31,7 +31,7 @@ pub record IsRestOfLine (rest : List ℕ) (n : ℕ) : Type 0 where
   pub ends : line_ending after ≡ Some ending
   pub counted : n ≡ length spaces + ending
 
--- The text begins with a link label and a colon directly behind it, n bytes together.
+-- The text begins with a link label and a colon directly after it, n bytes together.
 pub record IsLabelWithColon (text : List ℕ) (n : ℕ) : Type 0 where
   pub inside : List ℕ
   pub rest : List ℕ
@@ -45,7 +45,7 @@ pub record IsLabelWithColon (text : List ℕ) (n : ℕ) : Type 0 where
 abbrev pub bracket_count : List ℕ → ℕ
 bracket_count destination = if begins_with (λ b. b == less_than_sign) destination then 1 else 0
 
--- What a definition begins with, up to the place behind it: a link label, a colon, a gap, and a link destination, which
+-- What a definition begins with, up to the place after it: a link label, a colon, a gap, and a link destination, which
 -- may be `<>`, but not without any byte.
 pub record IsTarget (most : ℕ) (text : List ℕ) (label destination : Range ℕ) (place : ℕ) : Type 0 where
   pub named : ℕ
@@ -94,7 +94,7 @@ abbrev pub IsEnd : List ℕ → ℕ → Option (Range ℕ) → ℕ → Type 0
 IsEnd text place (Some title) len = IsTitleLine text place title len
 IsEnd text place None len = IsUntitled text place len
 
--- A link reference definition stands at the front of the text, behind the indent of its line.
+-- A link reference definition stands at the front of the text, after the indent of its line.
 pub record IsReferenceDefinition (most : ℕ) (text : List ℕ) (definition : ReferenceDefinition) : Type 0 where
   pub place : ℕ
   pub target : IsTarget most text definition.label definition.destination place

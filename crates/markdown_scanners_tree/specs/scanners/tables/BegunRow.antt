@@ -9,7 +9,7 @@ use Rattle.markdown_scanners_tree.specs.scanners.tables.DelimiterRow.{is_cell_by
 abbrev pub is_row_byte : ℕ → Bool
 is_row_byte b = is_cell_byte b || is_pipe b
 
--- A pipe stands in the longest prefix of bytes of a delimiter row, and the line ends behind it.
+-- A pipe stands in the longest prefix of bytes of a delimiter row, and the line ends after it.
 abbrev pub may_be_row : List ℕ → Bool
 may_be_row bytes =
     is_some (line_ending (drop (prefix_len is_row_byte bytes) bytes))

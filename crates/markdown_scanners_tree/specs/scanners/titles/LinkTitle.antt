@@ -7,7 +7,7 @@ use Rattle.markdown_scanners_tree.specs.scanners.Escapes.{units}
 use Rattle.markdown_scanners_tree.specs.scanners.TextLines.{lines_of}
 use Rattle.markdown_scanners_tree.specs.scanners.links.LinkDestination.{is_single}
 
--- what closes a title behind what opens it: the same straight quote, or the matching parenthesis
+-- what closes a title after what opens it: the same straight quote, or the matching parenthesis
 abbrev pub closing_of : ℕ → Option ℕ
 closing_of opening =
     if opening == quotation_mark || opening == apostrophe then Some opening

@@ -1,7 +1,7 @@
 use Rattle.std.proofs.Common.{List, [], ℕ, length, Some, None, slice_index_or, sym, ap, subst, arith}
 use Rattle.std.proofs.lemmas.List.{at_drop_more, drop_all, length-map}
 use Rattle.std.specs.Borrow.{Bor}
-use Rattle.page_programs.specs.Runs.{PrintsAll, none_left, told, stopped}
+use Rattle.page_programs.specs.Runs.{PrintsAll, none_left, printed, stopped}
 use Rattle.page_programs.specs.Words.{texts}
 use Rattle.page_programs.proofs.program.print_pages.Goals as goal
 
@@ -27,7 +27,7 @@ loop-name-preserved g c = λ last most longest end later.
     g.F.OpensFiles.opens g.F.File.Read.remaining g.F.File.StepReader.reads ns c.loop-name.input c.loop-name.files (g.W.Write.contents c.loop-name.output)
     last most longest end)
     (sym (at_drop_more texts c.args.names.now c.loop-name.name-index _ c.loop-name-test.true))
-    (told _ _ c.loop-name.input c.print_named.new.input last c.loop-name.files c.print_named.new.files most (g.W.Write.contents c.loop-name.output)
+    (printed _ _ c.loop-name.input c.print_named.new.input last c.loop-name.files c.print_named.new.files most (g.W.Write.contents c.loop-name.output)
     (g.W.Write.contents c.print_named.new.output) longest end
     (rw (sym (length-map {A = Bor (List ℕ)} c.args.names.now (λ word. word.now))) at c.in_default.ensures.printed) later))
 

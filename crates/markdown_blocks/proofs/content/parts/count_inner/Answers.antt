@@ -1,6 +1,6 @@
 use Rattle.std.proofs.Common.{arith}
 use Rattle.std.proofs.lemmas.Bool.Decides.{nat_tests}
-use Rattle.markdown_blocks.proofs.kinds.KindLemmas.{not_told}
+use Rattle.markdown_blocks.proofs.kinds.KindLemmas.{not_given}
 use Rattle.markdown_blocks.proofs.content.parts.InnerLemmas.{none_left_out, read-more, read-none}
 use Rattle.markdown_blocks.proofs.content.parts.count_inner.Goals as goal
 
@@ -15,4 +15,4 @@ loop-line-init c = read-none c.args.kind c.args.outer.now.containers c.args.line
 pub loop-line-preserved : goal.loop-line-preserved
 loop-line-preserved c =
     read-more c.args.kind c.args.outer.now.containers c.args.lines.now c.args.first c.loop-line.read c.in-Some.more c.in-Some.line.now c.loop-line.invariant
-    c.in-Some.ensures.line (λ all out. not_told c.if-is_left_out.false (λ t. t) (c.is_left_out.ensures.1 (grind (arith, nat_tests), out)))
+    c.in-Some.ensures.line (λ all out. not_given c.if-is_left_out.false (λ t. t) (c.is_left_out.ensures.1 (grind (arith, nat_tests), out)))

@@ -1,6 +1,6 @@
 use Rattle.std.proofs.Common.{suc, ◌≡◌, ◌-◌, ap, sym, ◌∙◌, arith}
 use Rattle.markdown_blocks.specs.content.Parts.{after_markers}
-use Rattle.markdown_blocks.proofs.kinds.KindLemmas.{not_told}
+use Rattle.markdown_blocks.proofs.kinds.KindLemmas.{not_given}
 use Rattle.markdown_blocks.proofs.content.parts.PlaceLemmas.{marks-none, marks-some}
 use Rattle.markdown_blocks.proofs.content.parts.first_place.Goals as goal
 
@@ -8,7 +8,7 @@ pub returns-then-not-pass_marker-clause-place : goal.returns-then-not-pass_marke
 returns-then-not-pass_marker-clause-place c =
     let l = c.loop-left in
     let more : l.left ≡ suc (l.left - 1) = omega (arith, c.loop-left-test.true) in
-    let none = not_told c.if-not-pass_marker.true (λ t. t) in
+    let none = not_given c.if-not-pass_marker.true (λ t. t) in
     c.pass_marker.ensures.unchanged none ∙ sym (marks-none (l.left - 1) l.start (c.pass_marker.ensures.none none))
     ∙ ap (λ n. after_markers n l.start) (sym more) ∙ l.invariant.0
 

@@ -6,6 +6,6 @@ pub returns-in-Some : goal.returns-in-Some
 returns-in-Some c =
     let same = rw c.new-line.ensures at c.in-Some.ensures.rest in
     let inside = rw c.new-line.ensures at c.in-Some.ensures.inside in (
-      λ told. (inside, subst (ClosesFence c.args.count c.args.byte) same (c.closes_fence.ensures.0 told)),
+      λ given. (inside, subst (ClosesFence c.args.count c.args.byte) same (c.closes_fence.ensures.0 given)),
       λ closes. c.closes_fence.ensures.1 (subst (ClosesFence c.args.count c.args.byte) (sym same) closes.1),
     )

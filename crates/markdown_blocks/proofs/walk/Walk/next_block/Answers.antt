@@ -3,7 +3,7 @@ use Rattle.std.proofs.lemmas.List.{length-take-le}
 use Rattle.markdown_blocks.specs.blocks.Pages.{is_blank_kind}
 use Rattle.markdown_blocks.specs.containers.Containers.{Between}
 use Rattle.markdown_blocks.specs.events.Events.{first_of}
-use Rattle.markdown_blocks.proofs.kinds.KindLemmas.{not_told}
+use Rattle.markdown_blocks.proofs.kinds.KindLemmas.{not_given}
 use Rattle.markdown_blocks.proofs.blocks.OverLemmas.{leaf-more}
 use Rattle.markdown_blocks.proofs.taken.TakenLemmas.{taken-next, first_within}
 use Rattle.markdown_blocks.proofs.taken.FrontLemmas.{lines_of_taken}
@@ -23,7 +23,7 @@ returns-then-not-is_over-clause-all c = λ ended.
     let one = taken-next c.args.lines.now c.nothing.result c.in-Some.first [] c.in-Some.line.now (c.nothing.ensures c.args.lines.now) c.in-Some.ensures.line in
     let block = c.in_ok-block.ensures c.in-Some.line.now one in
     let over : IsTrue c.is_over.result = (c.is_over.ensures (c.in-Some.line.now ∷ block.later) block.taken).1 (inl ended) in
-    absurd (not_told c.if-not-is_over.true (λ t. t) over)
+    absurd (not_given c.if-not-is_over.true (λ t. t) over)
 
 pub returns-then-not-is_over-clause-none : goal.returns-then-not-is_over-clause-none
 returns-then-not-is_over-clause-none c =
@@ -37,7 +37,7 @@ returns-then-not-is_over-clause-none c =
       term = c.self.inside.is_after_term;
     })
     c.open_containers.new.outer.items c.in-Some.line.now
-    c.args.lines.now c.args.has_ended c.in_ok-opened.opened.kept _ c.in_ok-block.block opening block (not_told c.if-not-is_over.true over.1))
+    c.args.lines.now c.args.has_ended c.in_ok-opened.opened.kept _ c.in_ok-block.block opening block (not_given c.if-not-is_over.true over.1))
 
 pub returns-clause-some : goal.returns-clause-some
 returns-clause-some c =
@@ -67,7 +67,7 @@ returns-clause-step c = λ more none.
     block.later _ c.args.has_ended
     (over.0 c.if-not-is_over.false) none block.leaf in
     let gathered = rw c.deref-3.ensures.value at (c.in_ok-gather_content.ensures c.in-Some.line.now block.later block.taken) in
-    let told = c.is_term-is_term.ensures (content_in c.in_ok-block.block.kind inner c.rest.inside.text.now block.later)
+    let given = c.is_term-is_term.ensures (content_in c.in_ok-block.block.kind inner c.rest.inside.text.now block.later)
     (leaf_some (with_open old inner) c.in_ok-block.block.kind _ block.later _ block.leaf)
     (subst (IsGathered (content_in c.in_ok-block.block.kind inner c.rest.inside.text.now block.later)) (sym c.deref-4.ensures.value) gathered) in
     let test : ℕ → ℕ → Bool = λ before after. is_blank_kind c.in_ok-block.block.kind && (c.in_ok-block.block.taken.lines == 1)
@@ -76,7 +76,7 @@ returns-clause-step c = λ more none.
     ∙ ap (λ n. test n c.len-after.result) (c.len-before.ensures ∙ c.self.inside.open.ok.0)
     ∙ ap (test (length c.self.inside.open.items)) (c.len-after.ensures ∙ c.open_containers.new.outer.ok.0) in
     rw (← c.self.view_is, c.swap.ensures.x_after) (step_here old inner c.in-Some.line.now c.args.lines.now more _ opening refl place refl block leaf
-    c.is_term-is_term.result c.follows_term-stays.result c.is_blank_between-is_between.result told tests c.follows_term-stays.ensures)
+    c.is_term-is_term.result c.follows_term-stays.result c.is_blank_between-is_between.result given tests c.follows_term-stays.ensures)
 
 pub returns-clause-content : goal.returns-clause-content
 returns-clause-content c =

@@ -9,7 +9,7 @@ pub loop-left-init : goal.loop-left-init
 loop-left-init g c =
     let setting : EventSetting = record { asked = c.args.extensions; targets = g.D.Definitions.targets c.args.definitions.now } in
     let none = ap (map seen_event) c.new-events.ensures.items in record {
-      told = cells_begin setting c.args.before c.args.text.now c.args.columns c.row_len-end.result c.cells_of-cells.result
+      given = cells_begin setting c.args.before c.args.text.now c.args.columns c.row_len-end.result c.cells_of-cells.result
           (map seen_event c.new-events.result.items) c.row_len-end.ensures.length c.cells_of-cells.ensures.cells none;
       stand = shown_between c.args.columns c.row_len-end.result (length c.args.text.now) c.cells_of-cells.result c.row_len-end.ensures.within
           c.cells_of-cells.ensures.between;
@@ -26,9 +26,9 @@ loop-left-preserved g c =
     let here = map seen_event c.in_ok-cell_events.field-0.items in
     let found = c.in_ok-cell_events.ensures.events in
     let events = map seen_event c.loop-left.events.items in record {
-      told = cells_more left c.row_len-end.result c.loop-left.cells c.next_cell-cell.new.cells c.next_cell-cell.result c.loop-left-test.true next
+      given = cells_more left c.row_len-end.result c.loop-left.cells c.next_cell-cell.new.cells c.next_cell-cell.result c.loop-left-test.true next
           setting before text _ events (map seen_event c.push_all.new.events.items) here found.0 found.1 found.2 c.in_ok-push_all.ensures
-          c.loop-left.invariant.told;
+          c.loop-left.invariant.given;
       stand = (stand_more left c.row_len-end.result c.loop-left.cells c.next_cell-cell.new.cells c.next_cell-cell.result c.loop-left-test.true next
           (length text) c.loop-left.invariant.stand).2;
       lie = subst (λ (es : List RangedEvent). LieIn before (before + length text) es) (sym c.in_ok-push_all.ensures)
@@ -39,4 +39,4 @@ pub returns-clause-events : goal.returns-clause-events
 returns-clause-events g c =
     let setting : EventSetting = record { asked = c.args.extensions; targets = g.D.Definitions.targets c.args.definitions.now } in
     cells_end setting c.args.before c.args.text.now c.loop-left.left c.row_len-end.result c.loop-left.cells _
-    (map seen_event c.loop-left.events.items) (omega (arith, c.loop-left-test.false)) c.loop-left.invariant.told
+    (map seen_event c.loop-left.events.items) (omega (arith, c.loop-left-test.false)) c.loop-left.invariant.given

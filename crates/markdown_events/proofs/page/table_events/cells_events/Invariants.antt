@@ -12,7 +12,7 @@ abbrev pub invariant-loop-left : goal.invariant-loop-left
 invariant-loop-left g l =
     let setting : EventSetting = record { asked = l.extensions; targets = g.D.Definitions.targets l.definitions } in
     record {
-      told : (later : List RangedEvent) → AreCellEvents setting l.before l.text (shown_cells l.left l.end l.cells) later
+      given : (later : List RangedEvent) → AreCellEvents setting l.before l.text (shown_cells l.left l.end l.cells) later
           → AreCellEvents setting l.before l.text (shown_cells l.columns (row_len l.text) (cells_of l.text)) (map seen_event l.events.items ++ later);
       stand : StandWithin (length l.text) (shown_cells l.left l.end l.cells);
       lie : LieIn l.before (l.before + length l.text) (map seen_event l.events.items);

@@ -26,8 +26,8 @@ loop-row-preserved g c =
     let here = map seen_event c.in_ok-row_events.field-0.items in
     let found = c.in_ok-row_events.ensures.events in
     let events = map seen_event c.loop-row.events.items in record {
-      told = rows_more before c.args.columns row c.loop-row.rows c.next.new.self c.in-Some.ensures.steps setting c.loop-row.is_head c.args.rows
-          events (map seen_event c.push_all.new.events.items) here found.0 found.1 found.2 c.in_ok-push_all.ensures c.loop-row.invariant.told;
+      given = rows_more before c.args.columns row c.loop-row.rows c.next.new.self c.in-Some.ensures.steps setting c.loop-row.is_head c.args.rows
+          events (map seen_event c.push_all.new.events.items) here found.0 found.1 found.2 c.in_ok-push_all.ensures c.loop-row.invariant.given;
       end_within = λ to ends.
           let so_far = c.loop-row.invariant.end_within to ends in
           let first = row_first before c.args.columns row c.loop-row.rows c.next.new.self c.in-Some.ensures.steps to so_far.0 in (
@@ -43,7 +43,7 @@ pub returns-clause-events : goal.returns-clause-events
 returns-clause-events g c =
     let setting : EventSetting = record { asked = c.args.extensions; targets = g.D.Definitions.targets c.args.definitions.now } in
     all_rows setting c.args.columns c.args.before c.loop-row.is_head c.loop-row.rows c.args.rows (map seen_event c.loop-row.events.items)
-    c.in_default.ensures.steps.0 c.loop-row.invariant.told
+    c.in_default.ensures.steps.0 c.loop-row.invariant.given
 
 pub returns-clause-within : goal.returns-clause-within
 returns-clause-within g c = λ to ends. (c.loop-row.invariant.end_within to ends).1

@@ -9,7 +9,7 @@ abbrev pub invariant-loop-row : goal.invariant-loop-row
 invariant-loop-row g l =
     let setting : EventSetting = record { asked = l.extensions; targets = g.D.Definitions.targets l.definitions } in
     record {
-      told : (later : List RangedEvent) → AreRowEvents setting l.columns l.before l.is_head l.rows later
+      given : (later : List RangedEvent) → AreRowEvents setting l.columns l.before l.is_head l.rows later
           → AreRowEvents setting l.columns l.before true l.fn.rows (map seen_event l.events.items ++ later);
       end_within : (to : ℕ) → RowsEndBy l.before to l.fn.rows
           → RowsEndBy l.before to l.rows × LieIn l.before to (map seen_event l.events.items);

@@ -12,8 +12,8 @@ returns-clause-found c =
     let is = rw (← c.self.view_is) at c.requires.searched in
     rw (← c.self.view_is) (elim c.match-step.branch [
       | in-Ok w ↦ (
-          let told = step_found c.self.inside.html (c.args.place + 2) _ _ w.in-Ok.ensures.answer in
-          w.result-is ∙ told
+          let given = step_found c.self.inside.html (c.args.place + 2) _ _ w.in-Ok.ensures.answer in
+          w.result-is ∙ given
           )
       | in-Err w ↦ (
           let refused = step_refused c.self.inside.html (c.args.place + 2) _ _ w.in-Err.ensures.answer in

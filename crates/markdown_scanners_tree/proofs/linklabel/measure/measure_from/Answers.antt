@@ -61,7 +61,7 @@ returns-in-93-clause-found g c =
     (refl, (_, starts c.args.bytes.now c.loop-ix.ix 93 inside (c.in-93.is))) in
     when_some _ _ (IsMeasure (Skips g.F.Fn c.args.handler.now) c.args.bytes.now c.args.is_in_table) c.measured.result
     c.measured.ensures.found c.measured.ensures.word
-    (λ word. measured_by _ _ _ _ _ _ _ c.loop-ix.invariant.at o c.loop-ix.invariant.told _ c.loop-ix.invariant.tells
+    (λ word. measured_by _ _ _ _ _ _ _ c.loop-ix.invariant.at o c.loop-ix.invariant.given _ c.loop-ix.invariant.tells
     c.loop-ix.invariant.within word
     (omega (arith, c.if-characters-le-MOST_CHARACTERS.true, c.characters.ensures)))
 
@@ -74,7 +74,7 @@ returns-in-93-clause-none g c =
     when_none _ _ c.measured.result c.measured.ensures.none (λ word.
     (let none : facts.has_word ≡ false = sym c.loop-ix.invariant.tells.word_is ∙ word in
     let no : (nat_le facts.characters 999 && facts.has_word) ≡ false = grind (arith, nat_tests, none) in
-    not_measured _ _ _ _ _ _ _ c.loop-ix.invariant.at o c.loop-ix.invariant.told no))
+    not_measured _ _ _ _ _ _ _ c.loop-ix.invariant.at o c.loop-ix.invariant.given no))
 
 pub loop-ix-preserved-in-92 : goal.loop-ix-preserved-in-92
 loop-ix-preserved-in-92 g c =
@@ -104,7 +104,7 @@ returns-then-ends_line-clause-none g c =
     elim c.then-ends_line.branch [
       | then-ends_line-via-then-ends_line w ↦
           none_at_second_ending _ _ _ _ _ _ inv.at _ o _ _
-          (sym inv.tells.ending_is ∙ sym c.ends_line.ensures ∙ w.if-ends_line.true) inv.told
+          (sym inv.tells.ending_is ∙ sym c.ends_line.ensures ∙ w.if-ends_line.true) inv.given
       | then-ends_line-via-else-ends_line+then-characters-len-gt-MOST_CHARACTERS w ↦
           none_at_late_ending _ _ _ _ _ _ inv.at _ o _ _
           (omega (
@@ -112,7 +112,7 @@ returns-then-ends_line-clause-none g c =
             w.if-characters-len-gt-MOST_CHARACTERS.true,
             w.characters-else-ends_line.ensures,
             inv.tells.characters_are,
-          )) inv.told
+          )) inv.given
     ]
 
 pub returns-in_err-skip-in-10-clause-none : goal.returns-in_err-skip-in-10-clause-none
@@ -225,7 +225,7 @@ returns-else-characters-le-MOST_CHARACTERS-clause-none g c =
       c.characters.ensures,
       c.loop-ix.invariant.tells.characters_are,
     ))
-    c.loop-ix.invariant.told
+    c.loop-ix.invariant.given
 
 pub returns-after-loop-ix-clause-none : goal.returns-after-loop-ix-clause-none
 returns-after-loop-ix-clause-none g c =

@@ -9,7 +9,7 @@ use Rattle.std.specs.String.{string_bytes}
 use Rattle.markdown_scanners_tree.proofs.linklabel.WriteLemmas.{slice_more}
 use Rattle.markdown_scanners_tree.proofs.linklabel.write.push_with_space.Goals as goal
 
--- where a space stands behind the part, the two are one part
+-- where a space stands after the part, the two are one part
 with_space : (old text : List ℕ) (mark end : ℕ) → mark ≤ end → end < length text → get_or text end 0 ≡ 32
     → old ++ slice_range text mark (end + 1) ≡ (old ++ slice_range text mark end) ++ (32 ∷ [])
 with_space old text mark end order within is =

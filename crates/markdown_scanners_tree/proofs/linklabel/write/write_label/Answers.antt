@@ -37,7 +37,7 @@ end_cut text end ix behind gap here = elim (cases_Bool (nat_lt end ix)) [
   | inr not ↦ (let same : ix ≡ end = omega (arith, behind, ltb-false end ix not) in subst (IsCharBoundary text) same here)
 ]
 
--- white space behind a word is a run of it
+-- white space after a word is a run of it
 run_behind : (end n : ℕ) → run_after false n ≡ nat_lt end (end + n)
 run_behind end zero = sym (le-ltb end (end + zero) (omega arith))
 run_behind end (suc n) = sym (lt-ltb end (end + suc n) (omega arith))

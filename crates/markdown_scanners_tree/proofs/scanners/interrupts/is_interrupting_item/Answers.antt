@@ -22,7 +22,7 @@ pub returns-in-Some : goal.returns-in-Some
 returns-in-Some c =
     let bytes = c.args.bytes.now in
     let width = c.in-Some.width in
-    let told : c.item_interrupts.result ≡ item_interrupts c.in-Some.delimiter c.in-Some.start (drop width bytes) =
+    let given : c.item_interrupts.result ≡ item_interrupts c.in-Some.delimiter c.in-Some.start (drop width bytes) =
     c.item_interrupts.ensures ∙ ap (item_interrupts c.in-Some.delimiter c.in-Some.start) (from_place bytes width) in (
       λ t. record {
         marker = take width bytes;
@@ -31,7 +31,7 @@ returns-in-Some c =
         start = c.in-Some.start;
         parts = sym (take-append-drop width bytes);
         is_marker = c.in-Some.ensures.found;
-        interrupts = sym told ∙ t;
+        interrupts = sym given ∙ t;
       },
       λ item.
           let rest : item.rest ≡ drop width bytes =
@@ -46,5 +46,5 @@ returns-in-Some c =
           ap (λ d. item_interrupts d c.in-Some.start (drop width bytes)) (sym same.0)
           ∙ ap (λ s. item_interrupts item.delimiter s (drop width bytes)) (sym same.1)
           ∙ ap (item_interrupts item.delimiter item.start) (sym rest) in
-          told ∙ here ∙ item.interrupts,
+          given ∙ here ∙ item.interrupts,
     )

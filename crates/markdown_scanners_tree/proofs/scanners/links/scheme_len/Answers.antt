@@ -8,7 +8,7 @@ use Rattle.markdown_scanners_tree.proofs.scanners.links.scheme_len.Goals.{then-n
 use Rattle.markdown_scanners_tree.proofs.scanners.links.scheme_len.Goals.{then-n-lt2-via-else-n-lt2+else-n-gt-MOST_SCHEME_BYTES+then-n-bytes}
 use Rattle.markdown_scanners_tree.proofs.scanners.links.scheme_len.Goals.{then-n-lt2-via-else-n-lt2+else-n-gt-MOST_SCHEME_BYTES+else-n-bytes+then-bytes-n-ne58}
 
--- the bytes behind the first, of which the first 32 are looked at
+-- the bytes after the first, of which the first 32 are looked at
 first_of : (bytes front : List ℕ) → front ≡ take 32 (take (length bytes - 1) (drop 1 bytes))
     → front ≡ take (31 + 1) (drop 1 bytes)
 first_of bytes front first = first ∙ ap (take 32) (take_rest bytes 1)

@@ -1,4 +1,4 @@
--- What is looked at first: the mark behind `<`, and the first byte of what ends a block.
+-- What is looked at first: the mark after `<`, and the first byte of what ends a block.
 use Rattle.std.specs.Prelude.{ℕ, List, [], ◌∷◌, ◌==◌, Option, Some, None, codes, if◌then◌else◌}
 use Rattle.markdown_scanners_tree.specs.declared.scanners.html_kinds.HtmlBlockKind.{HtmlBlockKind}
 use Rattle.markdown_scanners_tree.specs.declared.scanners.html_kinds.HtmlBlockKind.TheVariants.{RawText, Comment, Processing, Declaration, Cdata, BlockName, TagAlone}
@@ -6,7 +6,7 @@ use Rattle.markdown_scanners_tree.specs.Ascii.{line_feed, exclamation_mark, hyph
 use Rattle.markdown_scanners_tree.specs.Bytes.{begins_with, is_letter}
 use Rattle.markdown_scanners_tree.specs.scanners.html_kinds.HtmlKinds.{begins_with_text}
 
--- the kind that begins behind `<!`
+-- the kind that begins after `<!`
 abbrev pub declared_kind : List ℕ → Option HtmlBlockKind
 declared_kind bytes =
     if begins_with_text (codes "--") bytes then Some Comment
@@ -14,7 +14,7 @@ declared_kind bytes =
     else if begins_with_text (codes "[CDATA[") bytes then Some Cdata
     else None
 
--- the kind that a mark behind `<` begins
+-- the kind that a mark after `<` begins
 abbrev pub marked_kind : List ℕ → Option HtmlBlockKind
 marked_kind [] = None
 marked_kind (mark ∷ bytes) =

@@ -4,7 +4,7 @@ use Rattle.std.specs.List.{list_any}
 use Rattle.markdown_scanners_tree.specs.Bytes.{begins_with, line_ending}
 use Rattle.markdown_scanners_tree.specs.scanners.tables.DelimiterRow.{is_cell_byte, is_hyphen, is_pipe}
 
--- Whether the cell has a hyphen after this byte; None where the byte is none of a row, or a pipe behind no hyphen.
+-- Whether the cell has a hyphen after this byte; None where the byte is none of a row, or a pipe after no hyphen.
 abbrev pub hyphen_after : Bool → ℕ → Option Bool
 hyphen_after hyphen b =
     if is_pipe b then (if hyphen then Some false else None)

@@ -1,4 +1,4 @@
--- A link title behind the byte that opens it.
+-- A link title after the byte that opens it.
 use Rattle.std.specs.Prelude.{ℕ, Bool, ◌&&◌, List, [], ◌∷◌, ◌++◌, ◌≡◌, length, drop, IsTrue}
 use Rattle.std.specs.List.{list_all, concat}
 use Rattle.markdown_scanners_tree.specs.Bytes.{is_blank}

@@ -22,9 +22,9 @@ abbrev pub StartsWithAmpersandReference : Lookup → List ℕ → ℕ → List �
 StartsWithAmpersandReference known text n meaning =
     (slice_index text 0 ≡ ampersand) × StartsWithReference known text n meaning
 
--- The text's first piece is n bytes long, and it means `instead` and then what it has behind its
+-- The text's first piece is n bytes long, and it means `instead` and then what it has after its
 -- first `dropped` bytes. Where none is dropped it is one byte that means itself; else it is not,
--- and the text may be cut before it and behind what is dropped.
+-- and the text may be cut before it and after what is dropped.
 pub record IsFirstPiece (in_table : Bool) (known : Lookup) (text : List ℕ)
     (n dropped : ℕ) (instead : List ℕ) : Type 0 where
   pub piece : Piece
@@ -65,7 +65,7 @@ abbrev pub change_len : ℕ → ℕ → List ℕ → ℕ
 change_len run place instead = (place - run) + length instead
 
 -- At a changed piece the text from `run` up to its place and what stands in for its front are
--- appended, and `run'` is the place behind what is dropped, `next` that behind the piece. At pieces
+-- appended, and `run'` is the place after what is dropped, `next` that after the piece. At pieces
 -- that mean themselves all stays but the place.
 abbrev pub IsPushed : {Z : Type 0} → Bool → Lookup → List ℕ → ℕ → ℕ → String Z → String Z → ℕ → ℕ → Type 0
 IsPushed in_table known text run place old new run' next =

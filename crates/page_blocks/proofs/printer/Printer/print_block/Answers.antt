@@ -4,7 +4,7 @@ use Rattle.markdown_blocks.specs.events.Shown.{AreShown, IsWrittenIn, Shown, Wri
 use Rattle.markdown_blocks.proofs.ForCallers.{one_written, shown_next}
 use Rattle.page_blocks.specs.declared.words.Form.{Form}
 use Rattle.page_blocks.specs.definition.Definition.{shown_of}
-use Rattle.page_blocks.specs.page.Told.{Printed, after, after_all, event_lines, lines_of_events}
+use Rattle.page_blocks.specs.page.Printed.{Printed, after, after_all, event_lines, lines_of_events}
 use Rattle.page_blocks.specs.printer.Printers.{printed_of}
 use Rattle.page_blocks.proofs.printer.Printer.print_block.Goals as goal
 
@@ -12,8 +12,8 @@ use Rattle.page_blocks.proofs.printer.Printer.print_block.Goals as goal
 one_more : (form same : Form) (p next : Printed) (text longer : List ℕ) (shown : Shown) (later : List Shown) → same ≡ form
     → next ≡ after p shown.event → longer ≡ text ++ event_lines form p shown
     → longer ++ lines_of_events same next later ≡ text ++ lines_of_events form p (shown ∷ later)
-one_more form same p next text longer shown later form_is next_is tells =
-    ap (λ t. t ++ lines_of_events same next later) tells
+one_more form same p next text longer shown later form_is next_is prints =
+    ap (λ t. t ++ lines_of_events same next later) prints
     ∙ append_assoc text (event_lines form p shown) (lines_of_events same next later)
     ∙ ap (λ f. text ++ (event_lines form p shown ++ lines_of_events f next later)) form_is
     ∙ ap (λ (q : Printed). text ++ (event_lines form p shown ++ lines_of_events form q later)) next_is

@@ -1,5 +1,5 @@
 use Rattle.std.proofs.Common.{◌++◌, ◌≡◌, string_bytes}
-use Rattle.page_blocks.specs.page.Told.{last_lines}
+use Rattle.page_blocks.specs.page.Printed.{last_lines}
 use Rattle.page_blocks.specs.printer.Printers.{printed_of}
 use Rattle.page_blocks.proofs.printer.Printer.print_end.Given as goal
 

@@ -1,4 +1,4 @@
--- What a handler skips is ASCII, so a character begins behind it.
+-- What a handler skips is ASCII, so a character begins after it.
 use Rattle.std.proofs.Common.{ℕ, zero, suc, refl, ◌≡◌, ◌<◌, ◌≤◌, ◌+◌, ◌==◌, ◌&&◌, Bool, true, false, List, [], ◌∷◌}
 use Rattle.std.proofs.Common.{arith, rules, sym, subst, cond, length, take, get_or, nat_eq, length-take, get_or-take}
 use Rattle.std.proofs.lemmas.Bool.Decides.{nat_tests}

@@ -2,8 +2,8 @@ use Rattle.std.proofs.Common.{[], ◌++◌, length, string_bytes, refl, sym, ap,
 use Rattle.markdown_blocks.specs.containers.Containers.{Between}
 use Rattle.markdown_blocks.specs.events.Given.{block_left}
 use Rattle.page_blocks.specs.printer.Printers.{HasPrinted, printed_of}
-use Rattle.page_blocks.proofs.page.PageLemmas.{step_size, telling-next}
-use Rattle.page_blocks.proofs.page.Telling.tell_block.Goals as goal
+use Rattle.page_blocks.proofs.page.PageLemmas.{step_size, printing-next}
+use Rattle.page_blocks.proofs.page.Printing.print_block.Goals as goal
 
 -- the events of the step's block are printed
 printed : (c : goal.In_ok-print_block) → HasPrinted c.args.self.now.printer c.next_block.new.self.containers c.next_block.new.content.items
@@ -12,11 +12,11 @@ printed c =
     rw (c.containers.ensures.containers, c.deref.ensures.value, c.new-events.ensures, c.containers-depth.ensures.containers)
     at c.in_ok-print_block.ensures.lines
 
-pub returns-clause-told : goal.returns-clause-told
-returns-clause-told c = λ more none page written goes.
+pub returns-clause-printed : goal.returns-clause-printed
+returns-clause-printed c = λ more none page written goes.
     let h = printed c in
     rw c.in_ok-print_block.ensures.form
-    (telling-next c.args.self.now.printer.form c.args.self.now.walk c.next_block.new.self c.args.self.now.printer.at c.args.self.now.printer.lists
+    (printing-next c.args.self.now.printer.form c.args.self.now.walk c.next_block.new.self c.args.self.now.printer.at c.args.self.now.printer.lists
     c.in-Some.step c.args.lines.now more ((rw c.in-Some.is at c.in_ok-step.ensures.step) more none) c.next_block.new.content.items h.events h.shown
     (rw c.in-Some.is at c.in_ok-step.ensures.content) h.given h.are_shown page (written ++ string_bytes c.args.self.now.printer.text) _
     (printed_of c.print_block.new.self) h.so_far

@@ -1,6 +1,6 @@
 use Rattle.std.proofs.Common.{◌++◌, ◌-◌, ◌∙◌, length, map, take, drop, ap, arith, take_all, length-drop}
-use Rattle.markdown_scanners_c.specs.BlockLines.{begun_told, open_told}
-use Rattle.markdown_scanners_c.proofs.block_lines.opened_told.Goals as goal
+use Rattle.markdown_scanners_c.specs.BlockLines.{begun_returned, open_returned}
+use Rattle.markdown_scanners_c.proofs.block_lines.opened_returned.Goals as goal
 
 pub returns : goal.returns
 returns c =
@@ -9,5 +9,5 @@ returns c =
     let start = c.args.step.start in
     let inner = take (length containers - kept) (drop kept containers) in
     let rest = take_all (length containers - kept) (drop kept containers) (omega (arith, length-drop kept containers)) in
-    c.in_ok-add_begun.ensures ∙ ap (λ bs. bs ++ begun_told start inner) c.in_ok-told.ensures
-    ∙ ap (λ cs. map (λ k. open_told k 0) (take kept containers) ++ begun_told start cs) rest
+    c.in_ok-add_begun.ensures ∙ ap (λ bs. bs ++ begun_returned start inner) c.in_ok-returned.ensures
+    ∙ ap (λ cs. map (λ k. open_returned k 0) (take kept containers) ++ begun_returned start cs) rest

@@ -1,13 +1,13 @@
 use Rattle.std.proofs.Common.{List, ℕ, [], ◌+◌, ◌-◌, ◌++◌, ◌≡◌, ◌≤◌, IsTrue, length, drop}
 use Rattle.markdown_scanners_tree.specs.scanners.TextLines.{lines_of}
-use Rattle.page_blocks.specs.page.Going.{Tells}
-use Rattle.page_blocks.proofs.page.Telling.tell_lines.Given as goal
+use Rattle.page_blocks.specs.page.Going.{Prints}
+use Rattle.page_blocks.proofs.page.Printing.print_lines.Given as goal
 
--- the lines are told as far as the place
+-- the lines are printed as far as the place
 abbrev pub invariant-loop-more : goal.invariant-loop-more
 invariant-loop-more l =
     ((more : List (List ℕ)) → (IsTrue l.has_ended → more ≡ [])
-    → Tells l.fn.self (lines_of l.lines ++ more) l.self (lines_of (drop l.count l.lines) ++ more))
+    → Prints l.fn.self (lines_of l.lines ++ more) l.self (lines_of (drop l.count l.lines) ++ more))
     × (l.count ≤ length l.lines) × (l.self.printer.at.lines ≤ l.fn.self.printer.at.lines + l.count)
     × (l.self.printer.at.bytes ≡ l.fn.self.printer.at.bytes + l.count) × (l.self.printer.form ≡ l.fn.self.printer.form)
     × (l.self.walk.extensions ≡ l.fn.self.walk.extensions)

@@ -27,7 +27,7 @@ use Rattle.page_blocks.specs.info.Info.{bytes_text}
 use Rattle.page_blocks.specs.json.Json.{kind_json, container_json, front_json, size_json, end_json, list_json, page_json}
 use Rattle.page_blocks.specs.declared.printing.Front.{Front}
 
--- an info string behind a space, or nothing
+-- an info string after a space, or nothing
 abbrev pub info_text : List ℕ → List ℕ
 info_text [] = []
 info_text (b ∷ info) = codes " " ++ bytes_text (b ∷ info)
@@ -36,7 +36,7 @@ info_text (b ∷ info) = codes " " ++ bytes_text (b ∷ info)
 abbrev pub fence_text : ℕ → ℕ → List ℕ → List ℕ
 fence_text count byte info = codes "fenced " ++ decimal count ++ codes " " ++ encode_utf8 byte ++ info_text info
 
--- the word for a kind, with what is known of a block whose first line has this text behind its containers: the level of a
+-- the word for a kind, with what is known of a block whose first line has this text after its containers: the level of a
 -- heading, the fence of code, the number of the conditions of an HTML block, and how many columns a table has
 abbrev pub kind_text : BlockKind → List ℕ → List ℕ
 kind_text Blank first = codes "blank"
@@ -58,24 +58,24 @@ container_text (TermDefinition definition) = codes "term_definition"
 container_text (Item item) = codes "item " ++ encode_utf8 item.delimiter ++ codes " " ++ decimal item.start
 
 -- the same in a form: words, or JSON, which has what is written in a definition
-abbrev pub kind_told : Form → BlockKind → List ℕ → Option Written → List ℕ
-kind_told Words kind first written = kind_text kind first
-kind_told Json kind first written = kind_json kind first written
+abbrev pub kind_printed : Form → BlockKind → List ℕ → Option Written → List ℕ
+kind_printed Words kind first written = kind_text kind first
+kind_printed Json kind first written = kind_json kind first written
 
-abbrev pub container_told : Form → Container → List ℕ
-container_told Words container = container_text container
-container_told Json container = container_json container
+abbrev pub container_printed : Form → Container → List ℕ
+container_printed Words container = container_text container
+container_printed Json container = container_json container
 
 -- what stands in a line before that; by words no place
-abbrev pub front_told : Form → Front → List ℕ
-front_told Words front =
+abbrev pub front_printed : Form → Front → List ℕ
+front_printed Words front =
     decimal front.first ++ codes " " ++ decimal front.last ++ codes " " ++ decimal front.depth ++ codes " "
-front_told Json front = front_json front
+front_printed Json front = front_json front
 
--- what stands behind it of a block: how many bytes its lines have
-abbrev pub size_told : Form → ℕ → List ℕ
-size_told Words bytes = []
-size_told Json bytes = size_json bytes
+-- what stands after it of a block: how many bytes its lines have
+abbrev pub size_printed : Form → ℕ → List ℕ
+size_printed Words bytes = []
+size_printed Json bytes = size_json bytes
 
 -- and at the end
 abbrev pub line_end : Form → List ℕ
@@ -106,7 +106,7 @@ leaf_front depth block = record {
 
 abbrev pub leaf_line : Form → ℕ → LeafBlock → Option Written → List ℕ
 leaf_line form depth block written =
-    front_told form (leaf_front depth block) ++ kind_told form block.kind block.text written ++ size_told form block.bytes
+    front_printed form (leaf_front depth block) ++ kind_printed form block.kind block.text written ++ size_printed form block.bytes
     ++ line_end form
 
 -- the line of a container in so many others, whose marker stands after so many bytes of the page, and its first line after so
@@ -122,7 +122,7 @@ container_front at depth marker = record {
 
 abbrev pub container_line : Form → Place → ℕ → Container → ℕ → List ℕ
 container_line form at depth container marker =
-    front_told form (container_front at depth marker) ++ container_told form container ++ line_end form
+    front_printed form (container_front at depth marker) ++ container_printed form container ++ line_end form
 
 -- as JSON a line for the end of a container in so many others, after so much of the page
 abbrev pub end_line : Form → Place → ℕ → List ℕ
@@ -205,18 +205,18 @@ title_of Words pages name = []
 title_of Json pages name = if nat_lt 1 pages then page_json name ++ line_end Json else []
 
 -- With these extensions on, the text has the lines of the events of the page in this form, and of its lists. (chapter 3, and sections 4.7 and 5.3)
-pub record TellsPage (asked : BlockExtensions) (form : Form) (input text : List ℕ) : Type 0 where
+pub record PrintsPage (asked : BlockExtensions) (form : Form) (input text : List ℕ) : Type 0 where
   pub shown : List Shown
   pub are_its_events : IsShownOf asked input shown
   pub are_its_lists : AreListsOf asked input (lists_behind at_start (events_in shown))
   pub lines : text ≡ page_lines form shown
 
 -- known bytes grow by the title and by a text that has the lines of the page
-abbrev pub IsToldTo : BlockExtensions → Form → List ℕ → List ℕ → Option (List ℕ) → Option (List ℕ) → Type 0
-IsToldTo asked form title input old new = (text : List ℕ) × TellsPage asked form input text × Appends old new (title ++ text)
+abbrev pub IsPrintedTo : BlockExtensions → Form → List ℕ → List ℕ → Option (List ℕ) → Option (List ℕ) → Type 0
+IsPrintedTo asked form title input old new = (text : List ℕ) × PrintsPage asked form input text × Appends old new (title ++ text)
 
 -- with these extensions on, the text has the lines of the events of blocks at the front of the page
-pub record TellsFront (asked : BlockExtensions) (form : Form) (input text : List ℕ) : Type 0 where
+pub record PrintsFront (asked : BlockExtensions) (form : Form) (input text : List ℕ) : Type 0 where
   pub pieces : List Piece
   pub rest : List (List ℕ)
   pub shown : List Shown
@@ -229,4 +229,4 @@ pub record TellsFront (asked : BlockExtensions) (form : Form) (input text : List
 abbrev pub IsBegunTo : BlockExtensions → Form → List ℕ → Option (List ℕ) → Option (List ℕ) → Option (List ℕ) → Option (List ℕ) → Type 0
 IsBegunTo asked form title input left old new =
     (read : List ℕ) × Consumes input left read
-    × (text : List ℕ) × ((more : List ℕ) → TellsFront asked form (read ++ more) text) × Appends old new (title ++ text)
+    × (text : List ℕ) × ((more : List ℕ) → PrintsFront asked form (read ++ more) text) × Appends old new (title ++ text)

@@ -1,6 +1,0 @@
-use Rattle.std.proofs.Common.{arith}
-use Rattle.markdown_scanners_c.proofs.LabelRooms.{are_roomy}
-use Rattle.markdown_scanners_c.proofs.inlines.told_inlines.Goals as goal
-
-pub inlines_told-requires : goal.inlines_told-requires
-inlines_told-requires c = rw c.deref.ensures.value (are_roomy c.args.text.now (omega arith) _ c.in_ok-found.ensures.links)
