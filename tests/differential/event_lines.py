@@ -17,7 +17,7 @@ TEXTS_OF_A_LINK = 2
 # The markers of tasks.
 TASKS = ("checked task", "unchecked task")
 
-# An event: where its source begins and ends, what it is, and the texts that are told with it.
+# An event: where its source begins and ends, what it is, and the texts that are returned with it.
 Event = namedtuple("Event", "start end words texts")
 
 

@@ -7,10 +7,10 @@
 #include <stdlib.h>
 #include <string.h>
 
-/* What is read of the page, of which so much is told, and how many lines are; and the containers that are open. */
+/* What is read of the page, of which so much is printed, and how many lines are; and the containers that are open. */
 struct page {
     uint8_t *text;
-    size_t told, length, room, line;
+    size_t printed, length, room, line;
     bool has_ended;
     struct mds_block *containers;
     size_t capacity;
@@ -29,11 +29,11 @@ static void *grown(void *old, size_t size) {
     return made;
 }
 
-/* Lets go what is told, and reads until there is twice the text that is left, and more, or the input has ended. */
+/* Lets go what is printed, and reads until there is twice the text that is left, and more, or the input has ended. */
 static void read_more(struct page *page) {
-    page->length -= page->told;
-    memmove(page->text, page->text + page->told, page->length);
-    page->told = 0;
+    page->length -= page->printed;
+    memmove(page->text, page->text + page->printed, page->length);
+    page->printed = 0;
     size_t wanted = page->length + (page->length < 4096 ? 4096 : page->length);
     if (page->room < wanted)
         page->text = grown(page->text, wanted), page->room = wanted;
@@ -43,11 +43,11 @@ static void read_more(struct page *page) {
         stop("the input can't be read");
 }
 
-/* Prints the text of a heading, whose lines stand at the front of what is not told. */
+/* Prints the text of a heading, whose lines stand at the front of what is not printed. */
 static void print_heading(const struct page *page, const struct mds_block *block, size_t kept) {
     uint8_t *buffer = grown(NULL, block->bytes); /* the content of a heading is no longer than its lines */
     struct mds_text found = mds_block_content(
-        page->text + page->told, block->bytes, block, page->containers, page->open.depth, kept, buffer, block->bytes);
+        page->text + page->printed, block->bytes, block, page->containers, page->open.depth, kept, buffer, block->bytes);
     if (found.status != MDS_OK)
         stop("out of memory");
     printf("%zu: %.*s ", page->line + 1, (int)block->number, "######");
@@ -56,11 +56,11 @@ static void print_heading(const struct page *page, const struct mds_block *block
     free(buffer);
 }
 
-/* Tells the block at the front of what is not told, or answers that more is needed. */
+/* Prints the block at the front of what is not printed, or answers that more is needed. */
 static bool tell_block(struct page *page) {
     struct mds_block block;
     struct mds_line_block found = mds_block_line(
-        page->text + page->told, page->length - page->told, page->has_ended, page->containers, page->capacity, &page->open, &block);
+        page->text + page->printed, page->length - page->printed, page->has_ended, page->containers, page->capacity, &page->open, &block);
     if (found.status == MDS_NOTHING)
         return false;
     if (found.status == MDS_TOO_SHORT) {
@@ -72,7 +72,7 @@ static bool tell_block(struct page *page) {
         stop("out of memory");
     if (block.kind == MDS_BLOCK_HEADING || block.kind == MDS_BLOCK_SETEXT)
         print_heading(page, &block, found.kept);
-    page->line += block.lines, page->told += block.bytes;
+    page->line += block.lines, page->printed += block.bytes;
     return true;
 }
 

@@ -105,9 +105,9 @@ static size_t blocks_of(int example, const char *page, size_t length, struct mds
     same(example, "fits", count <= MOST, true);
     for (size_t less = 0; less < 2 && less <= count; less++) {
         void *buffer = writable(BUFFER, size);
-        struct mds_blocks told = mds_scan_blocks(bytes, length, buffer, count - less);
-        same(example, "status", told.status, less ? MDS_TOO_SHORT : MDS_OK);
-        same(example, "count", told.count, count);
+        struct mds_blocks returned = mds_scan_blocks(bytes, length, buffer, count - less);
+        same(example, "status", returned.status, less ? MDS_TOO_SHORT : MDS_OK);
+        same(example, "count", returned.count, count);
         same(example, "is_left", is_left(BUFFER, less ? 0 : size), true);
         if (!less)
             memcpy(blocks, buffer, size);
@@ -181,9 +181,9 @@ static void is_alike(int example, const struct mds_block *block, const struct md
     same(example, "count", is_leaf(other) ? block->count : 0, other->count);
 }
 
-/* The leaf blocks of a page that stand from one place to another are together the block that is told there, before which so many
+/* The leaf blocks of a page that stand from one place to another are together the block that is returned there, before which so many
  * lines stand. Answers how many of them there are. */
-static size_t is_told(int example, const struct mds_block *block, size_t at, size_t line, const struct mds_block *leaves) {
+static size_t is_returned(int example, const struct mds_block *block, size_t at, size_t line, const struct mds_block *leaves) {
     size_t count = 0, bytes = 0, lines = 0;
     same(example, "start", leaves->start, at), same(example, "line", leaves->line, line);
     same(example, "place", at + block->place, leaves->place), same(example, "indent", block->indent, leaves->indent);
@@ -214,7 +214,7 @@ static void is_fed(int example, const char *page, size_t length, const struct md
         for (; !is_leaf(blocks); blocks++)
             is_alike(example, &fed_containers[depth++], blocks);
         same(example, "depth", found.depth, depth), same(example, "open", open.depth, depth);
-        size_t count = is_told(example, &block, at, line, blocks);
+        size_t count = is_returned(example, &block, at, line, blocks);
         struct mds_text own = mds_block_content(bytes + at, block.bytes, &block, fed_containers, depth, found.kept, first, sizeof(first));
         struct mds_text all = mds_block_content(bytes, length, blocks, fed_containers, depth, found.kept, second, sizeof(second));
         same(example, "content", own.status, MDS_OK), same(example, "content", all.status, MDS_OK);
@@ -455,10 +455,10 @@ static void wrong_numbers(void) {
         const void *bytes = given(BYTES, page, length), *containers = given(OTHER_BYTES, blocks + 1, 3 * sizeof(*blocks));
         const void *leaf = given(LIST, blocks, sizeof(*blocks));
         struct mds_text found = mds_block_content(bytes, length, leaf, containers, 3, kept, writable(BUFFER, room), room);
-        bool is_ok = found.status == MDS_OK, is_told = is_ok || found.status == MDS_TOO_SHORT;
-        SAME(is_told || found.status == MDS_BAD_KIND, true);
+        bool is_ok = found.status == MDS_OK, is_returned = is_ok || found.status == MDS_TOO_SHORT;
+        SAME(is_returned || found.status == MDS_BAD_KIND, true);
         SAME(is_left(BUFFER, is_ok ? found.length : 0), true);
-        SAME(found.taken, is_told ? blocks[0].bytes : 0);
+        SAME(found.taken, is_returned ? blocks[0].bytes : 0);
     }
 }
 

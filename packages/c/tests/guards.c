@@ -143,7 +143,7 @@ static void ends_under_a_guard(void) {
     guard_is(__LINE__, guard, (struct mds_html_guard){1, 2, 3, SIZE_MAX});
 }
 
-/* Whatever numbers the guard has, what is told is the find or nothing. */
+/* Whatever numbers the guard has, what is returned is the find or nothing. */
 static void any_guard(void) {
     static const char text[] = "<!-- a --><![CDATA[b]]><!c><?d?>";
     static const size_t places[][2] = {{2, 10}, {12, 23}, {25, 27}, {29, 32}};

@@ -266,9 +266,9 @@ static size_t inlines_of(
     same(example, "fits", found <= MOST && found <= length, true);
     for (size_t less = 0; less < 2 && less <= found; less++) {
         void *buffer = writable(BUFFER, size);
-        struct mds_inlines told = mds_scan_inlines(bytes, length, labels, count, extensions, buffer, found - less);
-        same(example, "status", told.status, less ? MDS_TOO_SHORT : MDS_OK);
-        same(example, "count", told.count, found);
+        struct mds_inlines returned = mds_scan_inlines(bytes, length, labels, count, extensions, buffer, found - less);
+        same(example, "status", returned.status, less ? MDS_TOO_SHORT : MDS_OK);
+        same(example, "count", returned.count, found);
         same(example, "is_left", is_left(BUFFER, less ? 0 : size), true);
         if (!less)
             memcpy(inlines, buffer, size);

@@ -123,7 +123,7 @@ static struct mds_line_run run_of(const uint8_t *bytes, size_t length, struct md
     return mds_run_line(bytes, length, start, calls, 3, answers, 3);
 }
 
-/* What is left, in a buffer that may be too short; MDS_NOTHING where what is told is no answer. */
+/* What is left, in a buffer that may be too short; MDS_NOTHING where what is returned is no answer. */
 static struct mds_text rest_of(const uint8_t *bytes, size_t length, const struct mds_line_start *start, size_t number) {
     uint8_t buffer[AMPLE];
     size_t capacity = number % (AMPLE + 1);
@@ -170,25 +170,25 @@ static struct refusal call(size_t kind, const uint8_t *bytes, size_t length, str
 }
 
 /* Whether it is one of the statuses of a call on a state that is none of the wrong ones. */
-static bool is_told(size_t kind, struct refusal told) {
+static bool is_returned(size_t kind, struct refusal returned) {
     if (kind == RUN)
-        return told.status == MDS_OK || told.status == MDS_SPACE_PENDING || told.status == MDS_TOO_LARGE;
+        return returned.status == MDS_OK || returned.status == MDS_SPACE_PENDING || returned.status == MDS_TOO_LARGE;
     if (kind == REST_OF)
-        return told.status == MDS_OK || told.status == MDS_TOO_SHORT;
-    return told.status == MDS_OK || (told.status == MDS_NOTHING && told.is_zero);
+        return returned.status == MDS_OK || returned.status == MDS_TOO_SHORT;
+    return returned.status == MDS_OK || (returned.status == MDS_NOTHING && returned.is_zero);
 }
 
 /* Whether the numbers are refused where they have to be, and what is left is never refused. */
 static bool is_safe(size_t kind, const uint8_t *bytes, size_t length, struct mds_line_start old, size_t number) {
     struct mds_line_start start = old;
-    struct refusal told = call(kind, bytes, length, &start, number);
+    struct refusal returned = call(kind, bytes, length, &start, number);
     bool is_bad = old.place > length || old.pending > 3 || old.phase > 3;
     bool is_left = !memcmp(&start, &old, sizeof(start));
-    if (is_bad || told.status == MDS_BAD_STATE)
-        return is_bad && told.status == MDS_BAD_STATE && told.is_zero && is_left;
+    if (is_bad || returned.status == MDS_BAD_STATE)
+        return is_bad && returned.status == MDS_BAD_STATE && returned.is_zero && is_left;
     if ((kind == 4 || kind == 5) && number > SIZE_MAX - 16)
-        return told.status == MDS_TOO_LARGE && told.is_zero && is_left;
-    return is_told(kind, told) && start.place >= old.place && start.place <= length && start.pending <= 3 && start.phase <= 3;
+        return returned.status == MDS_TOO_LARGE && returned.is_zero && is_left;
+    return is_returned(kind, returned) && start.place >= old.place && start.place <= length && start.pending <= 3 && start.phase <= 3;
 }
 
 /* Made numbers, the same in each run (xorshift). */

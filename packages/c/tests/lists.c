@@ -36,9 +36,9 @@ static void lists_of(int row, const char *page, const char *wanted) {
     same(row, "fits", count <= MOST, true);
     for (size_t less = 0; less < 2 && less <= count; less++) {
         struct mds_list *lists = writable(BUFFER, size);
-        struct mds_blocks told = mds_scan_lists(bytes, length, lists, count - less);
-        same(row, "status", told.status, less ? MDS_TOO_SHORT : MDS_OK);
-        same(row, "count", told.count, count);
+        struct mds_blocks returned = mds_scan_lists(bytes, length, lists, count - less);
+        same(row, "status", returned.status, less ? MDS_TOO_SHORT : MDS_OK);
+        same(row, "count", returned.count, count);
         same(row, "is_left", is_left(BUFFER, less ? 0 : size), true);
         for (size_t i = 0; !less && i < count; i++)
             sprintf(

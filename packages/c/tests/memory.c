@@ -49,45 +49,45 @@ void __wrap_free(void *old) {
 enum { MANY = 40, LONG = 900, AMPLE = 2400 };
 
 /* What a call tells: its status, and its other numbers. */
-struct told {
+struct returned {
     uint32_t status;
     size_t numbers[3];
 };
 
 /* A call with buffers of so many bytes. */
-typedef struct told call_with(size_t room);
+typedef struct returned call_with(size_t room);
 
-static struct told of_text(struct mds_text text) {
-    return (struct told){text.status, {text.taken, text.length, 0}};
+static struct returned of_text(struct mds_text text) {
+    return (struct returned){text.status, {text.taken, text.length, 0}};
 }
 
-static struct told escape(size_t room) {
+static struct returned escape(size_t room) {
     return of_text(mds_unescape(OF("a&amp;b"), false, writable(BUFFER, room), room));
 }
 
-static struct told escape_in_cell(size_t room) {
+static struct returned escape_in_cell(size_t room) {
     return of_text(mds_unescape(OF("\\\\|"), true, writable(BUFFER, room), room));
 }
 
-static struct told long_escape(size_t room) {
+static struct returned long_escape(size_t room) {
     static char text[LONG];
     memset(text, 'a', LONG), text[LONG - 1] = '\r';
     return of_text(mds_unescape(given(BYTES, text, LONG), LONG, false, writable(BUFFER, room), room));
 }
 
-static struct told of_label(struct mds_label label) {
-    return (struct told){label.status, {label.end, label.length, label.start}};
+static struct returned of_label(struct mds_label label) {
+    return (struct returned){label.status, {label.end, label.length, label.start}};
 }
 
-static struct told label(size_t room) {
+static struct returned label(size_t room) {
     return of_label(mds_scan_link_label(OF("a  b]"), 0, false, NULL, 0, writable(BUFFER, room), room));
 }
 
-static struct told label_in_cell(size_t room) {
+static struct returned label_in_cell(size_t room) {
     return of_label(mds_scan_link_label(OF("a\\|b]"), 0, true, NULL, 0, writable(BUFFER, room), room));
 }
 
-static struct told long_label(size_t room) {
+static struct returned long_label(size_t room) {
     static char text[LONG];
     memset(text, 'a', LONG), text[1] = text[2] = ' ', text[LONG - 1] = ']';
     return of_label(
@@ -95,22 +95,22 @@ static struct told long_label(size_t room) {
 }
 
 /* A label over lines, of which one leaves something out. */
-static struct told label_over_lines(size_t room) {
+static struct returned label_over_lines(size_t room) {
     static const struct mds_skip skips[] = {{2, 2}};
     return of_label(mds_scan_link_label(OF("a\n> b]"), 0, false, skips, 1, writable(BUFFER, room), room));
 }
 
-static struct told of_tag(struct mds_tag tag) {
-    return (struct told){tag.status, {tag.end, tag.length, 0}};
+static struct returned of_tag(struct mds_tag tag) {
+    return (struct returned){tag.status, {tag.end, tag.length, 0}};
 }
 
 /* A tag over lines, of which one leaves something out. */
-static struct told tag(size_t room) {
+static struct returned tag(size_t room) {
     static const struct mds_skip skips[] = {{5, 2}};
     return of_tag(mds_scan_html_tag_over_lines(OF("<foo\n> bar>"), 0, skips, 1, writable(BUFFER, room), room));
 }
 
-static struct told long_tag(size_t room) {
+static struct returned long_tag(size_t room) {
     static const struct mds_skip skips[] = {{3, 2}};
     static char text[LONG];
     memset(text, ' ', LONG), memcpy(text, "<a\n>", 4), text[LONG - 1] = '>';
@@ -118,40 +118,40 @@ static struct told long_tag(size_t room) {
         mds_scan_html_tag_over_lines(given(BYTES, text, LONG), LONG, 0, skips, 1, writable(BUFFER, room), room));
 }
 
-static struct told key(size_t room) {
+static struct returned key(size_t room) {
     return of_text(mds_label_key(OF("A \xe1\xba\x9e"), writable(BUFFER, room), room));
 }
 
-static struct told long_key(size_t room) {
+static struct returned long_key(size_t room) {
     static char text[LONG];
     memset(text, 'A', LONG), memcpy(text, "\xc3\x84", 2);
     return of_text(mds_label_key(given(BYTES, text, LONG), LONG, writable(BUFFER, room), room));
 }
 
-static struct told table(size_t room) {
+static struct returned table(size_t room) {
     return of_text(mds_scan_table_head(OF("|-|-|"), writable(BUFFER, room), room));
 }
 
-static struct told wide_table(size_t room) {
+static struct returned wide_table(size_t room) {
     static char text[2 * MANY];
     for (size_t i = 0; i < MANY; i++)
         text[2 * i] = '-', text[2 * i + 1] = '|';
     return of_text(mds_scan_table_head(given(BYTES, text, 2 * MANY), 2 * MANY, writable(BUFFER, room), room));
 }
 
-static struct told of_html(const char *text, size_t length, const size_t *places, size_t count, size_t room) {
+static struct returned of_html(const char *text, size_t length, const size_t *places, size_t count, size_t room) {
     const uint8_t *bytes = given(BYTES, text, length);
     const size_t *list = given(LIST, places, count * sizeof(*list));
     size_t capacity = room / sizeof(size_t), *ends = writable(BUFFER, capacity * sizeof(size_t));
     struct mds_html_run run = mds_run_inline_html(bytes, length, list, count, ends, capacity);
-    return (struct told){run.status, {run.count, 0, 0}};
+    return (struct returned){run.status, {run.count, 0, 0}};
 }
 
-static struct told html_run(size_t room) {
+static struct returned html_run(size_t room) {
     return of_html("<!a><!b>", 8, (const size_t[]){2, 6}, 2, room);
 }
 
-static struct told long_html_run(size_t room) {
+static struct returned long_html_run(size_t room) {
     static char text[2 * MANY];
     static size_t places[MANY];
     for (size_t i = 0; i < MANY; i++)
@@ -159,69 +159,69 @@ static struct told long_html_run(size_t room) {
     return of_html(text, 2 * MANY, places, MANY, room);
 }
 
-static struct told of_blocks(const char *page, size_t length, size_t room) {
+static struct returned of_blocks(const char *page, size_t length, size_t room) {
     size_t capacity = room / sizeof(struct mds_block);
     struct mds_block *blocks = writable(BUFFER, capacity * sizeof(*blocks));
     struct mds_blocks found = mds_scan_blocks(given(BYTES, page, length), length, blocks, capacity);
-    return (struct told){found.status, {found.count, 0, 0}};
+    return (struct returned){found.status, {found.count, 0, 0}};
 }
 
-static struct told blocks(size_t room) {
+static struct returned blocks(size_t room) {
     return of_blocks("> - a\n\n[b]: c\nd\n", 16, room);
 }
 
-static struct told blocks_of_table(size_t room) {
+static struct returned blocks_of_table(size_t room) {
     return of_blocks("|a|b|\n|-|-|\n", 12, room);
 }
 
-static struct told deep_blocks(size_t room) {
+static struct returned deep_blocks(size_t room) {
     static char page[MANY / 3];
     memset(page, '>', sizeof(page));
     return of_blocks(page, sizeof(page), room);
 }
 
-static struct told of_lists(const char *page, size_t length, size_t room) {
+static struct returned of_lists(const char *page, size_t length, size_t room) {
     size_t capacity = room / sizeof(struct mds_list);
     struct mds_list *lists = writable(BUFFER, capacity * sizeof(*lists));
     struct mds_blocks found = mds_scan_lists(given(BYTES, page, length), length, lists, capacity);
-    return (struct told){found.status, {found.count, 0, 0}};
+    return (struct returned){found.status, {found.count, 0, 0}};
 }
 
-static struct told lists(size_t room) {
+static struct returned lists(size_t room) {
     return of_lists("- a\n  1. b\n\n  2. c\n+ d\n", 23, room);
 }
 
-static struct told many_lists(size_t room) {
+static struct returned many_lists(size_t room) {
     static char page[4 * MANY];
     for (size_t i = 0; i < MANY; i++)
         memcpy(page + 4 * i, i % 2 ? "- a\n" : "+ a\n", 4);
     return of_lists(page, sizeof(page), room);
 }
 
-static struct told of_line(const char *text, size_t length, size_t room) {
+static struct returned of_line(const char *text, size_t length, size_t room) {
     struct mds_open_blocks open = {0, 0, 0};
     struct mds_block block = {.bytes = 0};
     size_t capacity = room / sizeof(struct mds_block);
     struct mds_block *containers = writable(BUFFER, capacity * sizeof(*containers));
     struct mds_line_block found = mds_block_line(given(BYTES, text, length), length, true, containers, capacity, &open, &block);
-    return (struct told){found.status, {found.kept, found.depth, block.bytes}};
+    return (struct returned){found.status, {found.kept, found.depth, block.bytes}};
 }
 
-static struct told line(size_t room) {
+static struct returned line(size_t room) {
     return of_line("> - [b]: c\nd\n", 13, room);
 }
 
-static struct told line_of_table(size_t room) {
+static struct returned line_of_table(size_t room) {
     return of_line("> |a|b|\n> |-|-|\n", 16, room);
 }
 
-static struct told deep_line(size_t room) {
+static struct returned deep_line(size_t room) {
     static char text[MANY / 3];
     memset(text, '>', sizeof(text));
     return of_line(text, sizeof(text), room);
 }
 
-static struct told content_in(const char *page, size_t length, size_t depth, size_t room) {
+static struct returned content_in(const char *page, size_t length, size_t depth, size_t room) {
     static struct mds_block quotes[MANY];
     const struct mds_block leaf = {.kind = MDS_BLOCK_PARAGRAPH, .bytes = length};
     const void *bytes = given(BYTES, page, length), *block = given(LIST, &leaf, sizeof(leaf));
@@ -232,36 +232,36 @@ static struct told content_in(const char *page, size_t length, size_t depth, siz
 }
 
 /* It is one run of the page: memory is asked for the containers alone. */
-static struct told content_in_many(size_t room) {
+static struct returned content_in_many(size_t room) {
     return content_in("> a\n", 4, MANY, room);
 }
 
-static struct told long_content(size_t room) {
+static struct returned long_content(size_t room) {
     static char page[LONG];
     for (size_t i = 0; i < LONG; i++)
         page[i] = "> a\n"[i % 4];
     return content_in(page, LONG, 1, room);
 }
 
-static struct told of_inlines(const char *text, size_t length, const struct mds_view *labels, size_t count, size_t room) {
+static struct returned of_inlines(const char *text, size_t length, const struct mds_view *labels, size_t count, size_t room) {
     const struct mds_view *views = given(LIST, labels, count * sizeof(*views));
     size_t capacity = room / sizeof(struct mds_inline);
     struct mds_inline *inlines = writable(BUFFER, capacity * sizeof(*inlines));
     struct mds_inlines found = mds_scan_inlines(given(BYTES, text, length), length, views, count, MDS_STRIKETHROUGH, inlines, capacity);
-    return (struct told){found.status, {found.count, 0, 0}};
+    return (struct returned){found.status, {found.count, 0, 0}};
 }
 
-static struct told inlines(size_t room) {
+static struct returned inlines(size_t room) {
     return of_inlines("*a* `b` [c](d)", 14, NULL, 0, room);
 }
 
 /* Keys are made of the labels that are defined, and of those that are looked up. */
-static struct told inlines_with_labels(size_t room) {
+static struct returned inlines_with_labels(size_t room) {
     static const struct mds_view labels[] = {{"\xc3\x84", 2}, {"B  c", 4}, {"b c", 3}};
     return of_inlines("[\xc3\xa4][] ![a][B\nC] [d]", 22, labels, 3, room);
 }
 
-static struct told inlines_with_many_labels(size_t room) {
+static struct returned inlines_with_many_labels(size_t room) {
     static struct mds_view labels[MANY];
     for (size_t i = 0; i < MANY; i++)
         labels[i] = (struct mds_view){"abcdefghijklmnopqrstuvwxyzabcdefghijklmnopqrstuvwxyz" + i, 4};
@@ -271,44 +271,44 @@ static struct told inlines_with_many_labels(size_t room) {
 /* Headings, tables, tasks, lists, quotes, definitions and inlines: all that a page keeps while it is read. */
 static const char whole_page[] = "# a\n> - [x] *b* [c]\n\n|a|`b`|\n|-|-|\n|c|![d](e)|\n\n[c]: /f \"g\"\n";
 
-static struct told html(size_t room) {
+static struct returned html(size_t room) {
     return of_text(mds_html(OF(whole_page), MDS_OPTION_TABLES | MDS_OPTION_TASKS, writable(BUFFER, room), room));
 }
 
-static struct told long_html(size_t room) {
+static struct returned long_html(size_t room) {
     static char page[10 * MANY];
     for (size_t i = 0; i < sizeof(page); i++)
         page[i] = "*a*\n\n"[i % 5];
     return of_text(mds_html(given(BYTES, page, sizeof(page)), sizeof(page), 0, writable(BUFFER, room), room));
 }
 
-static struct told safe_html(size_t room) {
+static struct returned safe_html(size_t room) {
     static const struct mds_view schemes[] = {{"https", 5}, {"mailto", 6}};
     return of_text(mds_safe_html(OF("<a@b> [c](d:e) <f>"), 0, schemes, 2, writable(BUFFER, room), room));
 }
 
 /* The events stand in front of their texts. */
 /* Where there is room, for 24 events and 304 bytes of texts. */
-static struct told of_events(const char *page, size_t length, size_t room) {
+static struct returned of_events(const char *page, size_t length, size_t room) {
     size_t capacity = room ? 24 : 0, texts_capacity = room ? 304 : 0, records = capacity * sizeof(struct mds_event);
     uint8_t *both = writable(BUFFER, records + texts_capacity);
     struct mds_events found = mds_events(
         given(BYTES, page, length), length, MDS_OPTION_TABLES | MDS_OPTION_TASKS, (struct mds_event *)(void *)both, capacity,
         both + records, texts_capacity);
-    return (struct told){found.status, {found.count, found.length, 0}};
+    return (struct returned){found.status, {found.count, found.length, 0}};
 }
 
-static struct told events(size_t room) {
+static struct returned events(size_t room) {
     static const char page[] = "# a\n> - [x] *b* [c]\n\n[c]: /f \"g\"\n";
     return of_events(page, sizeof(page) - 1, room);
 }
 
-static struct told events_of_table(size_t room) {
+static struct returned events_of_table(size_t room) {
     static const char page[] = "|a|`b`|\n|-|-|\n";
     return of_events(page, sizeof(page) - 1, room);
 }
 
-static struct told long_events(size_t room) {
+static struct returned long_events(size_t room) {
     static char page[10 * MANY];
     for (size_t i = 0; i < sizeof(page); i++)
         page[i] = "a\\\n"[i % 3];
@@ -334,16 +334,16 @@ static void handles(void) {
     }
 }
 
-static struct told safe_html_by_usual_schemes(size_t room) {
+static struct returned safe_html_by_usual_schemes(size_t room) {
     return of_text(mds_safe_html(OF("[c](https://d)"), 0, NULL, 0, writable(BUFFER, room), room));
 }
 
-static struct told made(call_with *call, size_t room, size_t which) {
+static struct returned made(call_with *call, size_t room, size_t which) {
     writable(BUFFER, 0);
     requests = held = 0, refused = which;
-    struct told told = call(room);
+    struct returned returned = call(room);
     refused = 0;
-    return told;
+    return returned;
 }
 
 /* What an answer with ample memory has written. */
@@ -357,22 +357,22 @@ static bool is_kept(void) {
     return !memcmp(kept, whole(BUFFER), ROOM_SIZE);
 }
 
-static bool is_same(struct told one, struct told other) {
+static bool is_same(struct returned one, struct returned other) {
     return one.status == other.status && !memcmp(one.numbers, other.numbers, sizeof(one.numbers));
 }
 
 /* Whether memory was refused; if not, the answer has to be that of ample memory. */
-static bool told_refusal(int line, struct told found, struct told ample) {
-    const struct told nothing_more = {MDS_NO_MEMORY, {0, 0, 0}};
+static bool returned_refusal(int line, struct returned found, struct returned ample) {
+    const struct returned nothing_more = {MDS_NO_MEMORY, {0, 0, 0}};
     same(line, "what is held", held, 0);
     bool refusal = found.status == MDS_NO_MEMORY;
-    same(line, "what is told", is_same(found, refusal ? nothing_more : ample), true);
+    same(line, "what is returned", is_same(found, refusal ? nothing_more : ample), true);
     same(line, "what is written", refusal ? is_left(BUFFER, 0) : is_kept(), true);
     return refusal;
 }
 
 static void refuse_each(int line, call_with *call, size_t room, bool exact) {
-    struct told ample = made(call, room, 0);
+    struct returned ample = made(call, room, 0);
     size_t wanted = requests, refusals = 0;
     keep();
     same(line, "status", ample.status, room ? MDS_OK : MDS_TOO_SHORT);
@@ -380,9 +380,9 @@ static void refuse_each(int line, call_with *call, size_t room, bool exact) {
     if (exact)
         same(line, "requests", wanted, 1), same(line, "bytes asked for", asked, ample.numbers[1]);
     for (size_t which = 1; which <= wanted; which++) {
-        refusals += told_refusal(line, made(call, room, which), ample);
+        refusals += returned_refusal(line, made(call, room, which), ample);
         all_later = true;
-        refusals += told_refusal(line, made(call, room, which), ample);
+        refusals += returned_refusal(line, made(call, room, which), ample);
         all_later = false;
     }
     same(line, "some request is refused", refusals > 0, true);

@@ -36,7 +36,7 @@ static struct mds_tag tag_of(const char *bytes, size_t length, size_t start, con
     return mds_scan_html_tag_over_lines(input, length, start, skips, table->count, writable(BUFFER, room), room);
 }
 
-/* The tag, where it is told with each room for its text that is too small, and with enough. */
+/* The tag, where it is returned with each room for its text that is too small, and with enough. */
 static void tag_is(int line, const char *bytes, size_t length, size_t start, const struct table *table, size_t end,
     const char *text) {
     size_t wanted = strlen(text);
@@ -239,10 +239,10 @@ static void longest_labels(void) {
 
 /* What a call over any table tells: nothing past the end, and no more than there is room for. */
 static void bounds(int line, uint32_t status, size_t start, size_t end, size_t length, size_t size, size_t room) {
-    bool is_told = status == MDS_OK || status == MDS_TOO_SHORT, is_refused = status == MDS_NOTHING || status == MDS_PAST_END;
-    same(line, "status", is_told || is_refused, true), same(line, "past", status == MDS_PAST_END, size < start);
-    same(line, "end", is_told ? end > start && end <= size : end == 0, true);
-    same(line, "length", is_told ? length <= end - start : length == 0, true);
+    bool is_returned = status == MDS_OK || status == MDS_TOO_SHORT, is_refused = status == MDS_NOTHING || status == MDS_PAST_END;
+    same(line, "status", is_returned || is_refused, true), same(line, "past", status == MDS_PAST_END, size < start);
+    same(line, "end", is_returned ? end > start && end <= size : end == 0, true);
+    same(line, "length", is_returned ? length <= end - start : length == 0, true);
     same(line, "what is written", is_left(BUFFER, status == MDS_OK && room > 0 ? length : 0), true);
 }
 
@@ -356,7 +356,7 @@ static bool joins_endings(const char *text, const size_t *places, size_t length)
 
 enum { PAGE = 24 };
 
-/* With a table, what is told of a page is what is told without one of the page in which it is left out. */
+/* With a table, what is returned of a page is what is returned without one of the page in which it is left out. */
 static void is_flat(const char *page, size_t start, const struct table *table) {
     char text[PAGE], found[PAGE], wanted[PAGE];
     size_t places[PAGE], length = flat(page, PAGE, start, table, text, places);

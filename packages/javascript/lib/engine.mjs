@@ -69,16 +69,16 @@ export class Engine {
 
     /** What the module asks for memory within a call. It keeps none of it, so the next call begins with none taken. */
     #memoryCalls() {
-        const told = (/** @type {bigint} */ answer, /** @type {number | null} */ at) => {
+        const returned = (/** @type {bigint} */ answer, /** @type {number | null} */ at) => {
             this.heap.view.setBigUint64(Number(answer), at === null ? 0n : 1n, true);
             this.heap.view.setBigUint64(Number(answer) + 8, BigInt(at ?? 0), true);
         };
         return {
             /** @type {(...given: bigint[]) => void} */
-            rattle_alloc: (answer, size, alignment) => told(answer, this.heap.take(Number(size), Number(alignment))),
+            rattle_alloc: (answer, size, alignment) => returned(answer, this.heap.take(Number(size), Number(alignment))),
             /** @type {(...given: bigint[]) => void} */
             rattle_realloc: (answer, at, kept, size, alignment) =>
-                told(answer, this.heap.resize(Number(at), Number(kept), Number(size), Number(alignment))),
+                returned(answer, this.heap.resize(Number(at), Number(kept), Number(size), Number(alignment))),
             /** @type {(at: bigint) => void} */
             rattle_dealloc: (at) => this.heap.give(Number(at)),
         };

@@ -70,35 +70,35 @@ export class Leaf {
     /**
      * @param {{ placeOf: (byte: number) => number }} source
      * @param {number} from where the page begins, in bytes
-     * @param {any} told
+     * @param {any} returned
      * @param {Container[]} containers
      * @param {number} kept
      * @param {() => Made} content
      */
-    constructor(source, from, told, containers, kept, content) {
+    constructor(source, from, returned, containers, kept, content) {
         /** @type {BlockKind} */
-        this.kind = KINDS[told.kind];
+        this.kind = KINDS[returned.kind];
         /** The containers that it stands in, outermost first. */
         this.containers = containers;
         /** How many of these its first line goes on with; it begins the others. */
         this.kept = kept;
         /** How many lines of the page stand before it, and how many it has. */
-        this.line = told.line;
-        this.lines = told.lines;
+        this.line = returned.line;
+        this.lines = returned.lines;
         /** The place of its first line, and the one after its last. */
-        this.start = source.placeOf(from + told.start);
-        this.stop = source.placeOf(from + told.start + told.bytes);
+        this.start = source.placeOf(from + returned.start);
+        this.stop = source.placeOf(from + returned.start + returned.bytes);
         /** The columns of space in its first line after its containers, at most four, and the place after these. */
-        this.indent = told.indent;
-        this.place = source.placeOf(from + told.place);
+        this.indent = returned.indent;
+        this.place = source.placeOf(from + returned.place);
         /** The level of a heading, 1 to 6. */
-        this.level = this.kind === "heading" || this.kind === "setext" ? told.number : null;
+        this.level = this.kind === "heading" || this.kind === "setext" ? returned.number : null;
         /** Of an HTML block the number of its start condition. (4.6) */
-        this.htmlKind = this.kind === "html" ? told.number : null;
+        this.htmlKind = this.kind === "html" ? returned.number : null;
         /** Of fenced code the character of its fence, and how many stand there. */
-        this.fence = this.kind === "fenced" ? { character: String.fromCharCode(told.byte), count: told.count } : null;
+        this.fence = this.kind === "fenced" ? { character: String.fromCharCode(returned.byte), count: returned.count } : null;
         /** How many columns a table has. */
-        this.columns = this.kind === "table" ? told.count : null;
+        this.columns = this.kind === "table" ? returned.count : null;
         this.#content = content;
     }
 
@@ -178,15 +178,15 @@ export class Pages extends Source {
         /** @type {{ index: number, container: Container }[] | null} */
         let same = null;
         for (let index = 0; index * SIZE < rows.bytes.length; index++) {
-            const told = read(rows, index * SIZE);
-            if (told.kind in KINDS) {
+            const returned = read(rows, index * SIZE);
+            if (returned.kind in KINDS) {
                 same ??= [...open];
-                yield this.#leaf(from, to, rows, index, told, same, kept);
+                yield this.#leaf(from, to, rows, index, returned, same, kept);
                 kept = open.length;
                 continue;
             }
             same = null;
-            if (told.kind !== c.BLOCK_END) open.push({ index, container: this.#container(from, told) });
+            if (returned.kind !== c.BLOCK_END) open.push({ index, container: this.#container(from, returned) });
             else {
                 open.pop();
                 kept = open.length;
@@ -199,23 +199,23 @@ export class Pages extends Source {
      * @param {number} to
      * @param {Rows} rows
      * @param {number} index
-     * @param {any} told
+     * @param {any} returned
      * @param {{ index: number, container: Container }[]} open
      * @param {number} kept
      */
-    #leaf(from, to, rows, index, told, open, kept) {
+    #leaf(from, to, rows, index, returned, open, kept) {
         const structs = [index, ...open.map((it) => it.index)].map((it) => rows.row(it));
-        const content = () => this.contentOf(from, to, structs, kept, told.bytes);
-        return new Leaf(this, from, told, open.map((it) => it.container), kept, content);
+        const content = () => this.contentOf(from, to, structs, kept, returned.bytes);
+        return new Leaf(this, from, returned, open.map((it) => it.container), kept, content);
     }
 
     /**
      * @param {number} from
-     * @param {any} told
+     * @param {any} returned
      * @returns {Container}
      */
-    #container(from, told) {
-        return containerOf(told, this.placeOf(from + told.place));
+    #container(from, returned) {
+        return containerOf(returned, this.placeOf(from + returned.place));
     }
 
     /**
@@ -246,19 +246,19 @@ export class Pages extends Source {
 
 /**
  * A container that begins at the place.
- * @param {any} told
+ * @param {any} returned
  * @param {number} place
  * @returns {Container}
  */
-export function containerOf(told, place) {
-    if (told.kind === c.BLOCK_QUOTE) return { kind: "quote", place };
-    if (told.kind === c.BLOCK_FOOTNOTE) return { kind: "footnote", place };
-    if (told.kind === c.BLOCK_TERM_DEFINITION) return { kind: "termDefinition", place, width: told.width };
-    return { kind: "item", place, delimiter: String.fromCharCode(told.byte), start: told.number, width: told.width };
+export function containerOf(returned, place) {
+    if (returned.kind === c.BLOCK_QUOTE) return { kind: "quote", place };
+    if (returned.kind === c.BLOCK_FOOTNOTE) return { kind: "footnote", place };
+    if (returned.kind === c.BLOCK_TERM_DEFINITION) return { kind: "termDefinition", place, width: returned.width };
+    return { kind: "item", place, delimiter: String.fromCharCode(returned.byte), start: returned.number, width: returned.width };
 }
 
 /**
- * @param {any} told
+ * @param {any} returned
  * @returns {List}
  */
 function listOf({ delimiter, start, isLoose, depth, line, end }) {

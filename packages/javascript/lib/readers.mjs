@@ -11,7 +11,7 @@ const SHORT = 4096;
 
 /**
  * Reads a page that comes piece by piece, and tells each leaf block once what has come shows where it ends. It keeps what is not
- * told yet, and the containers that are open, so that it has memory for the longest block and the deepest nesting.
+ * returned yet, and the containers that are open, so that it has memory for the longest block and the deepest nesting.
  *
  * A block is as `scanBlocks` has it of the whole page, with the places of the page's bytes, and its content as bytes; but a
  * paragraph that begins with link reference definitions is one block, with these at the front of its content. (3, 4, 5)
@@ -19,12 +19,12 @@ const SHORT = 4096;
 export class BlockReader {
     #engine;
     #extensions;
-    /** @type {Uint8Array[]} What is not told yet. */
+    /** @type {Uint8Array[]} What is not returned yet. */
     #pieces = [];
     /** How many bytes these have, and have to have before they are read again. */
     #size = 0;
     #wanted = 0;
-    /** @type {Leaf<Uint8Array>[]} What is told and not answered, as memory was refused then. */
+    /** @type {Leaf<Uint8Array>[]} What is ready and not returned, as memory was refused then. */
     #ready = [];
     /** The structs of the containers that are open, with room for more, and the same as they began. */
     #room = new Uint8Array(8 * SIZE);
@@ -32,7 +32,7 @@ export class BlockReader {
     #open = [];
     /** Whether a term stands before the next block. */
     #state = 0;
-    /** How much of the page is told. */
+    /** How much of the page is returned. */
     #start = 0;
     #line = 0;
 
@@ -54,7 +54,7 @@ export class BlockReader {
         const piece = bytesOf("data", data);
         this.#pieces.push(piece);
         this.#size += piece.length;
-        return this.#size < this.#wanted ? [] : this.#told(false);
+        return this.#size < this.#wanted ? [] : this.#returned(false);
     }
 
     /**
@@ -62,11 +62,11 @@ export class BlockReader {
      * @returns {Leaf<Uint8Array>[]}
      */
     close() {
-        return this.#told(true);
+        return this.#returned(true);
     }
 
     /** @param {boolean} hasEnded */
-    #told(hasEnded) {
+    #returned(hasEnded) {
         const text = new Block(joined(this.#pieces));
         const size = text.bytes.length;
         try {
@@ -83,7 +83,7 @@ export class BlockReader {
     }
 
     /**
-     * The next block of what is not told of the text, or null.
+     * The next block of what is not returned of the text, or null.
      * @param {Block} text
      * @param {boolean} hasEnded
      */
@@ -113,24 +113,24 @@ export class BlockReader {
     }
 
     /**
-     * The block that is told, with the containers that are open now.
+     * The block that is returned, with the containers that are open now.
      * @param {{ kept: number, begun: any[], leaf: any, struct: Uint8Array }} found
      * @param {Uint8Array} lines
      */
     #leaf({ kept, begun, leaf, struct }, lines) {
         const start = this.#start;
-        const started = begun.map((told, index) => ({
+        const started = begun.map((returned, index) => ({
             struct: this.#room.slice((kept + index) * SIZE, (kept + index + 1) * SIZE),
-            container: containerOf(told, start + told.place),
+            container: containerOf(returned, start + returned.place),
         }));
         this.#open = [...this.#open.slice(0, kept), ...started];
         const structs = [struct, ...this.#open.map((it) => it.struct)];
         const content = () => new Pages(this.#engine, lines, "utf-8").contentOf(0, lines.length, structs, kept, lines.length);
         const containers = this.#open.map((it) => it.container);
-        const told = { ...leaf, line: this.#line };
+        const returned = { ...leaf, line: this.#line };
         this.#start += leaf.bytes;
         this.#line += leaf.lines;
-        return new Leaf({ placeOf: (byte) => byte }, start, told, containers, kept, content);
+        return new Leaf({ placeOf: (byte) => byte }, start, returned, containers, kept, content);
     }
 }
 

@@ -63,7 +63,7 @@ function note(text) {
     return element("p", { class: "note" }, text);
 }
 
-/** A list that may be told in part. */
+/** A list that may be returned in part. */
 function list({ count, first }, nothing, draw) {
     const drawn = first.map(draw);
     if (count === 0) drawn.push(note(nothing));
@@ -120,7 +120,7 @@ function whatOf({ lineStart, isOfCells }) {
     return ` of a line start at ${lineStart.place}${lineStart.pending ? ` with ${lineStart.pending} columns pending` : ""}`;
 }
 
-/** What is told of an answer: the call, its bytes, its section and its contract. */
+/** What is returned of an answer: the call, its bytes, its section and its contract. */
 export function drawnAnswer(it) {
     const contract = CONTRACTS[it.call];
     const given = (it.given ?? []).map((word) => JSON.stringify(word)).join(", ");

@@ -21,7 +21,7 @@ const EMPTY = `<!doctype html><meta http-equiv="Content-Security-Policy" content
 const places = new WeakMap();
 
 /**
- * A frame that is empty. Of what is pointed at in it `show` is told: its name, and where its source begins and stops.
+ * A frame that is empty. Of what is pointed at in it `show` is given: its name, and where its source begins and stops.
  * @param {(name: string, start: number, stop: number) => void} show
  */
 export function newFrame(show) {

@@ -33,7 +33,8 @@ const DELAY = 120;
 /** Lines that are marked in the text at once. */
 const MOST_MARKS = 100;
 
-const [text, file, marks, view, told, answer, views] = ["text", "file", "marks", "view", "told", "answer", "views"].map((it) => document.getElementById(it));
+const IDS = ["text", "file", "marks", "view", "report", "answer", "views"];
+const [text, file, marks, view, report, answer, views] = IDS.map((it) => document.getElementById(it));
 const state = { view: "lines", seen: null, id: 0, timer: 0, shown: null };
 const worker = new Worker(new URL("worker.mjs", import.meta.url), { type: "module" });
 
@@ -131,8 +132,8 @@ function reachable() {
 }
 
 function say(words, isRefused = false) {
-    told.textContent = words;
-    told.classList.toggle("refused", isRefused);
+    report.textContent = words;
+    report.classList.toggle("refused", isRefused);
 }
 
 /** Asks for the text of the file that was chosen. */

@@ -61,8 +61,8 @@ export class Reading {
             const number = this.lines.length + 1;
             line.goOn(index === 0 ? block.containers.slice(0, block.kept) : block.containers);
             if (index === 0) line.begin(block.containers.slice(block.kept));
-            const told = this.#told(block, line, index, joined);
-            this.lines.push({ number, at, end: line.end, taken: line.taken, block: told, from: line.start.place });
+            const returned = this.#returned(block, line, index, joined);
+            this.lines.push({ number, at, end: line.end, taken: line.taken, block: returned, from: line.start.place });
             at = line.end;
             yield;
         }
@@ -76,7 +76,7 @@ export class Reading {
      * @param {number} index
      * @param {Joined} joined
      */
-    #told(block, line, index, joined) {
+    #returned(block, line, index, joined) {
         if (block.kind === "html" && index > 0) return this.#inHtml(line, block.htmlKind);
         const lineStart = { place: line.start.place, pending: line.start.pending };
         const columns = line.take("indent", "upto", 4);
@@ -106,7 +106,7 @@ export class Reading {
     }
 
     /**
-     * A block of a line that is told by this call.
+     * A block of a line that is returned by this call.
      * @param {Line} line
      * @param {string} name
      * @param {string} call
@@ -133,12 +133,12 @@ export class Reading {
 
     /** An ATX heading, without its opening and its closing sequence. (4.2) */
     #atx(line, block) {
-        const told = this.#call(line, `heading ${block.level}`, "scanAtxHeading");
+        const returned = this.#call(line, `heading ${block.level}`, "scanAtxHeading");
         const [from] = this.#trimmed(line.start.place + block.level, line.end);
         const joined = new Joined();
         joined.add(from, from + ENCODER.encode(block.content()).length);
-        this.#heading(block, joined, told);
-        return told;
+        this.#heading(block, joined, returned);
+        return returned;
     }
 
     #heading(block, joined, { call, given }) {
@@ -194,11 +194,11 @@ export class Reading {
 
     /** The delimiter row of a table. */
     #tableHead(line, block) {
-        const told = this.#call(line, `table of ${block.columns}`, "scanTableHead");
-        const { call, given, answer } = told;
+        const returned = this.#call(line, `table of ${block.columns}`, "scanTableHead");
+        const { call, given, answer } = returned;
         const { alignments, end } = /** @type {any} */ (answer);
         Object.assign(this.tables.at(-1), { alignments, call, given, answer, from: line.start.place, to: end });
-        return told;
+        return returned;
     }
 
     /** The cells of a row, which pipes part that no backslash stands before. */

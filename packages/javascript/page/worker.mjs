@@ -5,7 +5,7 @@ import { decode } from "./paragraph.mjs";
 import { Reading } from "./reading.mjs";
 import { rendered } from "./rendered.mjs";
 
-/** Of each list so many are told. */
+/** Of each list so many are returned. */
 const MOST = 1000;
 /** How many bytes of a line, or of a text that was scanned, are shown. */
 const SHOWN = 1000;
@@ -30,14 +30,14 @@ function cut(from, to) {
     return decode(page.bytes.subarray(from, Math.min(to, from + SHOWN)));
 }
 
-/** An answer as it is told: of the text that it is of, of a heading and of where a label leads no more than the beginning. */
-function told({ joined, ...answer }) {
+/** An answer as it is returned: of the text that it is of, of a heading and of where a label leads no more than the beginning. */
+function returned({ joined, ...answer }) {
     for (const name of ["text", "target"]) if (answer[name]?.length > SHOWN) answer[name] = `${answer[name].slice(0, SHOWN)}…`;
     return joined ? { ...answer, joinedText: decode(joined.bytes(reading.page).subarray(0, 4 * SHOWN)) } : answer;
 }
 
-/** A table as it is told, without what is long in it. */
-function toldTable(table) {
+/** A table as it is returned, without what is long in it. */
+function returnedTable(table) {
     const rows = table.rows.slice(0, MOST).map(({ number, cells }) => ({ number, cells: cells.slice(0, MOST_COLUMNS) }));
     return { ...table, rows, width: table.alignments.length, alignments: shortened(table.alignments), answer: shortened(table.answer) };
 }
@@ -45,12 +45,12 @@ function toldTable(table) {
 /** What a text has, apart from its lines. */
 function summary() {
     const found = (...kinds) => reading.found.filter((it) => kinds.includes(it.kind));
-    const list = (all, sent = told) => ({ count: all.length, first: all.slice(0, MOST).map(sent) });
+    const list = (all, sent = returned) => ({ count: all.length, first: all.slice(0, MOST).map(sent) });
     return {
         lines: reading.lines.length,
         bytes: reading.page.length,
         headings: list(reading.headings),
-        tables: list(reading.tables, toldTable),
+        tables: list(reading.tables, returnedTable),
         labels: list(found("definition", "reference", "shortcut", "link")),
         html: list(found("html")),
         passed: reading.passed,

@@ -12,7 +12,7 @@ const pages = [...source.matchAll(/^ {4}\{\d+, ((?:"(?:[^"\\]|\\.)*"\s*)+),/gm)]
     .map(([, words]) => words.match(/"(?:[^"\\]|\\.)*"/g).map((it) => JSON.parse(it)).join(""));
 
 /** What a block is, and where it stands. */
-function told(block) {
+function returned(block) {
     const { kind, line, lines, start, stop, place, indent, level, htmlKind, fence, columns, containers, kept } = block;
     return { kind, line, lines, start, stop, place, indent, level, htmlKind, fence, columns, containers, kept, content: `${Buffer.from(block.content())}` };
 }
@@ -21,15 +21,15 @@ function told(block) {
 function fed(page, size) {
     const reader = scanners.blockReader();
     const found = [];
-    for (let at = 0; at < page.length; at += size) found.push(...reader.feed(page.subarray(at, at + size)).map(told));
-    return [...found, ...reader.close().map(told)];
+    for (let at = 0; at < page.length; at += size) found.push(...reader.feed(page.subarray(at, at + size)).map(returned));
+    return [...found, ...reader.close().map(returned)];
 }
 
 test("each page that has no definitions, in pieces of each size", () => {
     const plain = pages.map((it) => Buffer.from(it)).filter((it) => !it.includes("]:"));
     assert.ok(plain.length > 25);
     for (const page of plain) {
-        const wanted = [...scanners.text(page).scanBlocks()].map(told);
+        const wanted = [...scanners.text(page).scanBlocks()].map(returned);
         for (let size = 1; size <= page.length; size++) assert.deepEqual(fed(page, size), wanted, `${page}`);
     }
 });

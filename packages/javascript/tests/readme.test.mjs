@@ -11,9 +11,9 @@ const AsyncFunction = (async () => null).constructor;
 test("the example of the README", async () => {
     const [, example] = /```js\n([\s\S]*?)```/.exec(readFileSync(new URL("../README.md", import.meta.url), "utf8"));
     const lines = example.split("\n").filter((it) => it && !it.startsWith("import"));
-    const body = lines.map((it) => it.replace(/^(.*); \/\/ (.*)$/, "told.push([$1, $2]);")).join("\n");
-    const told = [];
-    await new AsyncFunction("load", "told", body)(() => load(MODULE), told);
-    told.forEach(([found, wanted]) => assert.deepEqual(found, wanted));
-    hold("examples", told.length);
+    const body = lines.map((it) => it.replace(/^(.*); \/\/ (.*)$/, "returned.push([$1, $2]);")).join("\n");
+    const returned = [];
+    await new AsyncFunction("load", "returned", body)(() => load(MODULE), returned);
+    returned.forEach(([found, wanted]) => assert.deepEqual(found, wanted));
+    hold("examples", returned.length);
 });

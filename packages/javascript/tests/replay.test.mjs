@@ -65,7 +65,7 @@ function part(text, found) {
     return found ? `${found.end} ${hexOf(text.slice(found.start, found.stop))}` : "none";
 }
 
-/** How many bytes are taken is told, and not the place. */
+/** How many bytes are taken is returned, and not the place. */
 function linkDest(text, at, maxNext) {
     const found = text.scanLinkDest(Number(at), text.length, { maxNext: BigInt(maxNext) });
     return part(text, found && { ...found, end: found.end - Number(at) });
@@ -99,16 +99,16 @@ function label(text, bytes, handler, inTable) {
 
 function inlineHtml(text, bytes) {
     const guard = text.htmlScanGuard();
-    const told = [];
+    const returned = [];
     let last = 0;
     for (const found of bytes.toString("latin1").matchAll(/<[!?]/g)) {
         const place = found.index + 2;
         if (place < last) continue;
         const end = guard.scan(place);
         last = end ?? last;
-        told.push(`${place}:${orNone(end)}`);
+        returned.push(`${place}:${orNone(end)}`);
     }
-    return told.join(" ");
+    return returned.join(" ");
 }
 
 const LINE_CALLS = {
@@ -138,8 +138,8 @@ function line(text, _, calls) {
     const start = text.lineStart();
     const steps = calls.split(",").map((call) => {
         const [name, number] = call.split(":");
-        const told = LINE_CALLS[name](start, number && BigInt(number));
-        return `${told} @${start.place}+${start.pending}`;
+        const returned = LINE_CALLS[name](start, number && BigInt(number));
+        return `${returned} @${start.place}+${start.pending}`;
     });
     return steps.join(" ");
 }

@@ -18,14 +18,14 @@ const inlines: (string | undefined)[] = Array.from(
     (it) => ("link" in it ? it.link.target : it.kind),
 );
 const html: [string, Uint8Array] = [scanners.html("*a*"), bytes.html({ safe: false, extensions: ["table", "tasklist"] })];
-const told: (string | number | null)[] = scanners.events("# *a*", { extensions: ["table"] }).map((it) => {
+const returned: (string | number | null)[] = scanners.events("# *a*", { extensions: ["table"] }).map((it) => {
     if (it.kind === "start") return it.element === "heading" ? it.level : it.element === "link" ? it.destination : it.start;
     return it.kind === "text" ? it.text : null;
 });
 const first: Uint8Array | null = bytes.events().reduce<Uint8Array | null>((found, it) => found ?? (it.kind === "text" ? it.text : null), null);
 const name: string = new NotUtf8("none").name;
 console.log(level, isQuote, made[0], made[1].length, label?.text, page.scanLinkDest(10, 11)?.end, name);
-console.log(told.length, first);
+console.log(returned.length, first);
 console.log(html[0].length, html[1].length, contents, places, inlines, title?.start, run, page.scanCodeSpan()?.stop);
 console.log(scanners.isUnicodeWhitespace("a"), scanners.isUnicodePunctuation(33));
 

@@ -17,7 +17,7 @@ _SHORT = 4096  #: a text of so many bytes is read again with each piece, and a l
 
 class BlockReader:
     r"""Reads a page that comes piece by piece, of bytes that may end anywhere, and tells each leaf block once what has come shows
-    where it ends. It keeps what is not told yet, and the containers that are open.
+    where it ends. It keeps what is not returned yet, and the containers that are open.
 
     A block is as `scan_blocks` has it of the whole page, with places of the whole page; but a paragraph that begins with link
     reference definitions is one block, with these at the front of its content.
@@ -34,28 +34,28 @@ class BlockReader:
     __slots__ = ("_pieces", "_size", "_wanted", "_ready", "_open", "_room", "_containers", "_began", "_start", "_line")
 
     def __init__(self, *, footnotes: bool = False, definition_lists: bool = False) -> None:
-        self._pieces: list[bytes] = []  # what is not told yet
+        self._pieces: list[bytes] = []  # what is not returned yet
         self._size = self._wanted = 0  # how many bytes these have, and have to have before they are read again
-        self._ready: list[Block[bytes]] = []  # what is told and not answered, as memory was refused then
+        self._ready: list[Block[bytes]] = []  # what is ready and not returned, as memory was refused then
         asked = _c.FOOTNOTES if flag("footnotes", footnotes) else 0
         asked |= _c.DEFINITION_LISTS if flag("definition_lists", definition_lists) else 0
         self._open = _c.OpenBlocks(0, asked, 0)
         self._room = (_c.Block * 8)()
         self._containers: tuple[Container, ...] = ()
         self._began: tuple[Any, ...] = ()
-        self._start = self._line = 0  # how much of the page is told
+        self._start = self._line = 0  # how much of the page is returned
 
     def feed(self, data: Buffer) -> list[Block[bytes]]:
         """Takes the next bytes of the page. Answers the blocks that are known to end."""
         self._pieces.append(bytes(memoryview(data)))
         self._size += len(self._pieces[-1])
-        return self._told(False) if self._size >= self._wanted else []
+        return self._returned(False) if self._size >= self._wanted else []
 
     def close(self) -> list[Block[bytes]]:
         """The page has ended. Answers the blocks that are left."""
-        return self._told(True)
+        return self._returned(True)
 
-    def _told(self, has_ended: bool) -> list[Block[bytes]]:
+    def _returned(self, has_ended: bool) -> list[Block[bytes]]:
         text = b"".join(self._pieces)
         address, size, _ = front(text, 0, None)
         try:
@@ -69,8 +69,8 @@ class BlockReader:
         finally:
             self._pieces = [text[size - self._size :]]
         self._wanted = 2 * self._size if self._size > _SHORT else 0
-        told, self._ready = self._ready, []
-        return told
+        returned, self._ready = self._ready, []
+        return returned
 
     def _next(self, address: int, size: int, has_ended: bool, leaf: _c.Block) -> Any:
         """The next block, with room for its containers."""
@@ -85,7 +85,7 @@ class BlockReader:
             self._room = room
 
     def _block(self, found: Any, leaf: _c.Block, lines: bytes) -> Block[bytes]:
-        """The block, behind which more of the page is told."""
+        """The block, behind which more of the page is returned."""
         kept, began = found.kept, self._room[found.kept : found.depth]
         if began or kept < len(self._containers):
             self._began = *self._began[:kept], *[_c.Block.from_buffer_copy(it) for it in began]

@@ -96,9 +96,9 @@ class Writer:
         if len(self.images) == 1 and it.element == Element.IMAGE:
             self.html.append(f'<img src="{address(it.target)}" alt="')
         elif not self.images:
-            self.html.append(self.told(it))
+            self.html.append(self.returned(it))
 
-    def told(self, it):
+    def returned(self, it):
         if it.kind in (EventKind.START, EventKind.END):
             return self.tag(it, it.kind == EventKind.START)
         return {

@@ -37,7 +37,7 @@ def rows():
         yield int(number), said(given), [tuple(map(said, it)) for it in re.findall(DEFINITION, definitions)], said(wanted)
 
 
-class Told:
+class Returned:
     """What is said of the inlines of a text, which may be bytes, and stand at a place."""
 
     def __init__(self, data, at, end, definitions):
@@ -85,11 +85,11 @@ class Inlines(unittest.TestCase):
         self.assertEqual(len(found), ROWS.read_text().count("\n    {"))
         for number, text, definitions, wanted in found:
             data = text.encode()
-            self.assertEqual(Told(data, 0, None, definitions).text, wanted, number)
-            self.assertEqual(Told(b"*[\xff" + data + b"](b)*", 3, 3 + len(data), definitions).text, wanted, number)
-            self.assertEqual(Told(bytearray(data), 0, None, definitions).text, wanted, number)
-            self.assertEqual(Told(text, 0, None, definitions).text, wanted, number)
-            self.assertEqual(Told("é🍔[" + text + "]*é", 3, 3 + len(text), definitions).text, wanted, number)
+            self.assertEqual(Returned(data, 0, None, definitions).text, wanted, number)
+            self.assertEqual(Returned(b"*[\xff" + data + b"](b)*", 3, 3 + len(data), definitions).text, wanted, number)
+            self.assertEqual(Returned(bytearray(data), 0, None, definitions).text, wanted, number)
+            self.assertEqual(Returned(text, 0, None, definitions).text, wanted, number)
+            self.assertEqual(Returned("é🍔[" + text + "]*é", 3, 3 + len(text), definitions).text, wanted, number)
 
     def test_fields(self):
         image, text, end = mds.scan_inlines("![é](<b> 'c')")

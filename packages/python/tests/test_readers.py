@@ -37,7 +37,7 @@ class Readers(unittest.TestCase):
                 if b"]:" not in page:
                     self.assertEqual([fields_of(it) for it in found], [fields_of(it) for it in whole], page)
 
-    def test_when_blocks_are_told(self):
+    def test_when_blocks_are_returned(self):
         reader = BlockReader()
         self.assertEqual(reader.feed(b"# A\r"), [])  # LF may follow
         self.assertEqual([it.content() for it in reader.feed(b"b\n")], [b"A"])

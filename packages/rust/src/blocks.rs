@@ -1,6 +1,6 @@
 //! Bytes, lines and blocks at the front of the text. Sections in brackets are those of CommonMark 0.31.2.
 //!
-//! A call of the library takes longer than a look at one byte. So where the first byte tells the answer, it is told here; a build
+//! A call of the library takes longer than a look at one byte. So where the first byte tells the answer, it is returned here; a build
 //! with debug assertions compares it with the library's.
 
 use alloc::vec;
@@ -270,13 +270,13 @@ pub struct ReferenceDefinition {
 /// ```
 #[must_use]
 pub fn scan_reference_definition(data: &[u8], max_next: usize) -> Option<ReferenceDefinition> {
-    let told = raw::scan_reference_definition(data, 0, max_next);
+    let returned = raw::scan_reference_definition(data, 0, max_next);
     let part = |start: usize, length: usize| start..start + length;
-    (told.status == ffi::OK).then(|| ReferenceDefinition {
-        label: part(told.label_start, told.label_length),
-        destination: part(told.destination_start, told.destination_length),
-        title: found(told.title_start).map(|start| part(start, told.title_length)),
-        len: told.end,
+    (returned.status == ffi::OK).then(|| ReferenceDefinition {
+        label: part(returned.label_start, returned.label_length),
+        destination: part(returned.destination_start, returned.destination_length),
+        title: found(returned.title_start).map(|start| part(start, returned.title_length)),
+        len: returned.end,
     })
 }
 
@@ -304,8 +304,8 @@ pub fn scan_table_head(data: &[u8]) -> (usize, Vec<Alignment>) {
     }
 }
 
-fn fence(told: ffi::Fence) -> Option<(usize, u8)> {
-    found(told.length).map(|length| (length, told.byte))
+fn fence(returned: ffi::Fence) -> Option<(usize, u8)> {
+    found(returned.length).map(|length| (length, returned.byte))
 }
 
 /// The length and the byte of the opening code fence at the front. (4.5)

@@ -27,13 +27,13 @@ pub(crate) fn string(bytes: Vec<u8>) -> String {
 }
 
 /// A part of the bytes: the place behind it, and its own bytes.
-pub(crate) fn part(told: ffi::Part, data: &[u8]) -> Option<(usize, &[u8])> {
-    (told.status == ffi::OK).then(|| (told.end, &data[told.start..told.start + told.length]))
+pub(crate) fn part(returned: ffi::Part, data: &[u8]) -> Option<(usize, &[u8])> {
+    (returned.status == ffi::OK).then(|| (returned.end, &data[returned.start..returned.start + returned.length]))
 }
 
 /// The same of a text.
-pub(crate) fn text_part(told: ffi::Part, data: &str) -> Option<(usize, &str)> {
-    (told.status == ffi::OK).then(|| (told.end, &data[told.start..told.start + told.length]))
+pub(crate) fn text_part(returned: ffi::Part, data: &str) -> Option<(usize, &str)> {
+    (returned.status == ffi::OK).then(|| (returned.end, &data[returned.start..returned.start + returned.length]))
 }
 
 pub(crate) fn check_place(data: &str, start: usize) {
@@ -82,8 +82,8 @@ pub fn scan_wikilink_pipe_bytes(data: &[u8], start_ix: usize, len: usize) -> Opt
 #[must_use]
 pub fn scan_link_dest(data: &str, start_ix: usize, max_next: usize) -> Option<(usize, &str)> {
     check_place(data, start_ix);
-    let told = text_part(raw::scan_link_dest(data.as_bytes(), start_ix, max_next), data);
-    told.map(|(end, text)| (end - start_ix, text))
+    let returned = text_part(raw::scan_link_dest(data.as_bytes(), start_ix, max_next), data);
+    returned.map(|(end, text)| (end - start_ix, text))
 }
 
 /// The same of any bytes; `None` too where the place is past their end.
@@ -94,8 +94,8 @@ pub fn scan_link_dest(data: &str, start_ix: usize, max_next: usize) -> Option<(u
 #[inline]
 #[must_use]
 pub fn scan_link_dest_bytes(data: &[u8], start_ix: usize, max_next: usize) -> Option<(usize, &[u8])> {
-    let told = part(raw::scan_link_dest(data, start_ix, max_next), data);
-    told.map(|(end, text)| (end - start_ix, text))
+    let returned = part(raw::scan_link_dest(data, start_ix, max_next), data);
+    returned.map(|(end, text)| (end - start_ix, text))
 }
 
 /// The link title at a place: how many bytes it takes, and its text, without the quotes or parentheses around it. It may go
@@ -112,8 +112,8 @@ pub fn scan_link_dest_bytes(data: &[u8], start_ix: usize, max_next: usize) -> Op
 #[must_use]
 pub fn scan_link_title(data: &str, start_ix: usize) -> Option<(usize, &str)> {
     check_place(data, start_ix);
-    let told = text_part(raw::scan_link_title(data.as_bytes(), start_ix), data);
-    told.map(|(end, text)| (end - start_ix, text))
+    let returned = text_part(raw::scan_link_title(data.as_bytes(), start_ix), data);
+    returned.map(|(end, text)| (end - start_ix, text))
 }
 
 /// The same of any bytes; `None` too where the place is past their end.
@@ -124,8 +124,8 @@ pub fn scan_link_title(data: &str, start_ix: usize) -> Option<(usize, &str)> {
 #[inline]
 #[must_use]
 pub fn scan_link_title_bytes(data: &[u8], start_ix: usize) -> Option<(usize, &[u8])> {
-    let told = part(raw::scan_link_title(data, start_ix), data);
-    told.map(|(end, text)| (end - start_ix, text))
+    let returned = part(raw::scan_link_title(data, start_ix), data);
+    returned.map(|(end, text)| (end - start_ix, text))
 }
 
 /// The absolute URI of the autolink whose `<` stands just before the place: the place behind its `>`, and the URI. (6.5)
@@ -142,8 +142,8 @@ pub fn scan_link_title_bytes(data: &[u8], start_ix: usize) -> Option<(usize, &[u
 #[must_use]
 pub fn scan_autolink(text: &str, start_ix: usize) -> Option<(usize, Cow<'_, str>, LinkType)> {
     check_place(text, start_ix);
-    let told = text_part(raw::scan_autolink(text.as_bytes(), start_ix), text);
-    told.map(|(end, uri)| (end, Cow::Borrowed(uri), LinkType::Autolink))
+    let returned = text_part(raw::scan_autolink(text.as_bytes(), start_ix), text);
+    returned.map(|(end, uri)| (end, Cow::Borrowed(uri), LinkType::Autolink))
 }
 
 /// The same of any bytes; `None` too where the place is past their end.
@@ -377,8 +377,8 @@ impl<'text> HtmlScanGuard<'text> {
 
     fn end(&mut self, ix: usize, opener: u8) -> Option<usize> {
         let opens = ix.checked_sub(1).and_then(|before| self.text.get(before)) == Some(&opener);
-        let told = opens.then(|| raw::scan_inline_html(self.text, ix, &mut self.numbers))?;
-        (told.status == ffi::OK).then_some(told.end)
+        let returned = opens.then(|| raw::scan_inline_html(self.text, ix, &mut self.numbers))?;
+        (returned.status == ffi::OK).then_some(returned.end)
     }
 
     /// The place behind the comment, CDATA section or declaration whose `<!` ends at the place; `None` too where none ends

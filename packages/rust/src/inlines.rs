@@ -105,7 +105,7 @@ pub struct Inline {
 /// The inlines of a text.
 #[derive(Clone, Debug)]
 pub struct Inlines {
-    told: IntoIter<ffi::Inline>,
+    returned: IntoIter<ffi::Inline>,
 }
 
 /// The inlines of a text, in order: of the content of a paragraph or a heading, as [`Block::content`] has it. Joined, they are the
@@ -131,13 +131,13 @@ pub struct Inlines {
 pub fn scan_inlines(text: &str, labels: &[&str], extensions: InlineExtensions) -> Inlines {
     let strikethrough = if extensions.strikethrough { ffi::STRIKETHROUGH } else { 0 };
     let wikilinks = if extensions.wikilinks { ffi::WIKILINKS } else { 0 };
-    let mut told = vec![ffi::Inline::default(); text.len() / 16 + 8];
+    let mut returned = vec![ffi::Inline::default(); text.len() / 16 + 8];
     loop {
-        let found = raw::scan_inlines(text, labels, strikethrough | wikilinks, &mut told);
+        let found = raw::scan_inlines(text, labels, strikethrough | wikilinks, &mut returned);
         let is_short = found.status == ffi::TOO_SHORT;
-        told.resize(found.count, ffi::Inline::default());
+        returned.resize(found.count, ffi::Inline::default());
         if !is_short {
-            return Inlines { told: told.into_iter() };
+            return Inlines { returned: returned.into_iter() };
         }
     }
 }
@@ -146,12 +146,12 @@ impl Iterator for Inlines {
     type Item = Inline;
 
     fn next(&mut self) -> Option<Inline> {
-        let told = self.told.next()?;
-        Some(Inline { kind: kind_of(&told), range: span(told.start, told.length) })
+        let returned = self.returned.next()?;
+        Some(Inline { kind: kind_of(&returned), range: span(returned.start, returned.length) })
     }
 
     fn size_hint(&self) -> (usize, Option<usize>) {
-        self.told.size_hint()
+        self.returned.size_hint()
     }
 }
 
@@ -162,17 +162,17 @@ fn span(start: usize, length: usize) -> Range<usize> {
 }
 
 /// What stands between so many bytes on each side.
-fn inner(told: &ffi::Inline, count: usize) -> Range<usize> {
-    told.start + count..told.start + told.length - count
+fn inner(returned: &ffi::Inline, count: usize) -> Range<usize> {
+    returned.start + count..returned.start + returned.length - count
 }
 
-fn kind_of(told: &ffi::Inline) -> InlineKind {
-    match told.kind {
+fn kind_of(returned: &ffi::Inline) -> InlineKind {
+    match returned.kind {
         ffi::INLINE_ESCAPE => InlineKind::Escape,
         ffi::INLINE_REFERENCE => InlineKind::Reference,
-        ffi::INLINE_CODE => InlineKind::Code(inner(told, told.count)),
-        ffi::INLINE_URI => InlineKind::Uri(inner(told, 1)),
-        ffi::INLINE_EMAIL => InlineKind::Email(inner(told, 1)),
+        ffi::INLINE_CODE => InlineKind::Code(inner(returned, returned.count)),
+        ffi::INLINE_URI => InlineKind::Uri(inner(returned, 1)),
+        ffi::INLINE_EMAIL => InlineKind::Email(inner(returned, 1)),
         ffi::INLINE_HTML => InlineKind::Html,
         ffi::INLINE_SOFT_BREAK => InlineKind::SoftBreak,
         ffi::INLINE_HARD_BREAK => InlineKind::HardBreak,
@@ -180,8 +180,8 @@ fn kind_of(told: &ffi::Inline) -> InlineKind {
         ffi::INLINE_EMPHASIS_END => InlineKind::EndEmphasis,
         ffi::INLINE_STRONG => InlineKind::StartStrong,
         ffi::INLINE_STRONG_END => InlineKind::EndStrong,
-        ffi::INLINE_LINK => InlineKind::StartLink(link_of(told)),
-        ffi::INLINE_IMAGE => InlineKind::StartImage(link_of(told)),
+        ffi::INLINE_LINK => InlineKind::StartLink(link_of(returned)),
+        ffi::INLINE_IMAGE => InlineKind::StartImage(link_of(returned)),
         ffi::INLINE_LINK_END => InlineKind::EndLink,
         ffi::INLINE_STRIKETHROUGH => InlineKind::StartStrikethrough,
         ffi::INLINE_STRIKETHROUGH_END => InlineKind::EndStrikethrough,
@@ -189,17 +189,17 @@ fn kind_of(told: &ffi::Inline) -> InlineKind {
     }
 }
 
-fn link_of(told: &ffi::Inline) -> Link {
-    let label = span(told.label_start, told.label_length);
-    let target = match told.target {
+fn link_of(returned: &ffi::Inline) -> Link {
+    let label = span(returned.label_start, returned.label_length);
+    let target = match returned.target {
         ffi::TARGET_FULL => LinkTarget::Full(label),
         ffi::TARGET_COLLAPSED => LinkTarget::Collapsed(label),
         ffi::TARGET_SHORTCUT => LinkTarget::Shortcut(label),
-        ffi::TARGET_WIKI => LinkTarget::Wiki(span(told.destination_start, told.destination_length)),
+        ffi::TARGET_WIKI => LinkTarget::Wiki(span(returned.destination_start, returned.destination_length)),
         _ => LinkTarget::Inline {
-            destination: span(told.destination_start, told.destination_length),
-            title: (told.title_start != ffi::NONE).then(|| span(told.title_start, told.title_length)),
+            destination: span(returned.destination_start, returned.destination_length),
+            title: (returned.title_start != ffi::NONE).then(|| span(returned.title_start, returned.title_length)),
         },
     };
-    Link { target, end: told.end }
+    Link { target, end: returned.end }
 }

@@ -141,9 +141,9 @@ impl<'line> LineStart<'line> {
     /// ```
     #[inline]
     pub fn scan_definition_list_definition_marker_with_indent(&mut self, indent: usize) -> Option<usize> {
-        let told = raw::line_definition(self.bytes, &mut self.numbers, indent);
-        assert!(told.status != ffi::TOO_LARGE, "the indent is too large: {indent}");
-        stated(told.status).then_some(told.columns)
+        let returned = raw::line_definition(self.bytes, &mut self.numbers, indent);
+        assert!(returned.status != ffi::TOO_LARGE, "the indent is too large: {indent}");
+        stated(returned.status).then_some(returned.columns)
     }
 
     /// Passes a task list item's box: whether it is checked. (GitHub Flavored Markdown 0.29, 5.3)
@@ -195,7 +195,7 @@ impl<'line> LineStart<'line> {
         self.numbers.pending
     }
 
-    /// Whether no space can be taken, as most often: nothing is pending, and a byte follows that is none. It is told without a
+    /// Whether no space can be taken, as most often: nothing is pending, and a byte follows that is none. It is returned without a
     /// call of the library, and compared with one where there are debug assertions.
     #[inline]
     fn has_no_space(&self) -> bool {

@@ -141,7 +141,7 @@ pub struct Parser<'a> {
 pub struct OffsetIter<'a> {
     page: &'a str,
     texts: String,
-    told: IntoIter<ffi::Event>,
+    returned: IntoIter<ffi::Event>,
 }
 
 impl<'a> Parser<'a> {
@@ -161,7 +161,7 @@ impl<'a> Parser<'a> {
             events.resize(found.count, ffi::Event::default());
             texts.resize(found.length, 0);
             if !is_short {
-                return Parser { events: OffsetIter { page, texts: string(texts), told: events.into_iter() } };
+                return Parser { events: OffsetIter { page, texts: string(texts), returned: events.into_iter() } };
             }
         }
     }
@@ -200,12 +200,12 @@ impl<'a> Iterator for OffsetIter<'a> {
     type Item = (Event<'a>, Range<usize>);
 
     fn next(&mut self) -> Option<Self::Item> {
-        let told = self.told.next()?;
-        Some((self.event(&told), told.start..told.end))
+        let returned = self.returned.next()?;
+        Some((self.event(&returned), returned.start..returned.end))
     }
 
     fn size_hint(&self) -> (usize, Option<usize>) {
-        self.told.size_hint()
+        self.returned.size_hint()
     }
 }
 
@@ -214,32 +214,34 @@ impl ExactSizeIterator for OffsetIter<'_> {}
 impl FusedIterator for OffsetIter<'_> {}
 
 impl<'a> OffsetIter<'a> {
-    fn event(&self, told: &ffi::Event) -> Event<'a> {
-        match told.kind {
-            ffi::EVENT_START => Event::Start(self.tag(told)),
-            ffi::EVENT_END => Event::End(end_of(told)),
-            ffi::EVENT_CODE => Event::Code(self.text(told)),
-            ffi::EVENT_HTML => Event::Html(self.text(told)),
-            ffi::EVENT_INLINE_HTML => Event::InlineHtml(self.text(told)),
+    fn event(&self, returned: &ffi::Event) -> Event<'a> {
+        match returned.kind {
+            ffi::EVENT_START => Event::Start(self.tag(returned)),
+            ffi::EVENT_END => Event::End(end_of(returned)),
+            ffi::EVENT_CODE => Event::Code(self.text(returned)),
+            ffi::EVENT_HTML => Event::Html(self.text(returned)),
+            ffi::EVENT_INLINE_HTML => Event::InlineHtml(self.text(returned)),
             ffi::EVENT_SOFT_BREAK => Event::SoftBreak,
             ffi::EVENT_HARD_BREAK => Event::HardBreak,
             ffi::EVENT_RULE => Event::Rule,
-            ffi::EVENT_TASK => Event::TaskListMarker(told.detail == 1),
-            _ => Event::Text(self.text(told)),
+            ffi::EVENT_TASK => Event::TaskListMarker(returned.detail == 1),
+            _ => Event::Text(self.text(returned)),
         }
     }
 
-    fn tag(&self, told: &ffi::Event) -> Tag<'a> {
-        match told.element {
-            ffi::ELEMENT_HEADING => Tag::Heading(level_of(told)),
+    fn tag(&self, returned: &ffi::Event) -> Tag<'a> {
+        match returned.element {
+            ffi::ELEMENT_HEADING => Tag::Heading(level_of(returned)),
             ffi::ELEMENT_QUOTE => Tag::BlockQuote,
-            ffi::ELEMENT_CODE_BLOCK if told.detail == 1 => Tag::CodeBlock(CodeBlockKind::Fenced(self.text(told))),
+            ffi::ELEMENT_CODE_BLOCK if returned.detail == 1 => {
+                Tag::CodeBlock(CodeBlockKind::Fenced(self.text(returned)))
+            }
             ffi::ELEMENT_CODE_BLOCK => Tag::CodeBlock(CodeBlockKind::Indented),
             ffi::ELEMENT_HTML_BLOCK => Tag::HtmlBlock,
-            ffi::ELEMENT_LIST => Tag::List((told.detail == 1).then_some(told.number)),
+            ffi::ELEMENT_LIST => Tag::List((returned.detail == 1).then_some(returned.number)),
             ffi::ELEMENT_ITEM => Tag::Item,
             ffi::ELEMENT_TABLE => {
-                Tag::Table(self.words(told.text_start, told.text_length).bytes().map(Alignment::of).collect())
+                Tag::Table(self.words(returned.text_start, returned.text_length).bytes().map(Alignment::of).collect())
             }
             ffi::ELEMENT_TABLE_HEAD => Tag::TableHead,
             ffi::ELEMENT_TABLE_ROW => Tag::TableRow,
@@ -247,25 +249,25 @@ impl<'a> OffsetIter<'a> {
             ffi::ELEMENT_EMPHASIS => Tag::Emphasis,
             ffi::ELEMENT_STRONG => Tag::Strong,
             ffi::ELEMENT_STRIKETHROUGH => Tag::Strikethrough,
-            ffi::ELEMENT_LINK => Tag::Link(self.target(told)),
-            ffi::ELEMENT_IMAGE => Tag::Image(self.target(told)),
+            ffi::ELEMENT_LINK => Tag::Link(self.target(returned)),
+            ffi::ELEMENT_IMAGE => Tag::Image(self.target(returned)),
             _ => Tag::Paragraph,
         }
     }
 
-    fn target(&self, told: &ffi::Event) -> Target<'a> {
+    fn target(&self, returned: &ffi::Event) -> Target<'a> {
         Target {
-            link_type: LinkType::of(told.detail),
-            dest_url: self.text(told),
-            title: Cow::Owned(self.words(told.title_start, told.title_length).to_owned()),
-            id: Cow::Owned(self.words(told.label_start, told.label_length).to_owned()),
+            link_type: LinkType::of(returned.detail),
+            dest_url: self.text(returned),
+            title: Cow::Owned(self.words(returned.title_start, returned.title_length).to_owned()),
+            id: Cow::Owned(self.words(returned.label_start, returned.label_length).to_owned()),
         }
     }
 
     /// The text of an event, lent from the page where it is its source.
-    fn text(&self, told: &ffi::Event) -> Cow<'a, str> {
-        let words = self.words(told.text_start, told.text_length);
-        match self.page.get(told.start..told.end) {
+    fn text(&self, returned: &ffi::Event) -> Cow<'a, str> {
+        let words = self.words(returned.text_start, returned.text_length);
+        match self.page.get(returned.start..returned.end) {
             Some(source) if source == words => Cow::Borrowed(source),
             _ => Cow::Owned(words.to_owned()),
         }
@@ -276,17 +278,17 @@ impl<'a> OffsetIter<'a> {
     }
 }
 
-fn level_of(told: &ffi::Event) -> HeadingLevel {
-    HeadingLevel::of(told.detail).unwrap_or(HeadingLevel::H6)
+fn level_of(returned: &ffi::Event) -> HeadingLevel {
+    HeadingLevel::of(returned.detail).unwrap_or(HeadingLevel::H6)
 }
 
-fn end_of(told: &ffi::Event) -> TagEnd {
-    match told.element {
-        ffi::ELEMENT_HEADING => TagEnd::Heading(level_of(told)),
+fn end_of(returned: &ffi::Event) -> TagEnd {
+    match returned.element {
+        ffi::ELEMENT_HEADING => TagEnd::Heading(level_of(returned)),
         ffi::ELEMENT_QUOTE => TagEnd::BlockQuote,
         ffi::ELEMENT_CODE_BLOCK => TagEnd::CodeBlock,
         ffi::ELEMENT_HTML_BLOCK => TagEnd::HtmlBlock,
-        ffi::ELEMENT_LIST => TagEnd::List(told.detail == 1),
+        ffi::ELEMENT_LIST => TagEnd::List(returned.detail == 1),
         ffi::ELEMENT_ITEM => TagEnd::Item,
         ffi::ELEMENT_TABLE => TagEnd::Table,
         ffi::ELEMENT_TABLE_HEAD => TagEnd::TableHead,

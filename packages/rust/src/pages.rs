@@ -92,27 +92,27 @@ pub struct Block<'a> {
     /// How many of its containers its first line goes on with. It begins the others.
     pub kept: usize,
     page: &'a [u8],
-    told: ffi::Block,
+    returned: ffi::Block,
     open: Arc<Open>,
 }
 
 /// The containers that are open, as C has them too.
 #[derive(Clone, Debug, Default)]
 struct Open {
-    told: Vec<ffi::Block>,
+    returned: Vec<ffi::Block>,
     containers: Vec<Container>,
 }
 
 impl Open {
     /// A container begins in those that are open.
-    fn push(&mut self, told: ffi::Block, place: usize) {
-        self.told.push(told);
-        self.containers.push(container_of(&told, place));
+    fn push(&mut self, returned: ffi::Block, place: usize) {
+        self.returned.push(returned);
+        self.containers.push(container_of(&returned, place));
     }
 
     /// All but the first ones end.
     fn truncate(&mut self, depth: usize) {
-        self.told.truncate(depth);
+        self.returned.truncate(depth);
         self.containers.truncate(depth);
     }
 }
@@ -142,7 +142,7 @@ impl Block<'_> {
     pub fn content(&self) -> Vec<u8> {
         let mut made = vec![0; self.range.len()];
         loop {
-            let text = raw::block_content(self.page, &self.told, &self.open.told, self.kept, &mut made);
+            let text = raw::block_content(self.page, &self.returned, &self.open.returned, self.kept, &mut made);
             let is_short = text.status == ffi::TOO_SHORT;
             made.resize(text.length, 0);
             if !is_short {
@@ -156,7 +156,7 @@ impl Block<'_> {
 #[derive(Clone, Debug)]
 pub struct Blocks<'a> {
     page: &'a [u8],
-    told: IntoIter<ffi::Block>,
+    returned: IntoIter<ffi::Block>,
     open: Arc<Open>,
     kept: usize,
 }
@@ -167,19 +167,19 @@ pub struct Blocks<'a> {
 /// ```
 /// use markdown_scanners::{scan_blocks, BlockKind, HeadingLevel};
 /// let blocks = scan_blocks(b"[a]: b\nC\n===\n> - d");
-/// let told: Vec<_> = blocks.map(|it| (it.kind, it.lines.start, it.containers().len())).collect();
+/// let returned: Vec<_> = blocks.map(|it| (it.kind, it.lines.start, it.containers().len())).collect();
 /// let setext = BlockKind::Setext(HeadingLevel::H1);
-/// assert_eq!(told, [(BlockKind::Definition, 0, 0), (setext, 1, 0), (BlockKind::Paragraph, 3, 2)]);
+/// assert_eq!(returned, [(BlockKind::Definition, 0, 0), (setext, 1, 0), (BlockKind::Paragraph, 3, 2)]);
 /// ```
 #[must_use]
 pub fn scan_blocks(page: &[u8]) -> Blocks<'_> {
-    let mut told = vec![ffi::Block::default(); page.len() / 32 + 8];
+    let mut returned = vec![ffi::Block::default(); page.len() / 32 + 8];
     loop {
-        let found = raw::scan_blocks(page, &mut told);
+        let found = raw::scan_blocks(page, &mut returned);
         let is_short = found.status == ffi::TOO_SHORT;
-        told.resize(found.count, ffi::Block::default());
+        returned.resize(found.count, ffi::Block::default());
         if !is_short {
-            return Blocks { page, told: told.into_iter(), open: Arc::default(), kept: 0 };
+            return Blocks { page, returned: returned.into_iter(), open: Arc::default(), kept: 0 };
         }
     }
 }
@@ -189,78 +189,78 @@ impl<'a> Iterator for Blocks<'a> {
 
     fn next(&mut self) -> Option<Block<'a>> {
         loop {
-            let told = self.told.next()?;
-            if let Some(kind) = kind_of(&told) {
-                return Some(self.leaf(kind, told));
+            let returned = self.returned.next()?;
+            if let Some(kind) = kind_of(&returned) {
+                return Some(self.leaf(kind, returned));
             }
             let open = Arc::make_mut(&mut self.open);
-            if told.kind == ffi::BLOCK_END {
-                self.kept = open.told.len().saturating_sub(1);
+            if returned.kind == ffi::BLOCK_END {
+                self.kept = open.returned.len().saturating_sub(1);
                 open.truncate(self.kept);
             } else {
-                open.push(told, told.place);
+                open.push(returned, returned.place);
             }
         }
     }
 }
 
 impl<'a> Blocks<'a> {
-    fn leaf(&mut self, kind: BlockKind, told: ffi::Block) -> Block<'a> {
-        let kept = core::mem::replace(&mut self.kept, self.open.told.len());
+    fn leaf(&mut self, kind: BlockKind, returned: ffi::Block) -> Block<'a> {
+        let kept = core::mem::replace(&mut self.kept, self.open.returned.len());
         Block {
             kind,
-            lines: told.line..told.line + told.lines,
-            range: told.start..told.start + told.bytes,
-            indent: told.indent,
-            place: told.place,
+            lines: returned.line..returned.line + returned.lines,
+            range: returned.start..returned.start + returned.bytes,
+            indent: returned.indent,
+            place: returned.place,
             kept,
             page: self.page,
-            told,
+            returned,
             open: self.open.clone(),
         }
     }
 }
 
-fn container_of(told: &ffi::Block, place: usize) -> Container {
-    match told.kind {
+fn container_of(returned: &ffi::Block, place: usize) -> Container {
+    match returned.kind {
         ffi::BLOCK_QUOTE => Container::Quote { place },
         ffi::BLOCK_FOOTNOTE => Container::Footnote { place },
-        ffi::BLOCK_TERM_DEFINITION => Container::TermDefinition { place, width: told.width },
-        _ => Container::Item { place, delimiter: told.byte, start: told.number, width: told.width },
+        ffi::BLOCK_TERM_DEFINITION => Container::TermDefinition { place, width: returned.width },
+        _ => Container::Item { place, delimiter: returned.byte, start: returned.number, width: returned.width },
     }
 }
 
 /// The kind of a leaf block.
-fn kind_of(told: &ffi::Block) -> Option<BlockKind> {
-    let level = || HeadingLevel::try_from(told.number as usize).ok();
-    Some(match told.kind {
+fn kind_of(returned: &ffi::Block) -> Option<BlockKind> {
+    let level = || HeadingLevel::try_from(returned.number as usize).ok();
+    Some(match returned.kind {
         ffi::BLOCK_BLANK => BlockKind::Blank,
         ffi::BLOCK_BREAK => BlockKind::Break,
         ffi::BLOCK_HEADING => BlockKind::Heading(level()?),
         ffi::BLOCK_SETEXT => BlockKind::Setext(level()?),
         ffi::BLOCK_INDENTED => BlockKind::Indented,
-        ffi::BLOCK_FENCED => BlockKind::Fenced(told.count, told.byte),
-        ffi::BLOCK_HTML => BlockKind::Html(HtmlBlockKind::of(told.number)?),
-        ffi::BLOCK_TABLE => BlockKind::Table(told.count),
+        ffi::BLOCK_FENCED => BlockKind::Fenced(returned.count, returned.byte),
+        ffi::BLOCK_HTML => BlockKind::Html(HtmlBlockKind::of(returned.number)?),
+        ffi::BLOCK_TABLE => BlockKind::Table(returned.count),
         ffi::BLOCK_DEFINITION => BlockKind::Definition,
         ffi::BLOCK_PARAGRAPH => BlockKind::Paragraph,
         _ => return None,
     })
 }
 
-/// Reads a page that comes piece by piece, of bytes that may end anywhere. It keeps what is not told yet, and the containers that
+/// Reads a page that comes piece by piece, of bytes that may end anywhere. It keeps what is not returned yet, and the containers that
 /// are open, so that it has memory for the longest block and the deepest nesting.
 #[derive(Clone, Debug, Default)]
 pub struct BlockReader {
     text: Vec<u8>,
-    /// How much of the text is told, and how many bytes have to be left before it is read again.
+    /// How much of the text is returned, and how many bytes have to be left before it is read again.
     used: usize,
     wanted: usize,
     has_ended: bool,
     page: ffi::OpenBlocks,
     room: Vec<ffi::Block>,
     open: Arc<Open>,
-    /// How much of the page is told.
+    /// How much of the page is returned.
     start: usize,
     line: usize,
 }
@@ -335,21 +335,21 @@ impl BlockReader {
         if !self.has_ended && left < self.wanted {
             return None;
         }
-        let mut told = ffi::Block::default();
-        let found = self.read(&mut told);
-        let Some(kind) = kind_of(&told).filter(|_| found.status == ffi::OK) else {
+        let mut returned = ffi::Block::default();
+        let found = self.read(&mut returned);
+        let Some(kind) = kind_of(&returned).filter(|_| found.status == ffi::OK) else {
             self.wanted = if left > SHORT { left.saturating_mul(2) } else { 0 };
             return None;
         };
         self.wanted = 0;
-        Some(self.leaf(kind, told, found))
+        Some(self.leaf(kind, returned, found))
     }
 
     /// The next block, with room for its containers.
-    fn read(&mut self, told: &mut ffi::Block) -> ffi::LineBlock {
+    fn read(&mut self, returned: &mut ffi::Block) -> ffi::LineBlock {
         loop {
             let text = &self.text[self.used..];
-            let found = raw::block_line(text, self.has_ended, &mut self.room, &mut self.page, told);
+            let found = raw::block_line(text, self.has_ended, &mut self.room, &mut self.page, returned);
             if found.status != ffi::TOO_SHORT {
                 return found;
             }
@@ -357,26 +357,26 @@ impl BlockReader {
         }
     }
 
-    fn leaf(&mut self, kind: BlockKind, told: ffi::Block, found: ffi::LineBlock) -> Block<'_> {
+    fn leaf(&mut self, kind: BlockKind, returned: ffi::Block, found: ffi::LineBlock) -> Block<'_> {
         let (start, line, used) = (self.start, self.line, self.used);
         let begun = &self.room[found.kept..found.depth];
-        if !begun.is_empty() || found.kept < self.open.told.len() {
+        if !begun.is_empty() || found.kept < self.open.returned.len() {
             let open = Arc::make_mut(&mut self.open);
             open.truncate(found.kept);
             begun.iter().for_each(|it| open.push(*it, start + it.place));
         }
-        self.start += told.bytes;
-        self.line += told.lines;
-        self.used += told.bytes;
+        self.start += returned.bytes;
+        self.line += returned.lines;
+        self.used += returned.bytes;
         Block {
             kind,
             lines: line..self.line,
             range: start..self.start,
-            indent: told.indent,
-            place: start + told.place,
+            indent: returned.indent,
+            place: start + returned.place,
             kept: found.kept,
             page: &self.text[used..self.used],
-            told,
+            returned,
             open: self.open.clone(),
         }
     }
@@ -406,23 +406,23 @@ pub struct ListBlock {
 /// ```
 #[must_use]
 pub fn scan_lists(page: &[u8]) -> Vec<ListBlock> {
-    let mut told = vec![ffi::List::default(); page.len() / 32 + 8];
+    let mut returned = vec![ffi::List::default(); page.len() / 32 + 8];
     loop {
-        let found = raw::scan_lists(page, &mut told);
+        let found = raw::scan_lists(page, &mut returned);
         let is_short = found.status == ffi::TOO_SHORT;
-        told.resize(found.count, ffi::List::default());
+        returned.resize(found.count, ffi::List::default());
         if !is_short {
-            return told.iter().map(list_of).collect();
+            return returned.iter().map(list_of).collect();
         }
     }
 }
 
-fn list_of(told: &ffi::List) -> ListBlock {
+fn list_of(returned: &ffi::List) -> ListBlock {
     ListBlock {
-        delimiter: told.delimiter,
-        start: told.start,
-        is_loose: told.is_loose,
-        depth: told.depth,
-        lines: told.line..told.end,
+        delimiter: returned.delimiter,
+        start: returned.start,
+        is_loose: returned.is_loose,
+        depth: returned.depth,
+        lines: returned.line..returned.end,
     }
 }

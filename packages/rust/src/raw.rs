@@ -42,9 +42,9 @@ impl Skip {
 /// Ends the process, as it begins or loads the library, where that is of another version than the crate's, or an earlier one.
 extern "C" fn check_version() {
     // SAFETY: it is given nothing.
-    let told = unsafe { ffi::mds_version() };
-    let fits = told >= ffi::VERSION && told >> 16 == ffi::VERSION >> 16;
-    assert!(fits, "markdown-scanners is of version {:#08x}, and its library of {told:#08x}", ffi::VERSION);
+    let returned = unsafe { ffi::mds_version() };
+    let fits = returned >= ffi::VERSION && returned >> 16 == ffi::VERSION >> 16;
+    assert!(fits, "markdown-scanners is of version {:#08x}, and its library of {returned:#08x}", ffi::VERSION);
 }
 
 /// A shared library may be another one where a program is run than where it was linked.
@@ -194,27 +194,27 @@ fn table(skips: &[Skip]) -> *const ffi::Skip {
 #[inline]
 pub(crate) fn scan_table_head(bytes: &[u8], buffer: &mut [u8]) -> Text {
     // SAFETY: each pointer and length are those of one slice, and what is written is a `&mut` of its own.
-    told(unsafe { ffi::mds_scan_table_head(front(bytes), bytes.len(), buffer.as_mut_ptr(), buffer.len()) })
+    returned(unsafe { ffi::mds_scan_table_head(front(bytes), bytes.len(), buffer.as_mut_ptr(), buffer.len()) })
 }
 
 #[inline]
 pub(crate) fn scan_entity(bytes: &[u8], buffer: &mut [u8]) -> Text {
     // SAFETY: each pointer and length are those of one slice, and what is written is a `&mut` of its own.
-    told(unsafe { ffi::mds_scan_entity(front(bytes), bytes.len(), buffer.as_mut_ptr(), buffer.len()) })
+    returned(unsafe { ffi::mds_scan_entity(front(bytes), bytes.len(), buffer.as_mut_ptr(), buffer.len()) })
 }
 
 #[inline]
 pub(crate) fn unescape(text: &str, in_table: bool, buffer: &mut [u8]) -> Text {
     let bytes = text.as_bytes();
     // SAFETY: each pointer and length are those of one slice, and what is written is a `&mut` of its own.
-    told(unsafe { ffi::mds_unescape(front(bytes), bytes.len(), in_table, buffer.as_mut_ptr(), buffer.len()) })
+    returned(unsafe { ffi::mds_unescape(front(bytes), bytes.len(), in_table, buffer.as_mut_ptr(), buffer.len()) })
 }
 
 #[inline]
 pub(crate) fn label_key(text: &str, buffer: &mut [u8]) -> Text {
     let bytes = text.as_bytes();
     // SAFETY: each pointer and length are those of one slice, and what is written is a `&mut` of its own.
-    told(unsafe { ffi::mds_label_key(front(bytes), bytes.len(), buffer.as_mut_ptr(), buffer.len()) })
+    returned(unsafe { ffi::mds_label_key(front(bytes), bytes.len(), buffer.as_mut_ptr(), buffer.len()) })
 }
 
 #[inline]
@@ -256,7 +256,7 @@ pub(crate) fn scan_link_label(
 }
 
 #[inline]
-fn told(text: Text) -> Text {
+fn returned(text: Text) -> Text {
     if text.status == ffi::NO_MEMORY {
         refused();
     }
@@ -337,7 +337,7 @@ pub(crate) fn block_content(
     let (listed, many) = (containers.as_ptr(), containers.len());
     let (room, capacity) = (buffer.as_mut_ptr(), buffer.len());
     // SAFETY: each pointer and length are those of one slice, the block is a `&`, and what is written is a `&mut` of its own.
-    told(unsafe { ffi::mds_block_content(front(bytes), bytes.len(), block, listed, many, kept, room, capacity) })
+    returned(unsafe { ffi::mds_block_content(front(bytes), bytes.len(), block, listed, many, kept, room, capacity) })
 }
 
 pub(crate) fn scan_inlines(text: &str, labels: &[&str], extensions: u32, inlines: &mut [ffi::Inline]) -> ffi::Inlines {
@@ -361,14 +361,16 @@ fn views_of(texts: &[&str]) -> Vec<ffi::View> {
 pub(crate) fn html(text: &str, options: u32, buffer: &mut [u8]) -> Text {
     let bytes = text.as_bytes();
     // SAFETY: each pointer and length are those of one slice, and what is written is a `&mut` of its own.
-    told(unsafe { ffi::mds_html(front(bytes), bytes.len(), options, buffer.as_mut_ptr(), buffer.len()) })
+    returned(unsafe { ffi::mds_html(front(bytes), bytes.len(), options, buffer.as_mut_ptr(), buffer.len()) })
 }
 
 pub(crate) fn safe_html(text: &str, options: u32, schemes: &[&str], buffer: &mut [u8]) -> Text {
     let (bytes, views) = (text.as_bytes(), views_of(schemes));
     let (room, capacity) = (buffer.as_mut_ptr(), buffer.len());
     // SAFETY: each pointer and length are those of one slice, those of the views too, and what is written is a `&mut` of its own.
-    told(unsafe { ffi::mds_safe_html(front(bytes), bytes.len(), options, views.as_ptr(), views.len(), room, capacity) })
+    returned(unsafe {
+        ffi::mds_safe_html(front(bytes), bytes.len(), options, views.as_ptr(), views.len(), room, capacity)
+    })
 }
 
 pub(crate) fn events(text: &str, options: u32, events: &mut [ffi::Event], texts: &mut [u8]) -> ffi::Events {

@@ -71,14 +71,16 @@ fn call_of(call: LineCall) -> ffi::LineCall {
     ffi::LineCall { kind, number }
 }
 
-fn answer_of(call: LineCall, told: ffi::LineAnswer) -> LineAnswer {
+fn answer_of(call: LineCall, returned: ffi::LineAnswer) -> LineAnswer {
     match call {
-        LineCall::Space(_) => LineAnswer::Space(told.found),
-        LineCall::Upto(_) => LineAnswer::Upto(told.number),
-        LineCall::Eol => LineAnswer::Eol(told.found),
-        LineCall::Quote => LineAnswer::Quote(told.found),
-        LineCall::List(_) => LineAnswer::List(told.found.then_some((told.delimiter, told.start, told.number))),
-        LineCall::Definition(_) => LineAnswer::Definition(told.found.then_some(told.number)),
+        LineCall::Space(_) => LineAnswer::Space(returned.found),
+        LineCall::Upto(_) => LineAnswer::Upto(returned.number),
+        LineCall::Eol => LineAnswer::Eol(returned.found),
+        LineCall::Quote => LineAnswer::Quote(returned.found),
+        LineCall::List(_) => {
+            LineAnswer::List(returned.found.then_some((returned.delimiter, returned.start, returned.number)))
+        }
+        LineCall::Definition(_) => LineAnswer::Definition(returned.found.then_some(returned.number)),
     }
 }
 
@@ -101,8 +103,8 @@ pub fn run_line(start: &mut LineStart, calls: &[LineCall]) -> LineRun {
         ffi::TOO_LARGE => Some((run.count, LineStop::IndentTooLarge)),
         _ => None,
     };
-    let told = calls.iter().zip(&answers[..run.count]).map(|(call, told)| answer_of(*call, *told));
-    LineRun { answers: told.collect(), stop }
+    let returned = calls.iter().zip(&answers[..run.count]).map(|(call, returned)| answer_of(*call, *returned));
+    LineRun { answers: returned.collect(), stop }
 }
 
 /// What is left of the bytes from the line start on: its pending columns as spaces, then the bytes from its place on, their

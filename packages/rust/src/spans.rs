@@ -74,8 +74,8 @@ pub fn scan_code_span_bytes(data: &[u8], start_ix: usize) -> Option<(usize, &[u8
 #[must_use]
 pub fn scan_email_autolink(text: &str, start_ix: usize) -> Option<(usize, Cow<'_, str>, LinkType)> {
     check_place(text, start_ix);
-    let told = text_part(raw::scan_email_autolink(text.as_bytes(), start_ix), text);
-    told.map(|(end, address)| (end, Cow::Borrowed(address), LinkType::Email))
+    let returned = text_part(raw::scan_email_autolink(text.as_bytes(), start_ix), text);
+    returned.map(|(end, address)| (end, Cow::Borrowed(address), LinkType::Email))
 }
 
 /// The same of any bytes; `None` too where the place is past their end.
@@ -117,7 +117,7 @@ pub struct DelimiterRun {
 #[must_use]
 pub fn scan_delimiter_run(text: &str, place: usize) -> Option<DelimiterRun> {
     check_place(text, place);
-    let told = raw::scan_delimiter_run(text.as_bytes(), place);
-    let ffi::DelimiterRun { byte, count, can_open, can_close, .. } = told;
-    (told.status == ffi::OK).then_some(DelimiterRun { byte, count, can_open, can_close })
+    let returned = raw::scan_delimiter_run(text.as_bytes(), place);
+    let ffi::DelimiterRun { byte, count, can_open, can_close, .. } = returned;
+    (returned.status == ffi::OK).then_some(DelimiterRun { byte, count, can_open, can_close })
 }

@@ -102,7 +102,7 @@ fn texts(bytes: &[u8], most: usize) -> Vec<Vec<u8>> {
 fn first_bytes() {
     let bytes: Vec<u8> = (0..=255).collect();
     if cfg!(not(debug_assertions)) {
-        panic!("what is told without the library is not compared with it");
+        panic!("what is returned without the library is not compared with it");
     }
     let spaces: Vec<u8> = bytes.iter().copied().filter(|byte| is_ascii_whitespace(*byte)).collect();
     assert_eq!(spaces, b"\t\n\x0b\x0c\r ");
@@ -328,7 +328,7 @@ fn runs() {
 }
 
 /// The kinds of the leaf blocks, with their first lines, how many containers they go on with, and how many they stand in.
-fn told(page: &[u8]) -> Vec<(BlockKind, usize, usize, usize)> {
+fn returned(page: &[u8]) -> Vec<(BlockKind, usize, usize, usize)> {
     scan_blocks(page).map(|it| (it.kind, it.lines.start, it.kept, it.containers().len())).collect()
 }
 
@@ -341,19 +341,19 @@ fn contents(page: &str) -> Vec<String> {
 fn blocks() {
     use BlockKind::*;
     use HeadingLevel::*;
-    assert_eq!(told(b""), []);
-    assert_eq!(told(b"***\n"), [(Break, 0, 0, 0)]);
-    assert_eq!(told(b"## foo ##\n\nbar\n---"), [(Heading(H2), 0, 0, 0), (Blank, 1, 0, 0), (Setext(H2), 2, 0, 0)]);
-    assert_eq!(told(b"````\n```\n"), [(Fenced(4, b'`'), 0, 0, 0)]); // as 124
-    assert_eq!(told(b"<!-- a -->\n"), [(Html(HtmlBlockKind::Comment), 0, 0, 0)]);
-    assert_eq!(told(b"| a |\n| - |\n| b |"), [(Table(1), 0, 0, 0)]);
+    assert_eq!(returned(b""), []);
+    assert_eq!(returned(b"***\n"), [(Break, 0, 0, 0)]);
+    assert_eq!(returned(b"## foo ##\n\nbar\n---"), [(Heading(H2), 0, 0, 0), (Blank, 1, 0, 0), (Setext(H2), 2, 0, 0)]);
+    assert_eq!(returned(b"````\n```\n"), [(Fenced(4, b'`'), 0, 0, 0)]); // as 124
+    assert_eq!(returned(b"<!-- a -->\n"), [(Html(HtmlBlockKind::Comment), 0, 0, 0)]);
+    assert_eq!(returned(b"| a |\n| - |\n| b |"), [(Table(1), 0, 0, 0)]);
     let wanted = [(Definition, 0, 0, 0), (Setext(H1), 1, 0, 0), (Paragraph, 3, 0, 0)];
-    assert_eq!(told(b"[foo]: /url\nbar\n===\n[foo]\n"), wanted); // 215
-    assert_eq!(told(b"> bar\nbaz\n> foo\n"), [(Paragraph, 0, 0, 1)]); // 233
+    assert_eq!(returned(b"[foo]: /url\nbar\n===\n[foo]\n"), wanted); // 215
+    assert_eq!(returned(b"> bar\nbaz\n> foo\n"), [(Paragraph, 0, 0, 1)]); // 233
     let wanted = [(Paragraph, 0, 0, 1), (Blank, 1, 1, 1), (Indented, 2, 1, 1)];
-    assert_eq!(told(b"- foo\n\n\t\tbar\n"), wanted); // 5
+    assert_eq!(returned(b"- foo\n\n\t\tbar\n"), wanted); // 5
     let wanted = [(Blank, 0, 0, 1), (Blank, 1, 0, 0), (Paragraph, 2, 0, 0)];
-    assert_eq!(told(b"-\n\n  foo\n"), wanted); // 280
+    assert_eq!(returned(b"-\n\n  foo\n"), wanted); // 280
     assert_eq!(contents("- foo\n\n\t\tbar\n"), ["foo", "", "  bar\n"]);
     assert_eq!(contents("> bar\nbaz\n> foo\n"), ["bar\nbaz\nfoo"]);
     assert_eq!(contents(" ```\n aaa\naaa\n```\n"), ["aaa\naaa\n"]); // 131
@@ -387,8 +387,8 @@ fn many_blocks() {
 /// Examples of CommonMark 0.31.2, and many lists.
 #[test]
 fn lists() {
-    type Told = (u8, u32, bool, usize, usize, usize);
-    let rows: [(&str, &[Told]); 5] = [
+    type Returned = (u8, u32, bool, usize, usize, usize);
+    let rows: [(&str, &[Returned]); 5] = [
         ("a\n", &[]),
         ("- foo\n- bar\n+ baz\n", &[(b'-', 0, false, 0, 0, 2), (b'+', 0, false, 0, 2, 3)]), // 301
         ("- a\n- ```\n  b\n\n\n  ```\n- c\n", &[(b'-', 0, false, 0, 0, 7)]),                // 318
@@ -397,8 +397,9 @@ fn lists() {
     ];
     for (page, wanted) in rows {
         let found = scan_lists(page.as_bytes());
-        let told = found.iter().map(|it| (it.delimiter, it.start, it.is_loose, it.depth, it.lines.start, it.lines.end));
-        assert_eq!(told.collect::<Vec<_>>(), wanted);
+        let returned =
+            found.iter().map(|it| (it.delimiter, it.start, it.is_loose, it.depth, it.lines.start, it.lines.end));
+        assert_eq!(returned.collect::<Vec<_>>(), wanted);
     }
     assert_eq!(scan_lists("- a\n+ a\n".repeat(1000).as_bytes()).len(), 2000);
 }

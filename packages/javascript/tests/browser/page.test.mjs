@@ -52,10 +52,10 @@ async function settled(name) {
         if ((await browser.ask(() => document.body.dataset.state)) === name) return;
         await new Promise((resolve) => setTimeout(resolve, 50));
     }
-    throw new Error(`the page is not ${name}: ${await told()}`);
+    throw new Error(`the page is not ${name}: ${await report()}`);
 }
 
-const told = () => browser.ask(() => document.getElementById("told").textContent);
+const report = () => browser.ask(() => document.getElementById("report").textContent);
 
 async function open(size = DESK, url = served.url) {
     faults = [];
@@ -87,7 +87,7 @@ async function choose(name) {
     await settled("drawn");
 }
 
-/** In the page: what is drawn of the lines that are in sight, each answer as it is told when it is clicked. */
+/** In the page: what is drawn of the lines that are in sight, each answer as it is shown when it is clicked. */
 function drawnRows() {
     const words = (it) => document.getElementById(it).textContent;
     const answer = (it) => {
@@ -104,7 +104,7 @@ function drawnRows() {
     }));
 }
 
-/** In the page: what is drawn of a list, each answer as it is told. */
+/** In the page: what is drawn of a list, each answer as it is shown. */
 function drawnEntries() {
     const words = (it) => document.getElementById(it)?.textContent ?? null;
     return [...document.querySelectorAll("#view button")].map((it) => {
@@ -162,7 +162,7 @@ function linesOf(text) {
 async function typeAndCompare(text) {
     await type(text);
     const lines = linesOf(text);
-    assert.match(await told(), new RegExp(`^${lines.length} lines, ${Buffer.byteLength(text)} bytes`));
+    assert.match(await report(), new RegExp(`^${lines.length} lines, ${Buffer.byteLength(text)} bytes`));
     const rows = await allRows(lines.length);
     const taken = rows.map((it) => it.taken.map(({ answer, from, to }) => ({ answer, from, to })));
     compare(text, taken, rows.map((it, index) => ({ ...lines[index], taken: it.taken.map(({ call, given }) => ({ call, given })) })));
@@ -317,7 +317,7 @@ test("safe HTML is rendered, and what is pointed at has its source marked", asyn
 test("what is longer than a browser renders soon is not rendered", async () => {
     await fill(`${"a".repeat(99)}\n`.repeat(12_000));
     await settled("refused");
-    assert.match(await told(), /^TooLong: the page renders 1000000 characters at most/);
+    assert.match(await report(), /^TooLong: the page renders 1000000 characters at most/);
     await choose("lines");
 });
 
@@ -337,9 +337,9 @@ test("1 MB is read without a stall", async () => {
     await settled("drawn");
     const text = TYPED.slice(0, TYPED.indexOf("<!-- <!--")).repeat(600).slice(0, 1_000_000);
     const most = await longestWait(text);
-    console.log(`# 1 MB: ${await told()}; the page never waited longer than ${Math.round(most)} ms`);
-    assert.match(await told(), / 1\d{6} bytes/);
-    const [, , milliseconds] = (await told()).match(/\d+/g).map(Number);
+    console.log(`# 1 MB: ${await report()}; the page never waited longer than ${Math.round(most)} ms`);
+    assert.match(await report(), / 1\d{6} bytes/);
+    const [, , milliseconds] = (await report()).match(/\d+/g).map(Number);
     assert.ok(most < milliseconds / 2, `the page waited ${most} ms`);
     await overtaken(text, milliseconds);
 });
@@ -381,8 +381,8 @@ test("of a line of 1 MB the page is sent what it draws", async () => {
     await settled("drawn");
     for (const [name, text] of [[">", ">".repeat(1_000_000)], ["* ", `${"* ".repeat(500_000)}a`]]) {
         const most = await longestWait(text);
-        console.log(`# 1 MB of \`${name}\`: ${await told()}; the page never waited longer than ${Math.round(most)} ms`);
-        const milliseconds = Number(/in (\d+) ms/.exec(await told())[1]);
+        console.log(`# 1 MB of \`${name}\`: ${await report()}; the page never waited longer than ${Math.round(most)} ms`);
+        const milliseconds = Number(/in (\d+) ms/.exec(await report())[1]);
         assert.ok(most < milliseconds / 2, `the page waited ${most} ms`);
         const columns = await browser.ask(() => [...document.querySelectorAll(".row button.strip")].map((it) => it.textContent).join(""));
         assert.equal(columns.length, 200);
@@ -397,7 +397,7 @@ test("of a line of 1 MB the page is sent what it draws", async () => {
 
 test("the page says by file: that it has to be served", async () => {
     await open(DESK, new URL("../../index.html", import.meta.url).href);
-    assert.match(await told(), /Serve this folder/);
+    assert.match(await report(), /Serve this folder/);
 });
 
 test("bad input has a message, and the page goes on", async () => {
@@ -405,20 +405,20 @@ test("bad input has a message, and the page goes on", async () => {
     await settled("drawn");
     await fill("a\ud800b");
     await settled("refused");
-    assert.match(await told(), /^LoneSurrogate: .* at index 1/);
+    assert.match(await report(), /^LoneSurrogate: .* at index 1/);
     await type("# again");
-    assert.match(await told(), /^1 lines, 7 bytes/);
+    assert.match(await report(), /^1 lines, 7 bytes/);
     await choosing([0x61, 0xff]);
     await settled("refused");
-    assert.match(await told(), /^NotUtf8: the file is not UTF-8/);
+    assert.match(await report(), /^NotUtf8: the file is not UTF-8/);
     await choosing([...Buffer.from("## é")]);
     await settled("drawn");
-    assert.match(await told(), /^1 lines, 5 bytes/);
+    assert.match(await report(), /^1 lines, 5 bytes/);
     await fill("\n".repeat(300_000));
     await settled("refused");
-    assert.match(await told(), /^TooManyLines: /);
+    assert.match(await report(), /^TooManyLines: /);
     await type("# and again");
-    assert.match(await told(), /^1 lines, 11 bytes/);
+    assert.match(await report(), /^1 lines, 11 bytes/);
 });
 
 /** Chooses a file of these bytes. */
@@ -438,9 +438,9 @@ test("10 MB are read, and another text behind them", async () => {
     await settled("drawn");
     await fill(`${"A line of [some] words, as <b>they</b> are. ".repeat(4)}\n\n`.repeat(57_000));
     await settled("drawn");
-    assert.match(await told(), /^114000 lines, 10\d{6} bytes/);
+    assert.match(await report(), /^114000 lines, 10\d{6} bytes/);
     await type("# again");
-    assert.match(await told(), /^1 lines, 7 bytes/);
+    assert.match(await report(), /^1 lines, 7 bytes/);
 });
 
 test("a module that is missing or of another version has a message", async () => {
@@ -450,7 +450,7 @@ test("a module that is missing or of another version has a message", async () =>
     for (const [changed, message] of [[missing, /^ModuleMissing: .*404/], [await servedWith(other), /^WrongVersion: .* 9\./], [broken, /^BadModule: /]]) {
         await open(DESK, changed.url);
         await settled("refused");
-        assert.match(await told(), message);
+        assert.match(await report(), message);
         changed.close();
     }
 });
@@ -461,7 +461,7 @@ test("of two modules the 64-bit one is taken where the browser runs it", async (
     await open(DESK, changed.url);
     const isWide = await browser.ask(() => WebAssembly.validate(new Uint8Array([0, 97, 115, 109, 1, 0, 0, 0, 5, 3, 1, 4, 1])));
     await settled(isWide ? "refused" : "drawn");
-    assert.match(await told(), isWide ? /^WrongVersion: / : /^\d+ lines/);
+    assert.match(await report(), isWide ? /^WrongVersion: / : /^\d+ lines/);
     changed.close();
 });
 

@@ -33,15 +33,15 @@ fn fed_blocks() {
 /// More containers than there is room for at first, and a block that is long.
 #[test]
 fn deep_and_long_blocks_are_fed() {
-    let (mut reader, mut told) = (BlockReader::default(), 0);
+    let (mut reader, mut returned) = (BlockReader::default(), 0);
     reader.feed(">".repeat(1000).as_bytes());
     for _ in 0..10_000 {
         reader.feed(b"a\n");
         while let Some(block) = reader.next_block() {
-            told += block.range.len();
+            returned += block.range.len();
         }
     }
     reader.end();
     let block = reader.next_block().unwrap();
-    assert_eq!((told, block.containers().len(), block.lines.len()), (0, 1000, 10_000));
+    assert_eq!((returned, block.containers().len(), block.lines.len()), (0, 1000, 10_000));
 }

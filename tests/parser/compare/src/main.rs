@@ -35,17 +35,17 @@ struct Tally {
 
 impl Tally {
     fn add(&mut self, text: &str, is_smart: bool) -> Option<Difference> {
-        let told = compared(text, is_smart);
+        let returned = compared(text, is_smart);
         self.texts += 1;
         self.bytes += text.len();
-        self.calls += told.calls;
-        self.panics += usize::from(told.has_panicked);
-        for (kind, note) in told.answers {
+        self.calls += returned.calls;
+        self.panics += usize::from(returned.has_panicked);
+        for (kind, note) in returned.answers {
             let input = String::from_utf8_lossy(&note.input[..note.input.len().min(60)]).into_owned();
             let answer = || (0, format!("{}: {input:?}: {}, and {}", note.call, note.before, note.swapped));
             self.answers.entry(kind).or_insert_with(answer).0 += 1;
         }
-        let difference = told.difference?;
+        let difference = returned.difference?;
         let kind = self.kinds.entry(difference.kind).or_default();
         kind.texts += 1;
         if difference.is_alone() && kind.shortest.as_ref().map_or(true, |(other, _)| text.len() < other.len()) {

@@ -53,7 +53,7 @@ impl Difference {
 }
 
 /// What a text shows.
-pub struct Told {
+pub struct Returned {
     /// How many calls were made on both.
     pub calls: u64,
     /// Each that is answered in two ways, with its kind.
@@ -64,7 +64,7 @@ pub struct Told {
 }
 
 /// Renders the text by both, and makes each call of it on both.
-pub fn compared(text: &str, is_smart: bool) -> Told {
+pub fn compared(text: &str, is_smart: bool) -> Returned {
     let (original, swapped) = (render(Parser::Original, text, is_smart), render(Parser::Swapped, text, is_smart));
     let beside = render(Parser::Beside, text, is_smart);
     let (calls, notes) = beside::take_notes();
@@ -77,5 +77,5 @@ pub fn compared(text: &str, is_smart: bool) -> Told {
     };
     let difference = (original != swapped).then_some(Difference { kind: first, all });
     let has_panicked = swapped == PANIC && original != PANIC;
-    Told { calls, answers, has_panicked, difference }
+    Returned { calls, answers, has_panicked, difference }
 }
