@@ -210,7 +210,7 @@ static u64 place_of(const struct mds_line_start *line) { return two(line->place,
 
 static u64 line_quote(const uint8_t *b, size_t n) {
     struct mds_line_start line = {0};
-    mds_line_upto(b, n, &line, 3);
+    mds_line_space_up_to(b, n, &line, 3);
     bool quote = mds_line_quote(b, n, &line) == MDS_OK;
     return place_of(&line) * 2 + quote;
 }
@@ -219,7 +219,7 @@ EACH_REST(line_quote, line_quote(b, n))
 static u64 line_list(const uint8_t *b, size_t n) {
     struct mds_line_start line = {0};
     u64 answer = 1;
-    size_t indent = mds_line_upto(b, n, &line, 4).columns;
+    size_t indent = mds_line_space_up_to(b, n, &line, 4).columns;
     if (indent < 4) {
         struct mds_line_item it = mds_line_list(b, n, &line, indent);
         answer = it.status == MDS_OK ? two(it.indent, it.delimiter) + it.start : 2;
@@ -259,7 +259,7 @@ EACH_REST(line_space, line_space(b, n))
 
 static u64 line_upto(const uint8_t *b, size_t n) {
     struct mds_line_start line = {0};
-    size_t columns = mds_line_upto(b, n, &line, 1000000000).columns;
+    size_t columns = mds_line_space_up_to(b, n, &line, 1000000000).columns;
     return place_of(&line) + columns;
 }
 EACH_REST(line_upto, line_upto(b, n))
@@ -267,7 +267,7 @@ EACH_REST(line_upto, line_upto(b, n))
 static u64 line_all(const uint8_t *b, size_t n) {
     struct mds_line_start line = {0};
     mds_line_all_space(b, n, &line);
-    bool eol = mds_line_eol(b, n, &line) == MDS_OK;
+    bool eol = mds_line_is_at_end(b, n, &line) == MDS_OK;
     return place_of(&line) * 2 + eol;
 }
 EACH_REST(line_all, line_all(b, n))
@@ -277,7 +277,7 @@ static u64 line_containers(const uint8_t *b, size_t n) {
     struct mds_line_start line = {0};
     u64 sum = 0;
     for (int i = 0; i < 100000; i++) {
-        size_t indent = mds_line_upto(b, n, &line, 3).columns;
+        size_t indent = mds_line_space_up_to(b, n, &line, 3).columns;
         if (mds_line_quote(b, n, &line) == MDS_OK) {
             sum += 1;
             continue;
@@ -288,7 +288,7 @@ static u64 line_containers(const uint8_t *b, size_t n) {
         sum += two(it.indent, it.delimiter) + it.start;
     }
     mds_line_all_space(b, n, &line);
-    bool eol = mds_line_eol(b, n, &line) == MDS_OK;
+    bool eol = mds_line_is_at_end(b, n, &line) == MDS_OK;
     return sum + place_of(&line) + eol;
 }
 EACH_REST(line_containers, line_containers(b, n))

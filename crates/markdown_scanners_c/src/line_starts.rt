@@ -147,7 +147,7 @@ fn no_columns(status: u32) -> Columns
 
 /// Takes up to so many columns of space, and says how many. (CommonMark 0.31.2, section 2.2)
 #[unsafe(no_mangle)]
-pub extern "C" fn mds_line_upto(bytes: &[u8], start: &mut Start, count: usize) -> Columns
+pub extern "C" fn mds_line_space_up_to(bytes: &[u8], start: &mut Start, count: usize) -> Columns
     ensures refused { ¬ IsLineState (state_on bytes.now start.old)
         → (result ≡ no_columns bad_state) × (start.new ≡ start.old) }
     ensures answer { OfState bytes.now start.old (λ s.
@@ -214,7 +214,7 @@ pub extern "C" fn mds_line_all_space(bytes: &[u8], start: &mut Start) -> u32
 
 /// Whether the line ends at the place. (CommonMark 0.31.2, section 2.1)
 #[unsafe(no_mangle)]
-pub extern "C" fn mds_line_eol(bytes: &[u8], start: &Start) -> u32
+pub extern "C" fn mds_line_is_at_end(bytes: &[u8], start: &Start) -> u32
     ensures refused { ¬ IsLineState (state_on bytes.now start.now) → result ≡ bad_state }
     ensures answer { OfState bytes.now start.now (λ s.
         result ≡ found_status (is_at_line_end (unscanned s))) }

@@ -313,9 +313,9 @@ uint32_t mds_line_space(const void *bytes, size_t length, struct mds_line_start 
 /* The same, and how many it took, 0 too: MDS_OK or MDS_BAD_STATE.
  *
  *     struct mds_line_start start = {0};
- *     mds_line_upto("\ta", 2, &start, 1).columns == 1 && start.place == 1 && start.pending == 3
+ *     mds_line_space_up_to("\ta", 2, &start, 1).columns == 1 && start.place == 1 && start.pending == 3
  */
-struct mds_columns mds_line_upto(const void *bytes, size_t length, struct mds_line_start *start, size_t count);
+struct mds_columns mds_line_space_up_to(const void *bytes, size_t length, struct mds_line_start *start, size_t count);
 
 /* Drops pending columns, and passes all spaces and tabs, each as one column, so that columns are not those of the line
  * from then on: MDS_OK or MDS_BAD_STATE.
@@ -329,16 +329,20 @@ uint32_t mds_line_all_space(const void *bytes, size_t length, struct mds_line_st
  * MDS_BAD_STATE. It reads one byte.
  *
  *     struct mds_line_start start = {0};
- *     mds_line_eol("\r", 1, &start) == MDS_OK
+ *     mds_line_is_at_end("\r", 1, &start) == MDS_OK
  */
-uint32_t mds_line_eol(const void *bytes, size_t length, const struct mds_line_start *start);
+uint32_t mds_line_is_at_end(const void *bytes, size_t length, const struct mds_line_start *start);
+
+/* Their names in 0.1, for one version more. */
+#define mds_line_upto mds_line_space_up_to
+#define mds_line_eol mds_line_is_at_end
 
 /* Passes a block quote marker, `>` and at most one column of space; pending columns are looked past, and one of them
- * is that space. So take up to four columns first, by mds_line_upto: where there are four, no block quote begins there,
- * though this call would find the `>` after them. MDS_OK, MDS_NOTHING or MDS_BAD_STATE. It reads two bytes. (5.1)
+ * is that space. So take up to four columns first, by mds_line_space_up_to: where there are four, no block quote begins
+ * there, though this call would find the `>` after them. MDS_OK, MDS_NOTHING or MDS_BAD_STATE. It reads two bytes. (5.1)
  *
  *     struct mds_line_start start = {0};
- *     mds_line_upto(" > a", 4, &start, 4).columns == 1
+ *     mds_line_space_up_to(" > a", 4, &start, 4).columns == 1
  *     mds_line_quote(" > a", 4, &start) == MDS_OK && start.place == 3
  */
 uint32_t mds_line_quote(const void *bytes, size_t length, struct mds_line_start *start);

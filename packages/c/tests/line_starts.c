@@ -45,14 +45,14 @@ static void tabs(void) {
     {
         FRONT_OF("\t\tbar");
         SAME(mds_line_space(bytes, length, &start, 2), MDS_OK), AT(1, 2, 0);
-        COLUMNS(mds_line_upto(bytes, length, &start, 4), MDS_OK, 4), AT(2, 2, 0);
-        COLUMNS(mds_line_upto(bytes, length, &start, 9), MDS_OK, 2), AT(2, 0, 0);
+        COLUMNS(mds_line_space_up_to(bytes, length, &start, 4), MDS_OK, 4), AT(2, 2, 0);
+        COLUMNS(mds_line_space_up_to(bytes, length, &start, 9), MDS_OK, 2), AT(2, 0, 0);
         SAME(mds_line_space(bytes, length, &start, 1), MDS_NOTHING), AT(2, 0, 0);
     }
     {
         FRONT_OF(">\t\tfoo");
         SAME(mds_line_quote(bytes, length, &start), MDS_OK), AT(2, 2, 0);
-        SAME(mds_line_eol(bytes, length, &start), MDS_NOTHING);
+        SAME(mds_line_is_at_end(bytes, length, &start), MDS_NOTHING);
         SAME(mds_line_space(bytes, length, &start, 4), MDS_OK), AT(3, 2, 0);
         SAME(mds_line_quote(bytes, length, &start), MDS_NOTHING), AT(3, 2, 0);
         SAME(mds_line_space(bytes, length, &start, 3), MDS_NOTHING), AT(3, 0, 0);
@@ -60,12 +60,12 @@ static void tabs(void) {
     {
         FRONT_OF("-\t\tfoo");
         ITEM(mds_line_list(bytes, length, &start, 0), '-', 0, 2), AT(2, 2, 0);
-        COLUMNS(mds_line_upto(bytes, length, &start, 4), MDS_OK, 4), AT(3, 2, 0);
+        COLUMNS(mds_line_space_up_to(bytes, length, &start, 4), MDS_OK, 4), AT(3, 2, 0);
     }
     {
         FRONT_OF(">\t- a");
         SAME(mds_line_quote(bytes, length, &start), MDS_OK), AT(2, 2, 0);
-        COLUMNS(mds_line_upto(bytes, length, &start, 3), MDS_OK, 2), AT(2, 0, 0);
+        COLUMNS(mds_line_space_up_to(bytes, length, &start, 3), MDS_OK, 2), AT(2, 0, 0);
         struct mds_line_start copy = start;
         ITEM(mds_line_list(bytes, length, &start, 2), '-', 0, 4), AT(4, 0, 2);
         start = copy, AT(2, 0, 0);
@@ -96,11 +96,11 @@ static void breaks(void) {
 
 static void others(void) {
     struct mds_line_start start = {0};
-    SAME(mds_line_eol(OF("\r"), &start), MDS_OK), SAME(mds_line_eol(OF("\n"), &start), MDS_OK);
-    SAME(mds_line_eol(NULL, 0, &start), MDS_OK), SAME(mds_line_eol(OF(" "), &start), MDS_NOTHING);
+    SAME(mds_line_is_at_end(OF("\r"), &start), MDS_OK), SAME(mds_line_is_at_end(OF("\n"), &start), MDS_OK);
+    SAME(mds_line_is_at_end(NULL, 0, &start), MDS_OK), SAME(mds_line_is_at_end(OF(" "), &start), MDS_NOTHING);
     SAME(mds_line_quote(OF("a"), &start), MDS_NOTHING), AT(0, 0, 0);
     SAME(mds_line_space(NULL, 0, &start, 0), MDS_OK), AT(0, 0, 0);
-    COLUMNS(mds_line_upto(OF("x"), &start, SIZE_MAX), MDS_OK, 0), AT(0, 0, 0);
+    COLUMNS(mds_line_space_up_to(OF("x"), &start, SIZE_MAX), MDS_OK, 0), AT(0, 0, 0);
     SAME(mds_line_all_space(NULL, 0, &start), MDS_OK), AT(0, 0, 0);
     NO_ITEM(mds_line_list(OF("- a"), &start, SIZE_MAX - 15), MDS_TOO_LARGE), AT(0, 0, 0);
     COLUMNS(mds_line_definition(OF(": a"), &start, SIZE_MAX), MDS_TOO_LARGE, 0), AT(0, 0, 0);
@@ -150,8 +150,8 @@ static struct refusal call(size_t kind, const uint8_t *bytes, size_t length, str
     struct mds_alert alert;
     switch (kind) {
     case 0: return (struct refusal){mds_line_space(bytes, length, start, number), true};
-    case 1: columns = mds_line_upto(bytes, length, start, number); return (struct refusal){columns.status, columns.columns == 0};
-    case 2: return (struct refusal){mds_line_eol(bytes, length, start), true};
+    case 1: columns = mds_line_space_up_to(bytes, length, start, number); return (struct refusal){columns.status, columns.columns == 0};
+    case 2: return (struct refusal){mds_line_is_at_end(bytes, length, start), true};
     case 3: return (struct refusal){mds_line_quote(bytes, length, start), true};
     case 4:
         item = mds_line_list(bytes, length, start, number);
@@ -256,9 +256,9 @@ static struct mds_line_answer answer_of(
     switch (called.kind) {
     case MDS_SPACE: return (struct mds_line_answer){mds_line_space(bytes, length, start, called.number) == MDS_OK, 0, 0, 0};
     case MDS_UPTO:
-        columns = mds_line_upto(bytes, length, start, called.number);
+        columns = mds_line_space_up_to(bytes, length, start, called.number);
         return (struct mds_line_answer){columns.status == MDS_OK, 0, 0, columns.columns};
-    case MDS_EOL: return (struct mds_line_answer){mds_line_eol(bytes, length, start) == MDS_OK, 0, 0, 0};
+    case MDS_EOL: return (struct mds_line_answer){mds_line_is_at_end(bytes, length, start) == MDS_OK, 0, 0, 0};
     case MDS_QUOTE: return (struct mds_line_answer){mds_line_quote(bytes, length, start) == MDS_OK, 0, 0, 0};
     case MDS_LIST:
         item = mds_line_list(bytes, length, start, called.number);

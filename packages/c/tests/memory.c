@@ -494,9 +494,9 @@ static void others_on_line_starts(void) {
     ASKS_NOT(mds_line_list(OF("> - [x] a"), &start, 2).indent, 4);
     ASKS_NOT(mds_line_task(OF("> - [x] a"), &start).checked, true);
     ASKS_NOT(mds_line_space(OF("> - [x] a"), &start, 1), MDS_OK);
-    ASKS_NOT(mds_line_upto(OF("> - [x] a"), &start, 1).status, MDS_OK);
+    ASKS_NOT(mds_line_space_up_to(OF("> - [x] a"), &start, 1).status, MDS_OK);
     ASKS_NOT(mds_line_all_space(OF("> - [x] a"), &start), MDS_OK);
-    ASKS_NOT(mds_line_eol(OF("> - [x] a"), &start), MDS_NOTHING);
+    ASKS_NOT(mds_line_is_at_end(OF("> - [x] a"), &start), MDS_NOTHING);
     start = (struct mds_line_start){0};
     ASKS_NOT(mds_line_definition(OF(": a"), &start, 0).columns, 2);
     ASKS_NOT(mds_line_alert(OF(": [!TIP]"), &start).kind, MDS_ALERT_TIP);

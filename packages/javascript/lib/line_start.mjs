@@ -137,7 +137,7 @@ export class LineStart {
      * @returns {number}
      */
     upto(count) {
-        const found = this.#call("lineUpto", sizeOf("count", count));
+        const found = this.#call("lineSpaceUpTo", sizeOf("count", count));
         isAnswer(found.status);
         return found.columns;
     }
@@ -149,7 +149,7 @@ export class LineStart {
 
     /** Whether the line ends there. Pending columns are looked past. */
     eol() {
-        return isAnswer(this.#call("lineEol"));
+        return isAnswer(this.#call("lineIsAtEnd"));
     }
 
     /** Passes a block quote marker and at most one column of space: whether there was one. (5.1) */

@@ -10,7 +10,7 @@ const contract = (symbol, section, anchor, words, spec = SPEC) => ({ symbol, sec
 
 /** @type {Record<string, Contract>} */
 export const CONTRACTS = {
-    upto: contract("mds_line_upto", "2.2 Tabs", "tabs", ["space_within", "after_space"]),
+    upto: contract("mds_line_space_up_to", "2.2 Tabs", "tabs", ["space_within", "after_space"]),
     quote: contract("mds_line_quote", "5.1 Block quotes", "block-quotes", ["begins_with", "greater_than_sign", "after_quote"]),
     listItem: contract("mds_line_list", "5.2 List items", "list-items", ["item_outcome", "IsTrueStart"]),
     scanBlankLine: contract("mds_scan_blank_line", "4.9 Blank lines", "blank-lines", ["IsBlankLine"]),

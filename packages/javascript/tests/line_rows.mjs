@@ -8,9 +8,9 @@ import { bytesOf, plain, outcomeOf, ways } from "./c_calls.mjs";
 
 const CALLS = {
     mds_line_space: "space",
-    mds_line_upto: "upto",
+    mds_line_space_up_to: "upto",
     mds_line_all_space: "allSpace",
-    mds_line_eol: "eol",
+    mds_line_is_at_end: "eol",
     mds_line_quote: "quote",
     mds_line_list: "listItem",
     mds_line_definition: "definition",
@@ -31,7 +31,7 @@ function call(start, name, given) {
     const isOk = status === c.OK;
     const marker = isOk && name === "mds_line_list" ? found : { delimiter: "\0", start: 0, indent: 0 };
     if (name === "mds_line_list") return { status, ...marker, delimiter: marker.delimiter.charCodeAt(0) };
-    if (name === "mds_line_upto" || name === "mds_line_definition") return { status, columns: isOk ? found : 0 };
+    if (name === "mds_line_space_up_to" || name === "mds_line_definition") return { status, columns: isOk ? found : 0 };
     if (name === "mds_line_task") return { status, checked: isOk && found };
     if (name === "mds_line_alert") return { status, kind: isOk ? ALERTS.indexOf(found) : 0 };
     return found === true || found === undefined ? c.OK : found === false ? c.NOTHING : status;

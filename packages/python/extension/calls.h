@@ -40,9 +40,9 @@ SCANNER(scan_blockquote_start, PyLong_FromSize_t, 2, (void *)it[0], it[1])
 SCANNER(scan_listitem, of_ListItem, 2, (void *)it[0], it[1])
 SCANNER(calc_indent, of_Indent, 3, (void *)it[0], it[1], it[2])
 SCANNER(line_space, PyLong_FromUnsignedLong, 4, (void *)it[0], it[1], (void *)it[2], it[3])
-SCANNER(line_upto, of_Columns, 4, (void *)it[0], it[1], (void *)it[2], it[3])
+SCANNER(line_space_up_to, of_Columns, 4, (void *)it[0], it[1], (void *)it[2], it[3])
 SCANNER(line_all_space, PyLong_FromUnsignedLong, 3, (void *)it[0], it[1], (void *)it[2])
-SCANNER(line_eol, PyLong_FromUnsignedLong, 3, (void *)it[0], it[1], (void *)it[2])
+SCANNER(line_is_at_end, PyLong_FromUnsignedLong, 3, (void *)it[0], it[1], (void *)it[2])
 SCANNER(line_quote, PyLong_FromUnsignedLong, 3, (void *)it[0], it[1], (void *)it[2])
 SCANNER(line_list, of_LineItem, 4, (void *)it[0], it[1], (void *)it[2], it[3])
 SCANNER(line_definition, of_Columns, 4, (void *)it[0], it[1], (void *)it[2], it[3])
@@ -99,12 +99,13 @@ WRITER(label_key, mds_text, of_Text, 2, (void *)it[0], it[1])
     use(is_whitespace) use(is_whitespace_in_line) use(is_punctuation) use(is_unicode_whitespace) use(is_unicode_punctuation) \
     use(is_utf8) use(scan_ch) use(scan_ch_repeat) use(scan_while) use(scan_rev_while) use(scan_whitespace_in_line) \
     use(scan_eol) use(scan_line) use(scan_nextline) use(scan_blank_line) use(scan_blockquote_start) use(scan_listitem) \
-    use(calc_indent) use(line_space) use(line_upto) use(line_all_space) use(line_eol) use(line_quote) use(line_list) \
-    use(line_definition) use(line_task) use(line_alert) use(run_line) use(line_rest) use(scan_hrule) use(scan_atx_heading) \
-    use(scan_setext_heading) use(scan_code_fence) use(scan_closing_code_fence) use(scan_metadata_block) \
-    use(scan_closing_metadata_block) use(interrupts_paragraph) use(scan_reference_definition) use(scan_table_head) \
-    use(scan_blocks) use(block_content) use(block_line) use(scan_lists) use(scan_inlines) use(html) use(safe_html) \
-    use(events) use(scan_link_dest) use(scan_link_title) use(scan_autolink) use(scan_email_autolink) use(scan_code_span) \
-    use(scan_wikilink_pipe) use(scan_delimiter_run) use(check_skips) use(starts_html_block_type_6) use(scan_html_type_7) \
-    use(scan_html_block_start) use(ends_html_block) use(scan_html_tag) use(scan_html_tag_over_lines) use(scan_inline_html) \
-    use(run_inline_html) use(scan_entity) use(unescape) use(scan_link_label) use(labels_match) use(label_key)
+    use(calc_indent) use(line_space) use(line_space_up_to) use(line_all_space) use(line_is_at_end) use(line_quote) \
+    use(line_list) use(line_definition) use(line_task) use(line_alert) use(run_line) use(line_rest) use(scan_hrule) \
+    use(scan_atx_heading) use(scan_setext_heading) use(scan_code_fence) use(scan_closing_code_fence) \
+    use(scan_metadata_block) use(scan_closing_metadata_block) use(interrupts_paragraph) use(scan_reference_definition) \
+    use(scan_table_head) use(scan_blocks) use(block_content) use(block_line) use(scan_lists) use(scan_inlines) use(html) \
+    use(safe_html) use(events) use(scan_link_dest) use(scan_link_title) use(scan_autolink) use(scan_email_autolink) \
+    use(scan_code_span) use(scan_wikilink_pipe) use(scan_delimiter_run) use(check_skips) use(starts_html_block_type_6) \
+    use(scan_html_type_7) use(scan_html_block_start) use(ends_html_block) use(scan_html_tag) use(scan_html_tag_over_lines) \
+    use(scan_inline_html) use(run_inline_html) use(scan_entity) use(unescape) use(scan_link_label) use(labels_match) \
+    use(label_key)

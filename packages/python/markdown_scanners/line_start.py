@@ -12,9 +12,9 @@ from ._pages import Buffer, Made, Page, front, number
 from .errors import stated
 
 _line_space: Callable[..., int] = function("line_space")
-_line_upto: Callable[..., _c.Columns] = function("line_upto")
+_line_space_up_to: Callable[..., _c.Columns] = function("line_space_up_to")
 _line_all_space: Callable[..., int] = function("line_all_space")
-_line_eol: Callable[..., int] = function("line_eol")
+_line_is_at_end: Callable[..., int] = function("line_is_at_end")
 _line_quote: Callable[..., int] = function("line_quote")
 _line_list: Callable[..., _c.LineItem] = function("line_list")
 _line_definition: Callable[..., _c.Columns] = function("line_definition")
@@ -134,7 +134,7 @@ class LineStart(Generic[Made]):
         >>> LineStart(b"  a").upto(4)
         2
         """
-        found = _line_upto(*self._given, number("count", count))
+        found = _line_space_up_to(*self._given, number("count", count))
         stated(found.status)
         return found.columns
 
@@ -154,7 +154,7 @@ class LineStart(Generic[Made]):
         >>> LineStart(b"\n").eol(), LineStart(b"a").eol()
         (True, False)
         """
-        return stated(_line_eol(*self._given))
+        return stated(_line_is_at_end(*self._given))
 
     def quote(self) -> bool:
         """Passes a block quote marker and at most one column of space. (5.1)

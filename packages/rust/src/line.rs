@@ -69,7 +69,7 @@ impl<'line> LineStart<'line> {
         if self.has_no_space() {
             return 0;
         }
-        raw::line_upto(self.bytes, &mut self.numbers, count).columns
+        raw::line_space_up_to(self.bytes, &mut self.numbers, count).columns
     }
 
     /// Drops pending columns, and passes all spaces and tabs, each as one column.
@@ -95,7 +95,7 @@ impl<'line> LineStart<'line> {
     #[must_use]
     pub fn is_at_eol(&self) -> bool {
         let is = matches!(self.bytes.get(self.numbers.place), None | Some(b'\n' | b'\r'));
-        debug_assert_eq!(is, stated(raw::line_eol(self.bytes, &self.numbers)));
+        debug_assert_eq!(is, stated(raw::line_is_at_end(self.bytes, &self.numbers)));
         is
     }
 
@@ -201,7 +201,7 @@ impl<'line> LineStart<'line> {
     fn has_no_space(&self) -> bool {
         let byte = self.bytes.get(self.numbers.place);
         let is = self.numbers.pending == 0 && !matches!(byte, None | Some(b' ' | b'\t'));
-        debug_assert!(!is || raw::line_upto(self.bytes, &mut self.numbers.clone(), usize::MAX).columns == 0);
+        debug_assert!(!is || raw::line_space_up_to(self.bytes, &mut self.numbers.clone(), usize::MAX).columns == 0);
         is
     }
 }

@@ -140,7 +140,7 @@ macro_rules! moving {
 
 moving! {
     line_space(count) -> u32 = mds_line_space;
-    line_upto(count) -> ffi::Columns = mds_line_upto;
+    line_space_up_to(count) -> ffi::Columns = mds_line_space_up_to;
     line_all_space() -> u32 = mds_line_all_space;
     line_quote() -> u32 = mds_line_quote;
     line_list(indent) -> ffi::LineItem = mds_line_list;
@@ -150,9 +150,9 @@ moving! {
 }
 
 #[inline]
-pub(crate) fn line_eol(bytes: &[u8], start: &LineStart) -> u32 {
+pub(crate) fn line_is_at_end(bytes: &[u8], start: &LineStart) -> u32 {
     // SAFETY: the pointer and the length are those of one slice, the line start is a `&`, and nothing is written.
-    unsafe { ffi::mds_line_eol(front(bytes), bytes.len(), start) }
+    unsafe { ffi::mds_line_is_at_end(front(bytes), bytes.len(), start) }
 }
 
 #[inline]

@@ -465,9 +465,9 @@ extern "C" {
     pub fn mds_scan_listitem(bytes: *const c_void, length: usize) -> ListItem;
     pub fn mds_calc_indent(bytes: *const c_void, length: usize, max: usize) -> Indent;
     pub fn mds_line_space(bytes: *const c_void, length: usize, start: *mut LineStart, count: usize) -> u32;
-    pub fn mds_line_upto(bytes: *const c_void, length: usize, start: *mut LineStart, count: usize) -> Columns;
+    pub fn mds_line_space_up_to(bytes: *const c_void, length: usize, start: *mut LineStart, count: usize) -> Columns;
     pub fn mds_line_all_space(bytes: *const c_void, length: usize, start: *mut LineStart) -> u32;
-    pub fn mds_line_eol(bytes: *const c_void, length: usize, start: *const LineStart) -> u32;
+    pub fn mds_line_is_at_end(bytes: *const c_void, length: usize, start: *const LineStart) -> u32;
     pub fn mds_line_quote(bytes: *const c_void, length: usize, start: *mut LineStart) -> u32;
     pub fn mds_line_list(bytes: *const c_void, length: usize, start: *mut LineStart, indent: usize) -> LineItem;
     pub fn mds_line_definition(bytes: *const c_void, length: usize, start: *mut LineStart, indent: usize) -> Columns;
