@@ -93,7 +93,7 @@ def of_parser():
 def of_packages():
     made = totals("packages/javascript/totals")["made_pages"]
     most, most_wide = (number("packages/javascript/test", rf"(?m)^{it}=(\d+)$") // 1000 for it in ("most", "most64"))
-    asking = len(re.findall(r":\s+(?:\* )?MDS_NO_MEMORY\.", text_of("packages/c/include/markdown_scanners.h")))
+    asking = len(re.findall(r":\s+(?:\* )?MDS_NO_MEMORY\.", text_of("packages/c/include/proved_markdown.h")))
     return [
         ("README.md", "WebAssembly module of at most {} KB", [most]),
         ("packages/javascript/README.md", "WebAssembly module of at most {} KB", [most]),

@@ -3,13 +3,14 @@
 cd "$(dirname "${BASH_SOURCE[0]}")/../.." || exit
 top=$PWD
 version=$(cat VERSION)
-header=packages/c/include/markdown_scanners.h
+header=packages/c/include/proved_markdown.h
 crate=crates/markdown_scanners_c
 made=$crate/out/libmarkdown_scanners_c.a # as rt makes it, of the crate alone
 proof=$crate/out/proof.txt               # what rt said when it made that, after its checksum
-archive=out/libmarkdown_scanners.a
-shared_name=libmarkdown_scanners.so.${version%%.*}
+archive=out/libproved_markdown.a
+shared_name=libproved_markdown.so.${version%%.*}
 shared=out/$shared_name
+earlier_name=libmarkdown_scanners.so.${version%%.*} # of programs that were linked before
 script=$(basename "$0")
 room=$(mktemp -d)
 trap 'rm -rf "$room"' EXIT

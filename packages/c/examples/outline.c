@@ -1,5 +1,5 @@
-/* Prints the outline of a Markdown file. cc -Ipackages/c/include packages/c/examples/outline.c out/libmarkdown_scanners.a -o outline */
-#include "markdown_scanners.h"
+/* Prints the outline of a Markdown file. cc -Ipackages/c/include packages/c/examples/outline.c out/libproved_markdown.a -o outline */
+#include "proved_markdown.h"
 #include <errno.h>
 #include <stdio.h>
 #include <stdlib.h>

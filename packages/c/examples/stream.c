@@ -1,7 +1,7 @@
 /* Prints the headings of a page while it is read from the standard input: the line of each, `#` as often as its level says, and its
  * text. Its memory is that of the longest block and the deepest nesting.
- * cc -Ipackages/c/include packages/c/examples/stream.c out/libmarkdown_scanners.a -o stream */
-#include "markdown_scanners.h"
+ * cc -Ipackages/c/include packages/c/examples/stream.c out/libproved_markdown.a -o stream */
+#include "proved_markdown.h"
 
 #include <stdio.h>
 #include <stdlib.h>

@@ -1,4 +1,4 @@
-/* The events of a page, one after another, by a handle over mds_events of markdown_scanners.h, which is proved to answer those of the
+/* The events of a page, one after another, by a handle over mds_events of proved_markdown.h, which is proved to answer those of the
  * page. The handle is written in C, in this header, and is compiled with the program that includes it: it is tested, and not proved.
  *
  *     struct mds_parser parser;
@@ -22,7 +22,7 @@
 #ifndef MARKDOWN_PARSER_H
 #define MARKDOWN_PARSER_H
 
-#include "markdown_scanners.h"
+#include "proved_markdown.h"
 
 #include <stdlib.h>
 

@@ -4,7 +4,7 @@
 #ifndef CHECKS_H
 #define CHECKS_H
 
-#include "markdown_scanners.h"
+#include "proved_markdown.h"
 
 /* A room for each thing that one call may be given. */
 enum room { BYTES, OTHER_BYTES, LIST, BUFFER, REST, ROOMS };

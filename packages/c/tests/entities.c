@@ -1,7 +1,7 @@
 /* What each line of the input means, in the form in which html_entities_names tells it: of a name its meaning in HTML, or
  * `none`; of a line that begins with `text `, the rest with its references resolved. Each call has the room that the
  * header says is enough, and no more. */
-#include "markdown_scanners.h"
+#include "proved_markdown.h"
 
 #include <stdio.h>
 #include <stdlib.h>

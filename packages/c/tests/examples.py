@@ -7,8 +7,8 @@ import re
 import sys
 from pathlib import Path
 
-HEADER = Path(__file__).resolve().parents[1] / "include/markdown_scanners.h"
-FRONT = """#include "markdown_scanners.h"
+HEADER = Path(__file__).resolve().parents[1] / "include/proved_markdown.h"
+FRONT = """#include "proved_markdown.h"
 #include <stdio.h>
 #include <string.h>
 

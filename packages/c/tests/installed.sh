@@ -17,26 +17,51 @@ prints_level() {
 
 # has_files FOLDER: the files of an installed library stand there, and no others.
 has_files() {
-    local doc=share/doc/markdown_scanners cmake=lib/cmake/markdown_scanners
-    printf '%s\n' include/markdown_{scanners,parser}.h "$cmake/markdown_scanners-config"{,-version}.cmake lib/libmarkdown_scanners.{a,so} \
-        "lib/$shared_name" lib/pkgconfig/markdown_scanners.pc "$doc/CHANGELOG.md" "$doc/LICENSE" | sort >"$room/wanted"
-    (cd "$1" && find . ! -type d -printf '%P\n') | sort | diff "$room/wanted" - || stop "other files are installed"
-    [ "$(readlink "$1/lib/libmarkdown_scanners.so")" = "$shared_name" ] || stop "libmarkdown_scanners.so is another link"
+    local doc=share/doc/proved_markdown name files=(include/markdown_parser.h "lib/$shared_name" "lib/$earlier_name")
+    for name in proved_markdown markdown_scanners; do
+        files+=("include/$name.h" "lib/cmake/$name/$name-config"{,-version}.cmake "lib/lib$name".{a,so} "lib/pkgconfig/$name.pc")
+    done
+    printf '%s\n' "${files[@]}" "$doc/CHANGELOG.md" "$doc/LICENSE" | sort >"$room/expected"
+    (cd "$1" && find . ! -type d -printf '%P\n') | sort | diff "$room/expected" - || stop "other files are installed"
+    for name in libproved_markdown.so libmarkdown_scanners.so "$earlier_name"; do
+        [ "$(readlink "$1/lib/$name")" = "$shared_name" ] || stop "$name is another link"
+    done
     runs=$((runs + 1))
 }
 
-# by_pkg_config PREFIX [LIBDIR]: the program, with each library.
+# by_pkg_config PREFIX [LIBDIR [NAME]]: the program, with each library, by the name of the header and of what pkg-config knows.
 by_pkg_config() {
-    local prefix=$1 libdir=${2:-lib} kind flags links
+    local prefix=$1 libdir=${2:-lib} name=${3:-proved_markdown} kind flags links
     export PKG_CONFIG_PATH=$prefix/$libdir/pkgconfig
-    [ "$(pkg-config --modversion markdown_scanners)" = "$version" ] || stop "pkg-config has another version"
-    flags=$(pkg-config --cflags markdown_scanners)
+    [ "$(pkg-config --modversion "$name")" = "$version" ] || stop "pkg-config has another version"
+    flags=$(pkg-config --cflags "$name")
+    sed "s/proved_markdown/$name/" "$room/level.c" >"$room/named.c"
     for kind in shared static; do
-        links=$(pkg-config --libs markdown_scanners)
-        [ $kind = shared ] || links="-Wl,-Bstatic $(pkg-config --libs --static markdown_scanners) -Wl,-Bdynamic"
-        cc -Wall -Werror $flags "$room/level.c" $links -o "$room/level"
+        links=$(pkg-config --libs "$name")
+        [ $kind = shared ] || links="-Wl,-Bstatic $(pkg-config --libs --static "$name") -Wl,-Bdynamic"
+        cc -Wall -Werror $flags "$room/named.c" $links -o "$room/level" 2>"$room/faults" || { cat "$room/faults" >&2; stop "$name: no program"; }
         prints_level "$room/level" $kind
     done
+}
+
+# by_earlier_name PREFIX: the program by the header and the libraries of the earlier name, and one that was linked when the shared
+# library had it.
+by_earlier_name() {
+    local prefix=$1 libdir=lib kind link
+    by_pkg_config "$1" lib markdown_scanners
+    [ "$(pkg-config --variable=libdir markdown_scanners)" = "$1/lib" ] || stop "pkg-config has another folder for the earlier name"
+    sed "s/proved_markdown/markdown_scanners/" "$room/level.c" >"$room/named.c"
+    for kind in shared static; do
+        link=$1/lib/libmarkdown_scanners.a
+        [ $kind = static ] || link="-L$1/lib -lmarkdown_scanners"
+        cc "-I$1/include" "$room/named.c" $link -o "$room/level" 2>"$room/faults" || { cat "$room/faults" >&2; stop "$link: no program"; }
+        prints_level "$room/level" $kind
+    done
+    mkdir -p "$room/earlier"
+    cc -shared "-Wl,-soname,$earlier_name" -x c - -o "$room/earlier/libmarkdown_scanners.so" <<<'void mds_safe_html(void) {}'
+    cc "-I$1/include" "$room/level.c" "-L$room/earlier" -lmarkdown_scanners -o "$room/level"
+    readelf -dW "$room/level" | grep -q "NEEDED.*\[$earlier_name\]" || stop "the program does not ask for the earlier name"
+    shared_name=$earlier_name prints_level "$room/level" shared
 }
 
 # In a fresh prefix, and below DESTDIR as for /usr. Another archive of the kit may stand in the same program.
@@ -46,11 +71,12 @@ check_installed() {
     packages/c/install "$prefix"
     has_files "$prefix"
     by_pkg_config "$prefix"
+    by_earlier_name "$prefix"
     DESTDIR=$room/stage packages/c/install /usr
     has_files "$room/stage/usr"
     LIBDIR=lib/machine packages/c/install "$room/machine"
     by_pkg_config "$room/machine" lib/machine
-    grep -qx 'prefix=/usr' "$room/stage/usr/lib/pkgconfig/markdown_scanners.pc" || stop "DESTDIR stands in what is installed"
+    grep -qx 'prefix=/usr' "$room/stage/usr/lib/pkgconfig/proved_markdown.pc" || stop "DESTDIR stands in what is installed"
     DESTDIR=$room/stage packages/c/install --remove /usr
     [ -z "$(find "$room/stage" ! -type d)" ] && [ -d "$room/stage/usr/lib" ] || stop "what is installed is not removed"
     ! (LIBDIR=a/../.. packages/c/install "$prefix" 2>"$room/faults") && grep -q LIBDIR "$room/faults" || stop "a LIBDIR outside is not refused"
@@ -61,35 +87,44 @@ check_installed() {
     passed installed "$runs"
 }
 
+# By both names.
 check_cmake() {
-    local prefix=$room/prefix libdir=lib runs=0 kind
+    local prefix=$room/prefix libdir=lib runs=0 cmake=$room/machine/lib/machine/cmake
     command -v cmake >/dev/null || { leave cmake cmake; return; }
     cat >"$room/CMakeLists.txt" <<'END'
 cmake_minimum_required(VERSION 3.13)
 project(level C)
-find_package(markdown_scanners ${WANTED} REQUIRED)
-foreach(kind shared static)
-  add_executable(level_${kind} level.c)
-  target_link_libraries(level_${kind} markdown_scanners::${kind})
+foreach(name proved_markdown markdown_scanners)
+  find_package(${name} ${EXPECTED} REQUIRED)
+  foreach(kind shared static)
+    add_executable(${name}_${kind} level.c)
+    target_link_libraries(${name}_${kind} ${name}::${kind})
+  endforeach()
 endforeach()
 END
-    cmake -S "$room" -B "$room/cmake" "-DCMAKE_PREFIX_PATH=$prefix" "-DWANTED=$version" >"$room/said" 2>&1 &&
-        cmake --build "$room/cmake" >>"$room/said" 2>&1 || { cat "$room/said" >&2; stop "CMake fails"; }
-    for kind in shared static; do prints_level "$room/cmake/level_$kind" $kind; done
-    cmake -S "$room" -B "$room/machine/cmake" "-Dmarkdown_scanners_DIR=$room/machine/lib/machine/cmake/markdown_scanners" "-DWANTED=$version" \
-        >"$room/said" 2>&1 && cmake --build "$room/machine/cmake" >>"$room/said" 2>&1 || { cat "$room/said" >&2; stop "CMake fails"; }
+    by_cmake "$room/cmake" "-DCMAKE_PREFIX_PATH=$prefix"
     prefix=$room/machine libdir=lib/machine
-    for kind in shared static; do prints_level "$room/machine/cmake/level_$kind" $kind; done
-    prefix=$room/prefix
-    ! cmake -S "$room" -B "$room/later" "-DCMAKE_PREFIX_PATH=$prefix" -DWANTED=$((${version%%.*} + 1)).0 >"$room/said" 2>&1 &&
-        grep -q markdown_scanners-config.cmake "$room/said" || stop "CMake takes this version for another"
+    by_cmake "$room/machine/cmake" "-Dproved_markdown_DIR=$cmake/proved_markdown" "-Dmarkdown_scanners_DIR=$cmake/markdown_scanners"
+    ! cmake -S "$room" -B "$room/later" "-DCMAKE_PREFIX_PATH=$room/prefix" -DEXPECTED=$((${version%%.*} + 1)).0 >"$room/said" 2>&1 &&
+        grep -q proved_markdown-config.cmake "$room/said" || stop "CMake takes this version for another"
     runs=$((runs + 1))
     passed cmake "$runs"
 }
 
+# by_cmake FOLDER WORD..: the programs are built there, by CMake with these words.
+by_cmake() {
+    local name kind
+    cmake -S "$room" -B "$1" "${@:2}" "-DEXPECTED=$version" >"$room/said" 2>&1 && cmake --build "$1" >>"$room/said" 2>&1 ||
+        { cat "$room/said" >&2; stop "CMake fails"; }
+    grep -q 'markdown_scanners is called proved_markdown now' "$room/said" || stop "CMake does not say the new name"
+    for name in proved_markdown markdown_scanners; do
+        for kind in shared static; do prints_level "$1/${name}_$kind" $kind; done
+    done
+}
+
 # What is packed is what is installed; it says by which kit it was proved, and how; and it may stand anywhere.
 check_dist() {
-    local name=markdown-scanners-$version-x86_64-linux runs=0 at
+    local name=proved-markdown-$version-x86_64-linux runs=0 at
     mkdir "$room/once" "$room/again" "$room/anywhere"
     packages/c/dist "$room/once" && packages/c/dist "$room/again"
     cmp "$room/once/$name.tar.gz" "$room/again/$name.tar.gz" || stop "the same files are packed in two ways"
@@ -98,7 +133,7 @@ check_dist() {
     (cd "$at" && sha256sum --quiet --strict -c SHA256SUMS) || stop "a checksum of what is packed differs"
     [ "$(cat "$at/VERSION")" = "$version" ] && cmp LICENSE "$at/LICENSE" || stop "the version or the licence differs"
     grep -q 'rattle-kit-' "$at/PROOF" && [[ $(tail -n 1 "$at/PROOF") = logic=proved\ * ]] || stop "the proof is not recorded"
-    cmp "$archive" "$at/lib/libmarkdown_scanners.a" && cmp "$shared" "$at/lib/$shared_name" || stop "other libraries are packed"
+    cmp "$archive" "$at/lib/libproved_markdown.a" && cmp "$shared" "$at/lib/$shared_name" || stop "other libraries are packed"
     by_pkg_config "$at"
     check_packed_programs "$at"
     check_packed_python "$at"
@@ -111,8 +146,8 @@ check_dist() {
 
 # prints_outline WORD..: the command prints the outline of what is packed.
 prints_outline() {
-    { echo "1: # markdown-scanners $version, for Linux on x86-64" && grep -n '^## ' "$at/README.md" | sed 's/:/: /'; } >"$room/wanted"
-    "$@" >"$room/printed" && cmp "$room/wanted" "$room/printed" || stop "$* prints something else"
+    { echo "1: # proved-markdown $version, for Linux on x86-64" && grep -n '^## ' "$at/README.md" | sed 's/:/: /'; } >"$room/expected"
+    "$@" >"$room/printed" && cmp "$room/expected" "$room/printed" || stop "$* prints something else"
 }
 
 # The programs, in an empty environment, as the stored runs have it; the README says which C library they need.
@@ -129,9 +164,9 @@ check_packed_programs() {
 # The package, of the wheel alone, and the example on it.
 check_packed_python() {
     python3 -m pip --version >/dev/null 2>&1 || { leave packed_python pip; return; }
-    python3 -m pip install -q --root-user-action ignore --no-index --no-deps --target "$room/site" "$1"/python/markdown_scanners-*.whl ||
+    python3 -m pip install -q --root-user-action ignore --no-index --no-deps --target "$room/site" "$1"/python/proved_markdown-*.whl ||
         stop "the wheel that is packed is not installed"
-    (unset MARKDOWN_SCANNERS_LIBRARY && cd "$1" && PYTHONPATH=$room/site prints_outline python3 examples/outline.py README.md)
+    (unset PROVED_MARKDOWN_LIBRARY && cd "$1" && PYTHONPATH=$room/site prints_outline python3 examples/outline.py README.md)
     passed packed_python 1
 }
 
@@ -141,7 +176,7 @@ check_packed_javascript() {
     command -v node >/dev/null || { leave packed_javascript node; return; }
     if node --experimental-wasm-memory64 -e 0 2>/dev/null; then flags=(--no-warnings --experimental-wasm-memory64); fi
     cat >"$room/level.mjs" <<END
-import { load } from "$1/javascript/markdown_scanners.mjs";
+import { load } from "$1/javascript/proved_markdown.mjs";
 console.log((await load()).text("## A heading").scanAtxHeading());
 END
     [ "$(node "${flags[@]}" "$room/level.mjs")" = 2 ] || stop "the JavaScript package that is packed prints something else"
@@ -157,7 +192,7 @@ check_packed_rust() {
     command -v cargo >/dev/null || { leave packed_rust cargo; return; }
     (
         cd "$1/rust" || exit
-        unset MARKDOWN_SCANNERS_LIB_DIR PKG_CONFIG_PATH
+        unset PROVED_MARKDOWN_LIB_DIR PKG_CONFIG_PATH
         export CARGO_TARGET_DIR=$room/packed
         prints_outline cargo run -q --offline --example headings ../README.md
     )

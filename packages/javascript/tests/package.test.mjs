@@ -10,7 +10,7 @@ import { test } from "node:test";
 import { fileURLToPath, pathToFileURL } from "node:url";
 import { inspect } from "node:util";
 import { FUNCTIONS, VERSION } from "../lib/c.mjs";
-import * as mds from "../markdown_scanners.mjs";
+import * as mds from "../proved_markdown.mjs";
 import { IS_WIDE, MODULE, naming, ofOtherVersion } from "./module.mjs";
 import { TOP } from "./tree.mjs";
 
@@ -228,9 +228,9 @@ async function stopping(address) {
 
 test("of two modules the 64-bit one is taken where the engine runs it", async () => {
     const folder = mkdtempSync(join(tmpdir(), "package-"));
-    for (const it of ["markdown_scanners.mjs", "lib"]) cpSync(join(PACKAGE, it), join(folder, it), { recursive: true });
-    writeFileSync(join(folder, "markdown_scanners.wasm"), naming(readFileSync(MODULE), "wide.wasm"));
-    const { load } = await import(pathToFileURL(join(folder, "markdown_scanners.mjs")));
+    for (const it of ["proved_markdown.mjs", "lib"]) cpSync(join(PACKAGE, it), join(folder, it), { recursive: true });
+    writeFileSync(join(folder, "proved_markdown.wasm"), naming(readFileSync(MODULE), "wide.wasm"));
+    const { load } = await import(pathToFileURL(join(folder, "proved_markdown.mjs")));
     const isRead = async () => (await load()).text("# a").scanAtxHeading() === 1;
     assert.ok(await isRead()); // where it is not there
     writeFileSync(join(folder, "wide.wasm"), "none");
@@ -257,8 +257,8 @@ test("a module that is missing, broken or of another version", async () => {
 test("a bundle that has no URL can be imported, and given the module", async () => {
     const folder = mkdtempSync(join(tmpdir(), "bundle-"));
     cpSync(join(PACKAGE, "lib"), join(folder, "lib"), { recursive: true });
-    const source = readFileSync(join(PACKAGE, "markdown_scanners.mjs"), "utf8");
-    assert.ok(source.includes('new URL("./markdown_scanners.wasm", import.meta.url)')); // as bundlers look for it
+    const source = readFileSync(join(PACKAGE, "proved_markdown.mjs"), "utf8");
+    assert.ok(source.includes('new URL("./proved_markdown.wasm", import.meta.url)')); // as bundlers look for it
     writeFileSync(join(folder, "bundle.mjs"), source.replaceAll("import.meta", "({})"));
     const { load } = await import(pathToFileURL(join(folder, "bundle.mjs")));
     await assert.rejects(load(), { name: "ModuleMissing" });
@@ -271,7 +271,7 @@ test("a bundle that has no URL can be imported, and given the module", async () 
 
 test("each function is called, and the package tells one version", () => {
     const files = ["source", "blocks", "events", "inlines", "line_start", "pages", "readers", "text"].map((it) => new URL(`../lib/${it}.mjs`, import.meta.url));
-    const sources = [...files, new URL("../markdown_scanners.mjs", import.meta.url)].map((it) => readFileSync(it, "utf8")).join("");
+    const sources = [...files, new URL("../proved_markdown.mjs", import.meta.url)].map((it) => readFileSync(it, "utf8")).join("");
     const missing = Object.keys(FUNCTIONS).filter((it) => !new RegExp(`"${it}"|calls\\.${it}\\b`).test(sources));
     assert.deepEqual(missing, []);
     assert.equal(JSON.parse(readFileSync(new URL("../package.json", import.meta.url), "utf8")).version, VERSION);

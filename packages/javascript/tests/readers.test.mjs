@@ -2,7 +2,7 @@
 import assert from "node:assert/strict";
 import { readFileSync } from "node:fs";
 import { test } from "node:test";
-import * as mds from "../markdown_scanners.mjs";
+import * as mds from "../proved_markdown.mjs";
 import { MODULE } from "./module.mjs";
 import { TOP } from "./tree.mjs";
 

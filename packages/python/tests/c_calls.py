@@ -3,9 +3,9 @@ package's answer. What C gives is given in four forms, by itself, inside of othe
 and all must answer alike."""
 import itertools
 
-import markdown_scanners as mds
+import proved_markdown as mds
 from c_rows import SIZE_MAX as NONE
-from markdown_scanners import _c
+from proved_markdown import _c
 
 FORMS = ["alone", "inside", "buffer", "str"]
 BEFORE, BEHIND = b"<!>\xff", b"-->]"

@@ -7,7 +7,7 @@ from dataclasses import dataclass, field
 from pathlib import Path
 
 FOLDER = Path(__file__).resolve().parents[3] / "packages/c/tests"
-HEADER = FOLDER.parent / "include/markdown_scanners.h"
+HEADER = FOLDER.parent / "include/proved_markdown.h"
 SIZE_MAX = 2**64 - 1
 ESCAPES = {"n": 10, "t": 9, "r": 13, "v": 11, "f": 12, "0": 0, "\\": 92, '"': 34, "'": 39}
 LITERAL = re.compile(r'"((?:[^"\\]|\\.)*)"')

@@ -5,8 +5,8 @@ import re
 import unittest
 from pathlib import Path
 
-import markdown_scanners as mds
-from markdown_scanners import BlockKind, BlockQuote, Item
+import proved_markdown as mds
+from proved_markdown import BlockKind, BlockQuote, Item
 
 ROWS = Path(__file__).resolve().parents[2] / "c/tests/blocks.c"
 WORDS = r'((?:"(?:[^"\\]|\\.)*"\s*)+)'

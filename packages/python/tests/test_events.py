@@ -8,8 +8,8 @@ from html import escape
 from pathlib import Path
 from urllib.parse import quote
 
-import markdown_scanners as mds
-from markdown_scanners import Element, EventKind, LinkKind
+import proved_markdown as mds
+from proved_markdown import Element, EventKind, LinkKind
 from test_rows import hold
 
 TOP = Path(__file__).resolve().parents[3]

@@ -5,8 +5,8 @@ import re
 import unittest
 from pathlib import Path
 
-import markdown_scanners as mds
-from markdown_scanners import InlineKind, LinkTarget, Span
+import proved_markdown as mds
+from proved_markdown import InlineKind, LinkTarget, Span
 
 ROWS = Path(__file__).resolve().parents[2] / "c/tests/inlines.c"
 WORD = r'"((?:[^"\\]|\\.)*)"'

@@ -4,7 +4,7 @@ import re
 import unittest
 from pathlib import Path
 
-import markdown_scanners as mds
+import proved_markdown as mds
 
 ROWS = Path(__file__).resolve().parents[2] / "c/tests/lists.c"
 WORD = r'("(?:[^"\\]|\\.)*")'

@@ -8,8 +8,8 @@ import unicodedata
 import unittest
 from pathlib import Path
 
-import markdown_scanners as mds
-from markdown_scanners import _c, errors
+import proved_markdown as mds
+from proved_markdown import _c, errors
 from test_rows import hold
 
 FOLDER = Path(mds.__file__).parent
@@ -168,7 +168,7 @@ class Package(unittest.TestCase):
         tried = 0
         self.assertEqual([it for it in mds.__all__ if not hasattr(mds, it)], [])
         for name in [it.name for it in pkgutil.iter_modules([str(FOLDER)])]:
-            found = doctest.testmod(importlib.import_module(f"markdown_scanners.{name}"))
+            found = doctest.testmod(importlib.import_module(f"proved_markdown.{name}"))
             self.assertEqual(found.failed, 0)
             tried += found.attempted
         calls = [getattr(mds, it) for it in mds.__all__ if it[0].islower()]

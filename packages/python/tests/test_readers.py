@@ -1,8 +1,8 @@
 """Pages that come piece by piece have the blocks of the whole page, on the pages of packages/c/tests/blocks.c."""
 import unittest
 
-import markdown_scanners as mds
-from markdown_scanners import BlockKind, BlockReader, FootnoteDefinition, TermDefinition, read_blocks
+import proved_markdown as mds
+from proved_markdown import BlockKind, BlockReader, FootnoteDefinition, TermDefinition, read_blocks
 from test_blocks import rows
 
 

@@ -7,12 +7,12 @@ from collections import Counter
 from pathlib import Path
 
 import c_rows
-import markdown_scanners as mds
+import proved_markdown as mds
 import rows_table
 from c_calls import BEHIND, CALLS, FORMS, TABLE_CALLS, Data, as_bytes, check_skips, label, tag, outcome_of
 from c_rows import SIZE_MAX as NONE
 from c_rows import Call, Name
-from markdown_scanners import _c
+from proved_markdown import _c
 
 sys.path.append(str(Path(__file__).resolve().parents[3] / "docs"))
 import totals_file

@@ -2,7 +2,7 @@
 from mmap import mmap
 from typing import Iterator, Optional, assert_type
 
-import markdown_scanners as mds
+import proved_markdown as mds
 
 
 def of_str(page: str) -> None:

@@ -121,7 +121,7 @@ impl Block<'_> {
     /// The containers that it stands in, outermost first.
     ///
     /// ```
-    /// use markdown_scanners::{scan_blocks, Container};
+    /// use proved_markdown::{scan_blocks, Container};
     /// let item = Container::Item { place: 2, delimiter: b'-', start: 0, width: 2 };
     /// let block = scan_blocks(b"> - a").next().unwrap();
     /// assert_eq!(block.containers(), [Container::Quote { place: 0 }, item]);
@@ -135,7 +135,7 @@ impl Block<'_> {
     /// ends of all and before each line. Of code and HTML their lines, without containers, indent and fences. Else nothing.
     ///
     /// ```
-    /// let blocks: Vec<_> = markdown_scanners::scan_blocks(b"> # A #\n> b\n  c").collect();
+    /// let blocks: Vec<_> = proved_markdown::scan_blocks(b"> # A #\n> b\n  c").collect();
     /// assert_eq!((blocks[0].content(), blocks[1].content()), (b"A".to_vec(), b"b\nc".to_vec()));
     /// ```
     #[must_use]
@@ -165,7 +165,7 @@ pub struct Blocks<'a> {
 /// page. A paragraph that begins with link reference definitions comes in parts, each definition as a block of its own.
 ///
 /// ```
-/// use markdown_scanners::{scan_blocks, BlockKind, HeadingLevel};
+/// use proved_markdown::{scan_blocks, BlockKind, HeadingLevel};
 /// let blocks = scan_blocks(b"[a]: b\nC\n===\n> - d");
 /// let returned: Vec<_> = blocks.map(|it| (it.kind, it.lines.start, it.containers().len())).collect();
 /// let setext = BlockKind::Setext(HeadingLevel::H1);
@@ -272,7 +272,7 @@ impl BlockReader {
     /// Before the first piece of a page.
     ///
     /// ```
-    /// use markdown_scanners::{BlockExtensions, BlockReader, Container};
+    /// use proved_markdown::{BlockExtensions, BlockReader, Container};
     /// let mut reader = BlockReader::new(BlockExtensions { footnotes: true, ..BlockExtensions::default() });
     /// reader.feed(b"[^a]: b\n");
     /// reader.end();
@@ -294,7 +294,7 @@ impl BlockReader {
     /// Takes the next bytes of the page.
     ///
     /// ```
-    /// let mut reader = markdown_scanners::BlockReader::default();
+    /// let mut reader = proved_markdown::BlockReader::default();
     /// reader.feed(b"# A\n> b\n");
     /// assert_eq!(reader.next_block().unwrap().content(), b"A");
     /// assert!(reader.next_block().is_none());
@@ -308,7 +308,7 @@ impl BlockReader {
     /// The page has ended.
     ///
     /// ```
-    /// let mut reader = markdown_scanners::BlockReader::default();
+    /// let mut reader = proved_markdown::BlockReader::default();
     /// reader.feed(b"a");
     /// assert!(reader.next_block().is_none());
     /// reader.end();
@@ -323,7 +323,7 @@ impl BlockReader {
     /// the front of its content.
     ///
     /// ```
-    /// let mut reader = markdown_scanners::BlockReader::default();
+    /// let mut reader = proved_markdown::BlockReader::default();
     /// reader.feed(b"# A\n> b\n");
     /// assert_eq!(reader.next_block().unwrap().range, 0..4);
     /// reader.feed(b"c\n# D\n");
@@ -400,7 +400,7 @@ pub struct ListBlock {
 /// The lists of a page, each where it ends: a list in an item comes before the list of that item. (5.3)
 ///
 /// ```
-/// let lists = markdown_scanners::scan_lists(b"2) a\n3) b\n\n   c");
+/// let lists = proved_markdown::scan_lists(b"2) a\n3) b\n\n   c");
 /// assert_eq!((lists[0].delimiter, lists[0].start, lists[0].is_loose), (b')', 2, true));
 /// assert_eq!((lists.len(), lists[0].depth, lists[0].lines.clone()), (1, 0, 0..4));
 /// ```

@@ -4,7 +4,7 @@
 use std::borrow::Cow;
 use std::panic::catch_unwind;
 
-use markdown_scanners::*;
+use proved_markdown::*;
 
 mod pages;
 mod readers;

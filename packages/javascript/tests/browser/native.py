@@ -9,8 +9,8 @@ from pathlib import Path
 TOP = Path(__file__).resolve().parents[4]
 sys.dont_write_bytecode = True
 sys.path.insert(0, str(TOP / "packages/python"))
-os.environ.setdefault("MARKDOWN_SCANNERS_LIBRARY", str(TOP / "out/libmarkdown_scanners.so.0"))
-import markdown_scanners as mds
+os.environ.setdefault("PROVED_MARKDOWN_LIBRARY", str(TOP / "out/libproved_markdown.so.0"))
+import proved_markdown as mds
 
 ALIGNMENTS = ["none", "left", "center", "right"]
 

@@ -2,7 +2,7 @@
 
 use std::ops::Range;
 
-use markdown_scanners::*;
+use proved_markdown::*;
 
 const FENCE: &str = "````````````````````````````````";
 

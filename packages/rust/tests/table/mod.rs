@@ -2,7 +2,7 @@
 
 use std::fs;
 
-use markdown_scanners::*;
+use proved_markdown::*;
 
 const FILE: &str = concat!(env!("CARGO_MANIFEST_DIR"), "/../rows.tsv");
 const KINDS: [HtmlBlockKind; 7] = [

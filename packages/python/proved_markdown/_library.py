@@ -12,7 +12,7 @@ from typing import Any, Callable
 from . import _c
 from ._c import OK, TOO_SHORT
 
-NAME = "libmarkdown_scanners.so.0"
+NAME = "libproved_markdown.so.0"
 ROOM = 4096  #: for so many bytes rooms are kept, and taken by one call at a time
 
 
@@ -24,7 +24,8 @@ def _path() -> str:
     if (here.parents[1] / "pyproject.toml").is_file():
         known.append(here.parents[3] / "out" / NAME)
     found = [str(it) for it in known if it.is_file()]
-    return os.environ.get("MARKDOWN_SCANNERS_LIBRARY") or (found or [NAME])[0]
+    named = os.environ.get("PROVED_MARKDOWN_LIBRARY") or os.environ.get("MARKDOWN_SCANNERS_LIBRARY")  # its earlier name
+    return named or (found or [NAME])[0]
 
 
 def _check_version(path: str, library: ctypes.PyDLL) -> None:
@@ -47,7 +48,7 @@ def _load() -> dict[str, Any]:
             found[name] = getattr(library, f"mds_{name}")
             found[name].restype, found[name].argtypes = answer, taken
     except (OSError, AttributeError) as why:
-        raise ImportError(f"{why}: install {NAME}, or name it in MARKDOWN_SCANNERS_LIBRARY") from why
+        raise ImportError(f"{why}: install {NAME}, or name it in PROVED_MARKDOWN_LIBRARY") from why
     return found
 
 

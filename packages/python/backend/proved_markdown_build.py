@@ -1,5 +1,5 @@
 """Builds the wheel and the source package, by Python's own library alone (3.11 or later). The wheel holds the shared library:
-the one that MARKDOWN_SCANNERS_LIBRARY names, else that of the tree, which packages/c/build makes, else the one that
+the one that PROVED_MARKDOWN_LIBRARY names, else that of the tree, which packages/c/build makes, else the one that
 pkg-config knows. It holds the extension, which calls that library, where a C compiler, `cc` or the one that CC names, and
 Python's headers are there; without it the package calls by ctypes."""
 import base64
@@ -19,8 +19,9 @@ from pathlib import Path
 
 HERE = Path(__file__).resolve().parent.parent
 TOP = HERE.parent.parent
-PACKAGE = "markdown_scanners"
-LIBRARY = "libmarkdown_scanners.so.0"
+PACKAGE = "proved_markdown"
+EARLIER = "markdown_scanners"  # the package's earlier name
+LIBRARY = "libproved_markdown.so.0"
 EXTENSION = "_fast.abi3.so"
 LATEST = (1980, 1, 1, 0, 0, 0)  # of all files, so that the same files make the same wheel
 
@@ -48,7 +49,8 @@ def metadata():
 
 def library():
     """The bytes of the shared library."""
-    known = [os.environ.get("MARKDOWN_SCANNERS_LIBRARY", ""), TOP / "out" / LIBRARY]
+    named = os.environ.get("PROVED_MARKDOWN_LIBRARY") or os.environ.get("MARKDOWN_SCANNERS_LIBRARY", "")  # its earlier name
+    known = [named, TOP / "out" / LIBRARY]
     try:
         words = ["pkg-config", "--variable=libdir", PACKAGE]
         known += [Path(subprocess.run(words, capture_output=True, text=True, check=True).stdout.strip()) / LIBRARY]
@@ -56,13 +58,13 @@ def library():
         pass
     found = [it for it in known[known[0] == "" :] if Path(it).is_file()]
     if not found or (known[0] and found[0] != known[0]):
-        raise SystemExit(f"there is no {LIBRARY}: run packages/c/build, or name one in MARKDOWN_SCANNERS_LIBRARY")
+        raise SystemExit(f"there is no {LIBRARY}: run packages/c/build, or name one in PROVED_MARKDOWN_LIBRARY")
     return Path(found[0]).read_bytes()
 
 
 def extension_sources():
     """The files of which the extension is made. In the tree the header is that of the C functions."""
-    known = [HERE / "extension/markdown_scanners.h", TOP / "packages/c/include/markdown_scanners.h"]
+    known = [HERE / "extension/proved_markdown.h", TOP / "packages/c/include/proved_markdown.h"]
     files = [*sorted((HERE / "extension").glob("*.[ch]")), *[it for it in known if it.is_file()][:1]]
     return {it.name: it.read_bytes() for it in files}
 
@@ -92,7 +94,9 @@ def tag(made, extended):
 
 
 def sources():
-    return {f"{PACKAGE}/{it.name}": it.read_bytes() for it in sorted((HERE / PACKAGE).iterdir()) if it.suffix == ".py" or it.name == "py.typed"}
+    """Of the package, and of the one that leads to it by its earlier name."""
+    files = [it for name in (PACKAGE, EARLIER) for it in sorted((HERE / name).iterdir())]
+    return {f"{it.parent.name}/{it.name}": it.read_bytes() for it in files if it.suffix in (".py", ".pyi") or it.name == "py.typed"}
 
 
 def record(files, name):
@@ -131,7 +135,7 @@ def build_editable(wheel_directory, config_settings=None, metadata_directory=Non
 def build_sdist(sdist_directory, config_settings=None):
     """Without the library, which whoever builds a wheel of it has to have."""
     files = {**sources(), "PKG-INFO": metadata().encode(), "LICENSE": licence().encode()}
-    for path in ("pyproject.toml", "README.md", "backend/markdown_scanners_build.py"):
+    for path in ("pyproject.toml", "README.md", "backend/proved_markdown_build.py"):
         files[path] = (HERE / path).read_bytes()
     files |= {f"extension/{name}": it for name, it in extension_sources().items()}
     name = f"{named()}.tar.gz"

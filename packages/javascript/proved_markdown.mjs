@@ -1,0 +1,247 @@
+/**
+ * Scanners of Markdown's lines, blocks and inline text, proved to answer what CommonMark 0.31.2 says.
+ *
+ *     import { load } from "./proved_markdown.mjs";
+ *
+ *     const scanners = await load();
+ *     const page = scanners.text("# A heading\n> - [b](<c d>)\n");
+ *     page.scanAtxHeading(); // 1
+ *     const start = page.lineStart(page.scanLine());
+ *     start.quote(); // true
+ *     start.upto(4); // 0
+ *     start.listItem(2); // { delimiter: "-", start: 0, indent: 4 }
+ *     page.scanLinkDest(start.place + 4); // { end: 25, start: 21, stop: 24 }
+ */
+import { DEFINITION_LISTS, FOOTNOTES, VERSION } from "./lib/c.mjs";
+import { Block, Engine } from "./lib/engine.mjs";
+import { BadModule, isAnswer, ModuleMissing, WrongVersion } from "./lib/errors.mjs";
+import { byteOf, bytesOf, characterOf, flagOf, optionsOf, wrongType } from "./lib/given.mjs";
+import { BlockReader } from "./lib/readers.mjs";
+import { Text } from "./lib/text.mjs";
+
+export * from "./lib/errors.mjs";
+export { HtmlScanGuard, Skips, Text } from "./lib/text.mjs";
+export { LineStart } from "./lib/line_start.mjs";
+export { BlockReader } from "./lib/readers.mjs";
+export { VERSION };
+
+/** Node's files, which a browser has not. */
+const FILES = "node:fs/promises";
+/** The section of a module that tells its version, and the one in which the 32-bit module names the 64-bit one beside it. */
+const VERSION_SECTION = "proved_markdown";
+const WIDE_SECTION = "proved_markdown64";
+/** A module that has a 64-bit memory and nothing else. */
+const WIDE_MEMORY = new Uint8Array([0, 97, 115, 109, 1, 0, 0, 0, 5, 3, 1, 4, 1]);
+
+/** The scanners of one module. */
+export class Scanners {
+    #engine;
+
+    /** @param {WebAssembly.Module} module */
+    constructor(module) {
+        const version = sectionOf(module, VERSION_SECTION);
+        if (!version) throw new BadModule("the module is none of proved_markdown");
+        if (version !== VERSION) throw new WrongVersion(`the module is of version ${version}, and this package of ${VERSION}`);
+        this.#engine = new Engine(module);
+    }
+
+    /**
+     * A text to scan. Its places are those of its UTF-8 bytes, or of UTF-16 units where these are asked for. Texts that are made
+     * of it are strings where it is given as a string, and else bytes. LoneSurrogate where a string has no UTF-8; NotUtf8 where
+     * bytes are not UTF-8 and have UTF-16 places.
+     * @template {string | Uint8Array} Made
+     * @param {Made} data
+     * @param {{ units?: import("./lib/source.mjs").Units }} [options]
+     * @returns {Text<Made extends string ? string : Uint8Array>}
+     */
+    text(data, options = {}) {
+        const { units = "utf-8" } = optionsOf(options, "units");
+        return new Text(this.#engine, /** @type {any} */ (data), units);
+    }
+
+    /**
+     * The HTML of a page, a string of a string, and bytes of bytes. Unless `safe` is false, it is for pages by people who are not
+     * trusted, as `Text.html` says. NotUtf8 and LoneSurrogate as of `text`. (3 to 6)
+     * @template {string | Uint8Array} Made
+     * @param {Made} page
+     * @param {{ safe?: boolean, extensions?: import("./lib/text.mjs").Extension[] }} [options]
+     */
+    html(page, options = {}) {
+        return this.text(page).html(options);
+    }
+
+    /**
+     * The events of a page, as `Text.events` has them: their places are those of the string, in UTF-16 units, or of the bytes.
+     * @template {string | Uint8Array} Made
+     * @param {Made} page
+     * @param {{ extensions?: import("./lib/text.mjs").Extension[] }} [options]
+     */
+    events(page, options = {}) {
+        return this.text(page, { units: typeof page === "string" ? "utf-16" : "utf-8" }).events(options);
+    }
+
+    /**
+     * What reads a page that comes piece by piece. Where `footnotes` is true, `[^label]:` begins a footnote definition, as on
+     * GitHub; where `definitionLists` is, `:` after a paragraph begins a definition of it. (3, 4, 5)
+     * @param {{ footnotes?: boolean, definitionLists?: boolean }} [options]
+     */
+    blockReader(options = {}) {
+        const { footnotes = false, definitionLists = false } = optionsOf(options, "footnotes", "definitionLists");
+        const asked = flagOf("footnotes", footnotes) ? FOOTNOTES : 0;
+        return new BlockReader(this.#engine, flagOf("definitionLists", definitionLists) ? asked + DEFINITION_LISTS : asked);
+    }
+
+    /**
+     * Space, tab, LF, VT, FF or CR. (2.1)
+     * @param {string | number} character of ASCII, or a byte
+     * @returns {boolean}
+     */
+    isWhitespace(character) {
+        return this.#engine.calls.isWhitespace(byteOf("character", character));
+    }
+
+    /**
+     * Space, tab, VT or FF: white space that ends no line. (2.1)
+     * @param {string | number} character of ASCII, or a byte
+     * @returns {boolean}
+     */
+    isWhitespaceInLine(character) {
+        return this.#engine.calls.isWhitespaceInLine(byteOf("character", character));
+    }
+
+    /**
+     * An ASCII punctuation character. (2.1)
+     * @param {string | number} character of ASCII, or a byte
+     * @returns {boolean}
+     */
+    isPunctuation(character) {
+        return this.#engine.calls.isPunctuation(byteOf("character", character));
+    }
+
+    /**
+     * A Unicode white space character: a tab, LF, FF or CR, or one of category Zs. (2.1)
+     * @param {string | number} character or its number
+     * @returns {boolean}
+     */
+    isUnicodeWhitespace(character) {
+        return this.#engine.calls.isUnicodeWhitespace(characterOf("character", character));
+    }
+
+    /**
+     * A Unicode punctuation character: one of category P or S. (2.1)
+     * @param {string | number} character or its number
+     * @returns {boolean}
+     */
+    isUnicodePunctuation(character) {
+        return this.#engine.calls.isUnicodePunctuation(characterOf("character", character));
+    }
+
+    /**
+     * Whether two labels match: their full case foldings are equal. NotUtf8. (6.3)
+     * @param {string | Uint8Array} one
+     * @param {string | Uint8Array} other
+     */
+    labelsMatch(one, other) {
+        const engine = this.#engine;
+        const [first, second] = [new Block(bytesOf("one", one)), new Block(bytesOf("other", other))];
+        engine.bring(first, second);
+        return isAnswer(engine.calls.labelsMatch(first.address, first.bytes.length, second.address, second.bytes.length));
+    }
+
+    /**
+     * The key of a label, its full case folding: two labels match exactly where their keys are equal. NotUtf8. (6.3)
+     * @template {string | Uint8Array} Made
+     * @param {Made} label
+     */
+    labelKey(label) {
+        return this.text(label).labelKey();
+    }
+}
+
+/**
+ * The scanners of a module: of the one that stands beside this file, or of another by its URL, its bytes, or itself. Beside this
+ * file the 64-bit module is taken where the package has both and this engine runs it, and else the 32-bit one. ModuleMissing where
+ * there is none, BadModule where it can't be run here, WrongVersion where it is of another version.
+ * @param {URL | string | Uint8Array | ArrayBuffer | WebAssembly.Module} [source]
+ */
+export async function load(source) {
+    try {
+        return new Scanners(await moduleOf(source));
+    } catch (why) {
+        if (!(why instanceof WebAssembly.CompileError || why instanceof WebAssembly.LinkError)) throw why;
+        throw new BadModule(`the module can't be run, or this engine has no 64-bit memories (${why.message})`, why);
+    }
+}
+
+/**
+ * @param {URL | string | Uint8Array | ArrayBuffer | WebAssembly.Module} [source]
+ * @returns {Promise<WebAssembly.Module>}
+ */
+async function moduleOf(source) {
+    if (source === undefined) return ownModule();
+    if (source instanceof WebAssembly.Module) return source;
+    if (typeof source === "string" || source instanceof URL) return WebAssembly.compile(await fetched(source));
+    const isBuffer = ArrayBuffer.isView(source) || Object.prototype.toString.call(source) === "[object ArrayBuffer]";
+    if (!isBuffer) throw wrongType("source", source, "a URL, bytes or a module");
+    return WebAssembly.compile(/** @type {any} */ (source));
+}
+
+/** The module of this package: the 64-bit one where the 32-bit one names it, and this engine runs it. */
+async function ownModule() {
+    const url = ownUrl();
+    const module = await WebAssembly.compile(await fetched(url));
+    const name = sectionOf(module, WIDE_SECTION);
+    return (name && (await wideModule(name, url))) || module;
+}
+
+/** Where it stands. Bundlers know a file by this expression. */
+function ownUrl() {
+    try {
+        return new URL("./proved_markdown.wasm", import.meta.url);
+    } catch (why) {
+        throw new ModuleMissing("this script has no URL, so none of the module: `load` needs that, or the module's bytes", why);
+    }
+}
+
+/**
+ * The module of this name beside the one at the URL, or null where it is not there or can't be run.
+ * @param {string} name
+ * @param {URL} url
+ */
+async function wideModule(name, url) {
+    if (!WebAssembly.validate(WIDE_MEMORY)) return null;
+    try {
+        const bytes = await fetched(new URL(name, url));
+        return WebAssembly.validate(bytes) ? await WebAssembly.compile(bytes) : null;
+    } catch (why) {
+        if (why instanceof ModuleMissing || why instanceof TypeError) return null; // beside a module that is no file stands none
+        throw why;
+    }
+}
+
+/**
+ * The text of a section of a module, or nothing.
+ * @param {WebAssembly.Module} module
+ * @param {string} name
+ */
+function sectionOf(module, name) {
+    const [section] = WebAssembly.Module.customSections(module, name);
+    return section && new TextDecoder().decode(section);
+}
+
+/**
+ * The bytes at a URL, which may be one from the page's on. Node's fetch knows no files.
+ * @param {URL | string} source
+ * @returns {Promise<BufferSource>}
+ */
+async function fetched(source) {
+    try {
+        const url = new URL(source, globalThis.location?.href);
+        if (url.protocol === "file:") return await (await import(/* webpackIgnore: true */ /* @vite-ignore */ FILES)).readFile(url);
+        const response = await fetch(url);
+        if (response.ok) return await response.arrayBuffer();
+        throw new Error(`${response.status} ${response.statusText}`);
+    } catch (why) {
+        throw new ModuleMissing(`there is no module at ${source}: ${/** @type {Error} */ (why).message}`, why);
+    }
+}

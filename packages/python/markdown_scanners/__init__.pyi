@@ -1,0 +1,1 @@
+from proved_markdown import *
