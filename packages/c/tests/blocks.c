@@ -1,7 +1,6 @@
-/* The blocks of pages and their content: the examples of CommonMark 0.31.2, by their numbers, whose blocks and texts are those of
- * the HTML that stands there; refused numbers; and made pages, of which the blocks nest and their lines, joined, are the page. The
- * same pages fed byte by byte tell the same blocks. */
-#include "checks.h"
+/* The blocks of pages and their content, on the rows of packages/pages.tsv; refused numbers; and made pages, of which the blocks nest and
+ * their lines, joined, are the page. The same pages fed byte by byte have the same blocks. */
+#include "tables.h"
 
 #include <stdio.h>
 #include <string.h>
@@ -10,65 +9,6 @@ enum { MOST = 48, LONGEST = 64 };
 
 static const char *const words[] = {
     "end", "quote", "item", "blank", "break", "heading", "setext", "indented", "fenced", "html", "table", "definition", "paragraph"};
-
-/* Containers with the place of their marker, an item with its bullet or delimiter, its start and its width too; leaf blocks with
- * their first line and their last, and the number that belongs to them. A quote of two lines is `quote@0 paragraph:1-2 end`. */
-static const struct row {
-    int example;
-    const char *page, *blocks, *contents;
-} rows[] = {
-    {5, "- foo\n\n\t\tbar\n", "item-0,2@0 paragraph:1-1 blank:2-2 indented:3-3 end", "foo||  bar\n|"},
-    {6, ">\t\tfoo\n", "quote@0 indented:1-1 end", "  foo\n|"},
-    {7, "-\t\tfoo\n", "item-0,2@0 indented:1-1 end", "  foo\n|"},
-    {9, " - foo\n   - bar\n\t - baz\n",
-        "item-0,3@1 paragraph:1-1 item-0,2@10 paragraph:2-2 item-0,2@18 paragraph:3-3 end end end", "foo|bar|baz|"},
-    {43, "***\n---\n___\n", "break:1-1 break:2-2 break:3-3", "|||"},
-    {62, "# foo\n## foo\n### foo\n#### foo\n##### foo\n###### foo\n",
-        "heading1:1-1 heading2:2-2 heading3:3-3 heading4:4-4 heading5:5-5 heading6:6-6", "foo|foo|foo|foo|foo|foo|"},
-    {71, "## foo ##\n  ###   bar    ###\n", "heading2:1-1 heading3:2-2", "foo|bar|"},
-    {80, "Foo *bar*\n=========\n\nFoo *bar*\n---------\n", "setext1:1-2 blank:3-3 setext2:4-5", "Foo *bar*||Foo *bar*|"},
-    {81, "Foo *bar\nbaz*\n====\n", "setext1:1-3", "Foo *bar\nbaz*|"},
-    {92, "> Foo\n---\n", "quote@0 paragraph:1-1 end break:2-2", "Foo||"},
-    {107, "    a simple\n      indented code block\n", "indented:1-2", "a simple\n  indented code block\n|"},
-    {108, "  - foo\n\n    bar\n", "item-0,4@2 paragraph:1-1 blank:2-2 paragraph:3-3 end", "foo||bar|"},
-    {111, "    chunk1\n\n    chunk2\n  \n \n \n    chunk3\n", "indented:1-7", "chunk1\n\nchunk2\n\n\n\nchunk3\n|"},
-    {119, "```\n<\n >\n```\n", "fenced`3:1-4", "<\n >\n|"},
-    {120, "~~~\n<\n >\n~~~\n", "fenced~3:1-4", "<\n >\n|"},
-    {124, "````\naaa\n```\n``````\n", "fenced`4:1-4", "aaa\n```\n|"},
-    {131, " ```\n aaa\naaa\n```\n", "fenced`3:1-4", "aaa\naaa\n|"},
-    {148, "<table><tr><td>\n<pre>\n**Hello**,\n\n_world_.\n</pre>\n</td></tr></table>\n",
-        "html6:1-3 blank:4-4 paragraph:5-6 html6:7-7",
-        "<table><tr><td>\n<pre>\n**Hello**,\n||_world_.\n</pre>|</td></tr></table>\n|"},
-    {192, "[foo]: /url \"title\"\n\n[foo]\n", "definition:1-1 blank:2-2 paragraph:3-3", "[foo]: /url \"title\"||[foo]|"},
-    {196, "[foo]: /url '\ntitle\nline1\nline2\n'\n\n[foo]\n", "definition:1-5 blank:6-6 paragraph:7-7",
-        "[foo]: /url '\ntitle\nline1\nline2\n'||[foo]|"},
-    {215, "[foo]: /url\nbar\n===\n[foo]\n", "definition:1-1 setext1:2-3 paragraph:4-4", "[foo]: /url|bar|[foo]|"},
-    {216, "[foo]: /url\n===\n[foo]\n", "definition:1-1 paragraph:2-3", "[foo]: /url|===\n[foo]|"},
-    {217, "[foo]: /foo-url \"foo\"\n[bar]: /bar-url\n  \"bar\"\n[baz]: /baz-url\n\n[foo],\n[bar],\n[baz]\n",
-        "definition:1-1 definition:2-3 definition:4-4 blank:5-5 paragraph:6-8",
-        "[foo]: /foo-url \"foo\"|[bar]: /bar-url\n\"bar\"|[baz]: /baz-url||[foo],\n[bar],\n[baz]|"},
-    {218, "[foo]\n\n> [foo]: /url\n", "paragraph:1-1 blank:2-2 quote@7 definition:3-3 end", "[foo]||[foo]: /url|"},
-    {222, "  aaa\n bbb\n", "paragraph:1-2", "aaa\nbbb|"},
-    {228, "> # Foo\n> bar\n> baz\n", "quote@0 heading1:1-1 paragraph:2-3 end", "Foo|bar\nbaz|"},
-    {233, "> bar\nbaz\n> foo\n", "quote@0 paragraph:1-3 end", "bar\nbaz\nfoo|"},
-    {235, "> - foo\n- bar\n", "quote@0 item-0,2@2 paragraph:1-1 end end item-0,2@8 paragraph:2-2 end", "foo|bar|"},
-    {237, "> ```\nfoo\n```\n", "quote@0 fenced`3:1-1 end paragraph:2-2 fenced`3:3-3", "|foo||"},
-    {252, ">     code\n\n>    not code\n",
-        "quote@0 indented:1-1 end blank:2-2 quote@12 paragraph:3-3 end", "code\n||not code|"},
-    {254, "1.  A paragraph\n    with two lines.\n\n        indented code\n\n    > A block quote.\n",
-        "item.1,4@0 paragraph:1-2 blank:3-3 indented:4-4 blank:5-5 quote@64 paragraph:6-6 end end",
-        "A paragraph\nwith two lines.||indented code\n||A block quote.|"},
-    {278, "-\n  foo\n-\n  ```\n  bar\n  ```\n-\n      baz\n",
-        "item-0,2@0 blank:1-1 paragraph:2-2 end item-0,2@8 blank:3-3 fenced`3:4-6 end item-0,2@28 blank:7-7 indented:8-8 end",
-        "|foo||bar\n||baz\n|"},
-    {280, "-\n\n  foo\n", "item-0,2@0 blank:1-1 end blank:2-2 paragraph:3-3", "||foo|"},
-    {302, "- foo\n- bar\n+ baz\n",
-        "item-0,2@0 paragraph:1-1 end item-0,2@6 paragraph:2-2 end item+0,2@12 paragraph:3-3 end", "foo|bar|baz|"},
-    {303, "1. foo\n2. bar\n3) baz\n",
-        "item.1,3@0 paragraph:1-1 end item.2,3@7 paragraph:2-2 end item)3,3@14 paragraph:3-3 end", "foo|bar|baz|"},
-    /* GitHub Flavored Markdown 0.29, section 4.10 */
-    {198, "| foo | bar |\n| --- | --- |\n| baz | bim |\n", "table2:1-3", "|"},
-};
 
 static char said[4096];
 
@@ -94,8 +34,11 @@ static void describe(const struct mds_block *block, char *text) {
     }
 }
 
-static void is_said(int example, const char *wanted) {
-    same(example, said, strcmp(said, wanted) == 0, true);
+/* What is said is the answer of the row. */
+static void is_said(const struct row *row) {
+    static struct text answer;
+    read_text(row->columns[3], 0, &answer);
+    same(row->line, said, strcmp(said, (const char *)answer.bytes) == 0, true);
 }
 
 /* The blocks of the page, which are written where there is room for all of them, and nowhere else. */
@@ -199,7 +142,7 @@ static size_t is_returned(int example, const struct mds_block *block, size_t at,
     return count;
 }
 
-/* Fed byte by byte the page tells the same blocks, and these have the same content. */
+/* Fed byte by byte the page has the same blocks, and these have the same content. */
 static void is_fed(int example, const char *page, size_t length, const struct mds_block *blocks) {
     struct mds_open_blocks open = {0, 0, 0};
     struct mds_block block;
@@ -225,21 +168,30 @@ static void is_fed(int example, const char *page, size_t length, const struct md
         same(example, "an end", blocks->kind, MDS_BLOCK_END);
 }
 
-static void examples(void) {
+/* Containers with the offset of their marker, an item with its bullet or delimiter, its start and its width too; leaf blocks with
+ * their first line and their last, and the number that belongs to them. */
+static void check_blocks(const struct row *row) {
     struct mds_block blocks[MOST];
-    for (size_t i = 0; i < sizeof(rows) / sizeof(*rows); i++) {
-        const struct row *row = &rows[i];
-        size_t length = strlen(row->page), count = blocks_of(row->example, row->page, length, blocks);
-        said[0] = 0;
-        for (size_t j = 0; j < count; j++) {
-            char text[128];
-            describe(&blocks[j], text), say(" ", j > 0), say(text, strlen(text));
-        }
-        is_said(row->example, row->blocks);
-        contents_of(row->example, row->page, length, blocks, count);
-        is_said(row->example, row->contents);
-        is_fed(row->example, row->page, length, blocks);
+    static struct text page;
+    read_text(row->columns[1], 0, &page);
+    const char *text = (const char *)page.bytes;
+    size_t count = blocks_of(row->line, text, page.length, blocks);
+    said[0] = 0;
+    for (size_t i = 0; i < count; i++) {
+        char word[128];
+        describe(&blocks[i], word), say(" ", i > 0), say(word, strlen(word));
     }
+    is_said(row);
+    is_fed(row->line, text, page.length, blocks);
+}
+
+static void check_content(const struct row *row) {
+    struct mds_block blocks[MOST];
+    static struct text page;
+    read_text(row->columns[1], 0, &page);
+    const char *text = (const char *)page.bytes;
+    contents_of(row->line, text, page.length, blocks, blocks_of(row->line, text, page.length, blocks));
+    is_said(row);
 }
 
 /* Places are those of the bytes that they name. */
@@ -463,9 +415,11 @@ static void wrong_numbers(void) {
 }
 
 int main(void) {
+    each_row("pages.tsv", 5, "scan_blocks", check_blocks);
+    each_row("pages.tsv", 5, "block_content", check_content);
     for (size_t front = 0; front < 2; front++) {
         at_front = front;
-        examples(), places(), refusals(), refused_lines(), open_items(), open_terms();
+        places(), refusals(), refused_lines(), open_items(), open_terms();
     }
     made_pages(), wrong_numbers();
     return report("blocks");

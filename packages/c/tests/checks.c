@@ -10,6 +10,7 @@
 #include <unistd.h>
 
 bool at_front;
+const char *checked_file;
 
 static unsigned long long passed, failed;
 static uint8_t *rooms[ROOMS];
@@ -21,7 +22,8 @@ void same(int line, const char *what, unsigned long long found, unsigned long lo
         return;
     }
     failed++;
-    fprintf(stderr, "line %d, at the %s: %s is %llu and not %llu\n", line, at_front ? "front" : "end", what, found, wanted);
+    const char *edge = at_front ? "front" : "end", *file = checked_file ? checked_file : "";
+    fprintf(stderr, "%s%sline %d, at the %s: %s is %llu and not %llu\n", file, *file ? ", " : "", line, edge, what, found, wanted);
 }
 
 int report(const char *name) {

@@ -14,6 +14,9 @@ enum { ROOM_SIZE = 4096, UNTOUCHED = 'z' };
 /* At which edge things are put: behind the page before the room, or in front of the page behind it. */
 extern bool at_front;
 
+/* The file that has the lines of checks, where it is not the program's own. */
+extern const char *checked_file;
+
 /* Notes whether what was found is what was wanted. */
 void same(int line, const char *what, unsigned long long found, unsigned long long wanted);
 

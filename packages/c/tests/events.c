@@ -1,54 +1,12 @@
-/* The events of pages: rows by hand, after CommonMark 0.31.2 and GitHub Flavored Markdown 0.29; the handle over them; options and texts
- * that are refused; and made pages, whose events balance, and their ranges nest and cut no character. */
-#include "checks.h"
+/* The events of pages, on the rows of packages/pages.tsv; the handle over them; options and texts that are refused; and made pages, whose
+ * events balance, and their ranges nest and cut no character. */
 #include "markdown_parser.h"
+#include "tables.h"
 
 #include <stdio.h>
 #include <string.h>
 
 enum { MOST = 64, LINES = 4096, EVERY_OPTION = MDS_OPTION_TABLES | MDS_OPTION_STRIKETHROUGH | MDS_OPTION_TASKS | MDS_OPTION_WIKILINKS };
-
-/* A page, and a line for each of its events, as cmark_events prints them. */
-struct row {
-    const char *page, *lines;
-};
-
-static const struct row rows[] = {
-    {"", ""},
-    {"# a *b*\n", "0 8 start heading 1\n2 4 text \"a \"\n4 7 start emphasis\n5 6 text \"b\"\n4 7 end emphasis\n0 8 end heading 1\n"},
-    {"a\\*&amp;`b`", "0 11 start paragraph\n0 1 text \"a\"\n1 3 text \"*\"\n3 8 text \"&\"\n8 11 code \"b\"\n0 11 end paragraph\n"},
-    {"[a](<b c> 'd')", "0 14 start paragraph\n0 14 start link inline \"b c\" \"d\"\n1 2 text \"a\"\n0 14 end link\n0 14 end paragraph\n"},
-    {"![a][B]\n\n[b]: c\n",
-        "0 8 start paragraph\n0 7 start image reference \"c\" \"\" \"B\"\n2 3 text \"a\"\n0 7 end image\n0 8 end paragraph\n"},
-    {"<ab:> <c@d>",
-        "0 11 start paragraph\n0 5 start link autolink \"ab:\" \"\"\n1 4 text \"ab:\"\n0 5 end link\n5 6 text \" \"\n"
-        "6 11 start link email \"c@d\" \"\"\n7 10 text \"c@d\"\n6 11 end link\n0 11 end paragraph\n"},
-    {"``` c d\n\xc3\xa4\n```\n", "0 15 start code block \"c d\"\n8 11 text \"\xc3\xa4\\n\"\n0 15 end code block\n"},
-    {"    a\n", "4 6 start code block\n4 6 text \"a\\n\"\n4 6 end code block\n"},
-    {"<p>\n***\n\n***\n", "0 8 start html block\n0 4 html \"<p>\\n\"\n4 8 html \"***\\n\"\n0 8 end html block\n9 13 rule\n"},
-    {"7) a\n8) b<c>",
-        "0 12 start list 7\n0 5 start item\n3 4 text \"a\"\n0 5 end item\n5 12 start item\n8 9 text \"b\"\n9 12 inline html \"<c>\"\n"
-        "5 12 end item\n0 12 end list\n"},
-    {"> - a\\\n  b\nc",
-        "0 12 start block quote\n2 12 start list\n2 12 start item\n4 5 text \"a\"\n5 7 hard break\n9 10 text \"b\"\n10 11 soft break\n"
-        "11 12 text \"c\"\n2 12 end item\n2 12 end list\n0 12 end block quote\n"},
-};
-
-static const struct row extended[] = {
-    {"|a|b|c|d|\n|-|:-|:-:|-:|\n|~e~|\n",
-        "0 30 start table none left center right\n0 9 start table head\n1 2 start table cell\n1 2 text \"a\"\n1 2 end table cell\n"
-        "3 4 start table cell\n3 4 text \"b\"\n3 4 end table cell\n5 6 start table cell\n5 6 text \"c\"\n5 6 end table cell\n"
-        "7 8 start table cell\n7 8 text \"d\"\n7 8 end table cell\n0 9 end table head\n24 29 start table row\n25 28 start table cell\n"
-        "25 28 start strikethrough\n26 27 text \"e\"\n25 28 end strikethrough\n25 28 end table cell\n29 29 start table cell\n"
-        "29 29 end table cell\n29 29 start table cell\n29 29 end table cell\n29 29 start table cell\n29 29 end table cell\n"
-        "24 29 end table row\n0 30 end table\n"},
-    {"- [x] a\n- [ ] b\n",
-        "0 16 start list\n0 8 start item\n2 5 checked task\n6 7 text \"a\"\n0 8 end item\n8 16 start item\n10 13 unchecked task\n"
-        "14 15 text \"b\"\n8 16 end item\n0 16 end list\n"},
-    {"[[a]] [[b|c]]",
-        "0 13 start paragraph\n0 5 start link wikilink \"a\" \"\"\n2 3 text \"a\"\n0 5 end link\n5 6 text \" \"\n"
-        "6 13 start link piped wikilink \"b\" \"\"\n10 11 text \"c\"\n6 13 end link\n0 13 end paragraph\n"},
-};
 
 static const char *const kinds[] = {
     "start", "end", "text", "code", "inline math", "display math", "html", "inline html", "footnote reference", "soft break", "hard break",
@@ -112,51 +70,51 @@ static void print_event(const struct mds_item *item) {
     print("\n");
 }
 
+/* A row: its page, and a line for each of its events. */
+static struct text row_page, row_lines;
+
 /* The handle gives each event and then none. */
-static void is_given(int line, const struct row *row, uint32_t options) {
-    size_t length = strlen(row->page);
+static void is_given(int line, uint32_t options) {
+    size_t length = row_page.length;
     struct mds_parser parser;
-    struct mds_item item, after;
-    same(line, row->page, mds_parser_new(&parser, given(BYTES, row->page, length), length, options), MDS_OK);
+    struct mds_item item, rest;
+    same(line, "status", mds_parser_new(&parser, given(BYTES, row_page.bytes, length), length, options), MDS_OK);
     given(BYTES, "", 0); /* the page is not read again */
     printed[0] = 0;
     while (mds_parser_next(&parser, &item) == MDS_OK) print_event(&item);
-    if (strcmp(printed, row->lines)) fprintf(stderr, "of %s there is\n%s", row->page, printed);
-    same(line, row->page, strcmp(printed, row->lines), 0);
-    memset(&after, 1, sizeof(after)), memset(&item, 1, sizeof(item));
+    bool is_same = strcmp(printed, (const char *)row_lines.bytes) == 0;
+    if (!is_same) fprintf(stderr, "of %s there is\n%s", row_page.bytes, printed);
+    same(line, "the events", is_same, true);
+    memset(&rest, 1, sizeof(rest)), memset(&item, 1, sizeof(item));
     same(line, "after the last", mds_parser_next(&parser, &item), MDS_NOTHING);
-    same(line, "the item", memcmp(&after, &item, sizeof(item)), 0);
+    same(line, "the item", memcmp(&rest, &item, sizeof(item)), 0);
     mds_parser_free(&parser);
     same(line, "after the end", mds_parser_next(&parser, &item), MDS_NOTHING);
     mds_parser_free(&parser);
 }
 
 /* They are written where there is room for them, and nowhere else. */
-static void is_written(int line, const struct row *row, uint32_t options, size_t count, size_t length, bool fits) {
+static void is_written(int line, uint32_t options, size_t count, size_t length, bool fits) {
     struct mds_event *events = writable(LIST, count * sizeof(*events));
     uint8_t *texts = writable(BUFFER, length);
-    size_t size = strlen(row->page);
-    struct mds_events found = mds_events(given(BYTES, row->page, size), size, options, events, count, texts, length);
-    same(line, row->page, found.status, fits ? MDS_OK : MDS_TOO_SHORT);
+    const void *bytes = given(BYTES, row_page.bytes, row_page.length);
+    struct mds_events found = mds_events(bytes, row_page.length, options, events, count, texts, length);
+    same(line, "status", found.status, fits ? MDS_OK : MDS_TOO_SHORT);
     same(line, "events", is_left(LIST, fits ? found.count * sizeof(*events) : 0), true);
     same(line, "texts", is_left(BUFFER, fits ? found.length : 0), true);
 }
 
-static void are_rows(int line, const struct row *first, size_t count, uint32_t options) {
-    for (size_t i = 0; i < count; i++) {
-        const struct row *row = &first[i];
-        size_t size = strlen(row->page);
-        struct mds_events found = mds_events(row->page, size, options, NULL, 0, NULL, 0);
-        same(line, row->page, found.status, found.count ? MDS_TOO_SHORT : MDS_OK);
-        is_given(line, row, options);
-        is_written(line, row, options, found.count, found.length, true);
-        is_written(line, row, options, found.count + 1, found.length + 1, true);
-        if (found.count) is_written(line, row, options, found.count - 1, found.length, false);
-        if (found.length) is_written(line, row, options, found.count, found.length - 1, false);
-    }
+static void check(const struct row *row) {
+    read_text(row->columns[1], 0, &row_page), read_text(row->columns[3], 0, &row_lines);
+    uint32_t options = options_of(row->columns[2]);
+    struct mds_events found = mds_events(row_page.bytes, row_page.length, options, NULL, 0, NULL, 0);
+    same(row->line, "status", found.status, found.count ? MDS_TOO_SHORT : MDS_OK);
+    is_given(row->line, options);
+    is_written(row->line, options, found.count, found.length, true);
+    is_written(row->line, options, found.count + 1, found.length + 1, true);
+    if (found.count) is_written(row->line, options, found.count - 1, found.length, false);
+    if (found.length) is_written(row->line, options, found.count, found.length - 1, false);
 }
-
-#define ARE(rows, options) are_rows(__LINE__, rows, sizeof(rows) / sizeof(*rows), options)
 
 static void is_refused(int line, const void *text, size_t length, uint32_t options, uint32_t status) {
     struct mds_event *events = writable(LIST, 8 * sizeof(*events));
@@ -237,10 +195,10 @@ static void made_pages(void) {
 }
 
 int main(void) {
-    for (size_t front = 0; front < 2; front++) {
-        at_front = front;
-        ARE(rows, 0), ARE(extended, EVERY_OPTION), refusals();
-    }
+    each_row("pages.tsv", 5, "events", check);
+    refusals();
+    at_front = true;
+    refusals();
     made_pages();
     return report("events");
 }

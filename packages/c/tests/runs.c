@@ -1,21 +1,17 @@
-/* The runs on worked rows, and on hostile input, as rows.c has it. Each row is run with buffers of every capacity from none to
- * one more than what is made needs, and with all that a run is given at the one edge of its room and at the other. */
-#include "checks.h"
+/* The rows of packages/runs.tsv, and runs on hostile input. Each row is run with buffers of every capacity from none to one more than
+ * what is made needs, and with all that a run is given at the one edge of its room and at the other. */
+#include "tables.h"
 
 #include <string.h>
 
-#define ARRAY(type, ...) (const type[]){__VA_ARGS__}, sizeof((const type[]){__VA_ARGS__}) / sizeof(type)
-#define NONE_OF(type) (const type *)NULL, 0
-#define SIZES(...) ARRAY(size_t, __VA_ARGS__)
-#define CALLS(...) ARRAY(struct mds_line_call, __VA_ARGS__)
-#define ANSWERS(...) ARRAY(struct mds_line_answer, __VA_ARGS__)
-#define TEXT(literal) literal, sizeof(literal) - 1
+/* No row has more offsets, calls or answers. */
+enum { MOST = 8 };
 
 /* Of inline HTML, with the ends that it finds. */
 static void html_run(
-    int line, const char *text, size_t length, const size_t *places, size_t place_count, uint32_t status, const size_t *ends,
-    size_t count) {
-    const uint8_t *bytes = given(BYTES, text, length);
+    int line, const struct text *text, const size_t *places, size_t place_count, uint32_t status, const size_t *ends, size_t count) {
+    size_t length = text->length;
+    const uint8_t *bytes = given(BYTES, text->bytes, length);
     const size_t *list = given(LIST, places, place_count * sizeof(size_t));
     for (size_t capacity = 0; capacity < count + 2; capacity++) {
         size_t *buffer = writable(BUFFER, capacity * sizeof(size_t));
@@ -27,22 +23,6 @@ static void html_run(
         same(line, "the ends are there", written == 0 || !memcmp(buffer, ends, written), true);
         same(line, "the rest is left", is_left(BUFFER, written), true);
     }
-}
-
-#define HTML_RUN(text, places, status, ends) html_run(__LINE__, TEXT(text), places, status, ends)
-
-static void html_runs(void) {
-    HTML_RUN("<!-- <!x> <!-- <![CDATA[ ]]>", SIZES(2, 7, 12, 17), MDS_OK, SIZES(MDS_NONE, 9, MDS_NONE, 28));
-    HTML_RUN("<!a>", SIZES(2, 2), MDS_NOT_RISING, SIZES(4));
-    HTML_RUN("<!a><?b?>", SIZES(6, 2), MDS_NOT_RISING, SIZES(9));
-    HTML_RUN("<!a>", SIZES(2, 1), MDS_NO_OPENER, SIZES(4));
-    HTML_RUN("<!-- a <!-- b --> <!-- c", SIZES(2, 9), MDS_INSIDE_FIND, SIZES(17));
-    HTML_RUN("<?a?>", SIZES(2, SIZE_MAX), MDS_NO_OPENER, SIZES(5));
-    HTML_RUN("<?a?>", SIZES(1), MDS_NO_OPENER, NONE_OF(size_t));
-    HTML_RUN("", SIZES(2), MDS_NO_OPENER, NONE_OF(size_t));
-    HTML_RUN("<!a>", NONE_OF(size_t), MDS_OK, NONE_OF(size_t));
-    struct mds_html_run run = mds_run_inline_html(NULL, 0, NULL, 0, NULL, 0);
-    SAME(run.status, MDS_OK), SAME(run.count, 0);
 }
 
 static void answers_are(int line, const struct mds_line_answer *found, const struct mds_line_answer *wanted, size_t count) {
@@ -124,49 +104,102 @@ static void line_run_in_parts(int line, struct line of, struct made made, size_t
     rest_is(line, of.bytes, of.length, &start, made.rest, made.rest_length);
 }
 
-static void line_run(
-    int line, const char *text, size_t length, const struct mds_line_call *calls, size_t call_count, uint32_t status, size_t place,
-    const char *rest, size_t rest_length, const struct mds_line_answer *answers, size_t count) {
-    const struct line of = {given(BYTES, text, length), length, given(LIST, calls, call_count * sizeof(*calls)), call_count};
-    const struct made made = {{status, count}, answers, place, rest, rest_length};
+/* The numbers of words between spaces. Answers how many there are. */
+static size_t numbers_of(const char *words, size_t *numbers) {
+    size_t count = 0;
+    for (const char *word = *words ? words : NULL; word; word = after(word, ' ')) {
+        if (count == MOST)
+            stop_at_row("it has more numbers than there is space for");
+        numbers[count++] = number_of(word);
+    }
+    return count;
+}
+
+static void check_html(const struct row *row) {
+    static struct text text;
+    size_t places[MOST], ends[MOST];
+    read_text(row->columns[1], 0, &text);
+    size_t place_count = numbers_of(row->columns[2], places), count = numbers_of(row->columns[5], ends);
+    html_run(row->line, &text, places, place_count, status_of(row->columns[6]), ends, count);
+}
+
+/* The kind that a call of a run has, by its name, or the number that stands in its place. */
+static uint32_t kind_of(const char *word) {
+    static const char *const names[] = {"space", "space_up_to", "is_at_end", "quote", "list", "definition"};
+    for (uint32_t kind = 0; kind < sizeof(names) / sizeof(*names); kind++)
+        if (strncmp(word, names[kind], strlen(names[kind])) == 0 && word[strlen(names[kind])] == '=')
+            return kind;
+    return (uint32_t)number_of(word);
+}
+
+static size_t calls_of(const char *words, struct mds_line_call *calls) {
+    size_t count = 0;
+    for (const char *word = *words ? words : NULL; word; word = after(word, ' ')) {
+        const char *number = after(word, '=');
+        if (count == MOST || !number)
+            stop_at_row("it has more calls than there is space for, or one without a number");
+        calls[count++] = (struct mds_line_call){kind_of(word), number_of(number)};
+    }
+    return count;
+}
+
+static size_t answers_of(const char *words, struct mds_line_answer *answers) {
+    size_t count = 0;
+    for (const char *word = *words ? words : NULL; word; word = after(word, ' ')) {
+        size_t numbers[4];
+        for (size_t i = 0; i < 4; i++) {
+            if (count == MOST || !word)
+                stop_at_row("it has more answers than there is space for, or one without four numbers");
+            numbers[i] = number_of(word), word = i < 3 ? after(word, ',') : word;
+        }
+        answers[count++] = (struct mds_line_answer){numbers[0] != 0, (uint8_t)numbers[1], numbers[2], numbers[3]};
+    }
+    return count;
+}
+
+static void check_run(const struct row *row) {
+    static struct text text, rest;
+    struct mds_line_call calls[MOST];
+    struct mds_line_answer answers[MOST];
+    read_text(row->columns[1], 0, &text), read_text(row->columns[4], 0, &rest);
+    size_t call_count = calls_of(row->columns[2], calls), count = answers_of(row->columns[5], answers);
+    const struct line of = {
+        given(BYTES, text.bytes, text.length), text.length, given(LIST, calls, call_count * sizeof(*calls)), call_count};
+    uint32_t status = status_of(row->columns[6]);
+    const struct made made = {{status, count}, answers, number_of(row->columns[3]), (const char *)rest.bytes, rest.length};
     for (size_t capacity = 0; capacity < call_count + 2; capacity++)
-        line_run_in(line, of, made, capacity);
+        line_run_in(row->line, of, made, capacity);
     for (size_t first = 0; first <= call_count && status != MDS_BAD_KIND; first++)
-        line_run_in_parts(line, of, made, first);
+        line_run_in_parts(row->line, of, made, first);
 }
 
-#define LINE_RUN(text, calls, status, place, rest, answers) \
-    line_run(__LINE__, TEXT(text), calls, status, place, TEXT(rest), answers)
-
-/* What is left from a place with these columns pending, where the column of the place modulo four is the phase. */
-static void line_rest(
-    int line, const char *text, size_t length, size_t place, size_t pending, size_t phase, const char *rest, size_t rest_length) {
-    const struct mds_line_start start = {place, pending, phase, 0, 0};
-    rest_is(line, given(BYTES, text, length), length, given(LIST, &start, sizeof(start)), rest, rest_length);
+/* What is left from an offset with these columns pending, where the column of the offset modulo four is the phase. */
+static void check_rest(const struct row *row) {
+    static struct text text, rest;
+    size_t numbers[MOST];
+    read_text(row->columns[1], 0, &text), read_text(row->columns[4], 0, &rest);
+    if (numbers_of(row->columns[2], numbers) != 3 || status_of(row->columns[6]) != MDS_OK)
+        stop_at_row("a line start is not three numbers, or is refused");
+    const struct mds_line_start start = {numbers[0], numbers[1], numbers[2], 0, 0};
+    const uint8_t *bytes = given(BYTES, text.bytes, text.length);
+    rest_is(row->line, bytes, text.length, given(LIST, &start, sizeof(start)), (const char *)rest.bytes, rest.length);
 }
 
-#define LINE_REST(text, place, pending, phase, rest) line_rest(__LINE__, TEXT(text), place, pending, phase, TEXT(rest))
+static void check(const struct row *row) {
+    const char *call = row->columns[0];
+    if (strcmp(call, "run_inline_html") == 0)
+        check_html(row);
+    else if (strcmp(call, "run_line") == 0)
+        check_run(row);
+    else if (strcmp(call, "line_rest") == 0)
+        check_rest(row);
+    else
+        stop_at_row("no such call");
+}
 
-static void line_runs(void) {
-    LINE_RUN("   x", CALLS({MDS_UPTO, 2}, {MDS_SPACE, 1}, {MDS_EOL, 0}), MDS_OK, 3, "x",
-        ANSWERS({true, 0, 0, 2}, {true, 0, 0, 0}, {false, 0, 0, 0}));
-    LINE_RUN(" x", CALLS({MDS_SPACE, 2}, {MDS_SPACE, 0}), MDS_OK, 1, "x", ANSWERS({false, 0, 0, 0}, {true, 0, 0, 0}));
-    LINE_RUN(">\t- x", CALLS({MDS_QUOTE, 0}, {MDS_LIST, 0}), MDS_SPACE_PENDING, 2, "  - x", ANSWERS({true, 0, 0, 0}));
-    LINE_RUN(">\t- x", CALLS({MDS_QUOTE, 0}, {MDS_LIST, SIZE_MAX}), MDS_SPACE_PENDING, 2, "  - x", ANSWERS({true, 0, 0, 0}));
-    LINE_RUN(">\t- x", CALLS({MDS_QUOTE, 0}, {MDS_UPTO, 3}, {MDS_LIST, 2}), MDS_OK, 4, "x",
-        ANSWERS({true, 0, 0, 0}, {true, 0, 0, 2}, {true, '-', 0, 4}));
-    LINE_RUN("a\tb\n\tc", CALLS({MDS_QUOTE, 0}), MDS_OK, 0, "a   b\n\tc", ANSWERS({false, 0, 0, 0}));
-    LINE_RUN("123456789. x", CALLS({MDS_LIST, 0}), MDS_OK, 11, "x", ANSWERS({true, '.', 123456789, 11}));
-    LINE_RUN("1234567890. x", CALLS({MDS_LIST, 0}), MDS_OK, 0, "1234567890. x", ANSWERS({false, 0, 0, 0}));
-    LINE_RUN(":    x", CALLS({MDS_DEFINITION, 0}), MDS_OK, 5, "x", ANSWERS({true, 0, 0, 5}));
-    LINE_RUN("- x", CALLS({MDS_LIST, SIZE_MAX}), MDS_TOO_LARGE, 0, "- x", NONE_OF(struct mds_line_answer));
-    LINE_RUN("- x", CALLS({MDS_EOL, 0}, {MDS_DEFINITION, SIZE_MAX - 15}), MDS_TOO_LARGE, 0, "- x", ANSWERS({false, 0, 0, 0}));
-    LINE_RUN("- x", CALLS({MDS_LIST, SIZE_MAX - 16}), MDS_OK, 2, "x", ANSWERS({true, '-', 0, SIZE_MAX - 14}));
-    LINE_RUN("", CALLS({MDS_EOL, 0}), MDS_OK, 0, "", ANSWERS({true, 0, 0, 0}));
-    LINE_RUN("\t\t\t", NONE_OF(struct mds_line_call), MDS_OK, 0, "            ", NONE_OF(struct mds_line_answer));
-    LINE_RUN("  x", CALLS({MDS_UPTO, 2}, {MDS_EOL, 0}), MDS_OK, 2, "x", ANSWERS({true, 0, 0, 2}, {false, 0, 0, 0}));
-    LINE_RUN("x", CALLS({MDS_EOL, 0}, {6, 0}), MDS_BAD_KIND, 0, "", NONE_OF(struct mds_line_answer));
-    LINE_RUN("x", NONE_OF(struct mds_line_call), MDS_OK, 0, "x", NONE_OF(struct mds_line_answer));
+static void null_pointers(void) {
+    struct mds_html_run ends = mds_run_inline_html(NULL, 0, NULL, 0, NULL, 0);
+    SAME(ends.status, MDS_OK), SAME(ends.count, 0);
     struct mds_line_start start = {0};
     struct mds_line_run run = mds_run_line(NULL, 0, &start, NULL, 0, NULL, 0);
     SAME(run.status, MDS_OK), SAME(run.count, 0), SAME(is_front(start), true);
@@ -194,19 +227,8 @@ static void all_untrue_breaks(void) {
     untrue_breaks(6, 6), untrue_breaks(0, SIZE_MAX), untrue_breaks(SIZE_MAX, SIZE_MAX);
 }
 
-/* Section 2.2: each tab to the next stop of four, and none behind the line. */
-static void line_rests(void) {
-    LINE_REST("", 0, 0, 0, "");
-    LINE_REST("", 0, 3, 2, "   ");
-    LINE_REST("a\tb", 0, 0, 0, "a   b");
-    LINE_REST("a\tb", 1, 0, 1, "   b");
-    LINE_REST("a\tb", 1, 0, 0, "    b");
-    LINE_REST("a\tb", 2, 3, 0, "   b");
-    LINE_REST("a\tb", 3, 0, 1, "");
-    LINE_REST(">\t\tx\ty", 2, 2, 0, "      x   y");
-    LINE_REST("\t\n\tx", 0, 0, 3, " \n\tx");
-    LINE_REST("x\ty\r\tz\n", 1, 1, 1, "    y\r\tz\n");
-    LINE_REST("\xff\0\t.", 0, 0, 2, "\xff\0    .");
+/* A line start whose offset is past the end. */
+static void refusals(void) {
     struct mds_line_start bad = {2, 0, 0, 0, 0};
     SAME(mds_line_rest(OF("x"), &bad, NULL, 0).status, MDS_BAD_STATE);
     struct mds_line_run run = mds_run_line(OF("x"), &bad, (const struct mds_line_call[]){{6, 0}}, 1, NULL, 0);
@@ -214,8 +236,9 @@ static void line_rests(void) {
 }
 
 int main(void) {
-    html_runs(), line_runs(), all_untrue_breaks(), line_rests();
+    each_row("runs.tsv", 7, NULL, check);
+    null_pointers(), all_untrue_breaks(), refusals();
     at_front = true;
-    html_runs(), line_runs(), all_untrue_breaks(), line_rests();
+    null_pointers(), all_untrue_breaks(), refusals();
     return report("runs");
 }

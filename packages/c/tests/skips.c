@@ -1,12 +1,10 @@
-/* Tags and labels over lines of which a table says what is left out. The expected values are worked out by hand from
- * CommonMark 0.31.2 and from what the header says.
- *
- * All rows are checked twice, with what they are given at the one edge of its room and at the other. */
-#include "checks.h"
+/* The rows of packages/skips.tsv, tags and labels over lines of which a table says what is left out, with what they are given at both
+ * edges of its room; the longest labels; and made pages and tables, good ones and others. */
+#include "tables.h"
 
 #include <string.h>
 
-/* Most rows need no more skips. */
+/* No row has more skips. */
 enum { MOST = 3 };
 
 struct table {
@@ -24,10 +22,6 @@ static uint32_t check_of(const char *bytes, size_t length, const struct table *t
     return mds_check_skips(given(BYTES, bytes, length), length, given_table(table), table->count);
 }
 
-#define COUNT(...) (sizeof((struct mds_skip[]){__VA_ARGS__}) / sizeof(struct mds_skip))
-#define TABLE(...) &(const struct table){COUNT(__VA_ARGS__), {__VA_ARGS__}}
-#define SKIP(place, length) {place, length}
-
 /* ---- Tags ---- */
 
 static struct mds_tag tag_of(const char *bytes, size_t length, size_t start, const struct table *table, size_t room) {
@@ -37,9 +31,9 @@ static struct mds_tag tag_of(const char *bytes, size_t length, size_t start, con
 }
 
 /* The tag, where it is returned with each room for its text that is too small, and with enough. */
-static void tag_is(int line, const char *bytes, size_t length, size_t start, const struct table *table, size_t end,
-    const char *text) {
-    size_t wanted = strlen(text);
+static void tag_is(int line, const struct text *page, size_t start, const struct table *table, size_t end, const struct text *text) {
+    const char *bytes = (const char *)page->bytes;
+    size_t length = page->length, wanted = text->length;
     for (size_t room = 0; room <= wanted + 1; room++) {
         struct mds_tag found = tag_of(bytes, length, start, table, room);
         same(line, "status", found.status, room < wanted ? MDS_TOO_SHORT : MDS_OK);
@@ -47,69 +41,14 @@ static void tag_is(int line, const char *bytes, size_t length, size_t start, con
         same(line, "what else is written", is_left(BUFFER, room < wanted ? 0 : wanted), true);
     }
     tag_of(bytes, length, start, table, wanted);
-    same(line, "text", memcmp(whole(BUFFER) + (at_front ? 0 : ROOM_SIZE - wanted), text, wanted), 0);
+    same(line, "text", memcmp(whole(BUFFER) + (at_front ? 0 : ROOM_SIZE - wanted), text->bytes, wanted), 0);
 }
 
-static void no_tag(int line, const char *bytes, size_t length, size_t start, const struct table *table, uint32_t status) {
-    struct mds_tag found = tag_of(bytes, length, start, table, 8);
+static void no_tag(int line, const struct text *page, size_t start, const struct table *table, uint32_t status) {
+    struct mds_tag found = tag_of((const char *)page->bytes, page->length, start, table, 8);
     same(line, "status", found.status, status);
     same(line, "end", found.end, 0), same(line, "length", found.length, 0);
     same(line, "what is written", is_left(BUFFER, 0), true);
-}
-
-#define TAG_AT(input, start, table, end, text) tag_is(__LINE__, input, sizeof(input) - 1, start, table, end, text)
-#define NO_TAG_AT(input, start, table, status) no_tag(__LINE__, input, sizeof(input) - 1, start, table, status)
-#define TAG(input, table, end, text) tag_is(__LINE__, input, sizeof(input) - 1, 0, table, end, text)
-#define NO_TAG(input, table) no_tag(__LINE__, input, sizeof(input) - 1, 0, table, MDS_NOTHING)
-
-static void tags(void) {
-    TAG("<foo bar>", &none, 9, "");
-    TAG("<foo\nbar> x", &none, 9, "");
-    TAG("<b2\ndata=\"foo\" >", &none, 16, "");
-    TAG("<foo\n> bar>", TABLE(SKIP(5, 2)), 11, "<foo\nbar>");
-    TAG("<a\r\n  b> c", TABLE(SKIP(4, 2)), 8, "<a\r\nb>");
-    TAG("<a\r  b>", TABLE(SKIP(3, 2)), 7, "<a\rb>");
-    TAG("<a\n> b='\n>> c'>", TABLE(SKIP(3, 2), SKIP(9, 2)), 15, "<a\nb='\n c'>");
-    TAG("</a\n>", &none, 5, "");
-    TAG("</a\n> >", TABLE(SKIP(4, 2)), 7, "</a\n>");
-    TAG("</a\n> > ", TABLE(SKIP(4, 2)), 7, "</a\n>");
-    NO_TAG("</a\n\n>", &none);
-    NO_TAG("<foo\n> bar", TABLE(SKIP(5, 2)));
-    NO_TAG("<1>", &none);
-    NO_TAG("", &none);
-    SAME(mds_scan_html_tag_over_lines(NULL, 0, 0, NULL, 0, NULL, 0).status, MDS_NOTHING);
-}
-
-/* Tags in the middle of a page, whose table is one for all of it. */
-static void tags_in_a_page(void) {
-    static const char page[] = "> <a\n> <b\n> c> <d>\n> e";
-    const struct table *table = TABLE(SKIP(0, 2), SKIP(5, 2), SKIP(10, 2));
-    SAME(check_of(page, sizeof(page) - 1, table), MDS_OK);
-    TAG_AT("> <a\n> <b\n> c> <d>\n> e", 7, table, 14, "<b\nc>");
-    TAG_AT("> <a\n> <b\n> c> <d>\n> e", 15, table, 18, "");
-    NO_TAG_AT("> <a\n> <b\n> c> <d>\n> e", 2, table, MDS_NOTHING);
-    NO_TAG_AT("> <a\n> <b\n> c> <d>\n> e", 0, table, MDS_NOTHING);
-    NO_TAG_AT("> <a\n> <b\n> c> <d>\n> e", 22, table, MDS_NOTHING);
-    NO_TAG_AT("> <a\n> <b\n> c> <d>\n> e", 23, table, MDS_PAST_END);
-    NO_TAG_AT("> <a\n> <b\n> c> <d>\n> e", SIZE_MAX, table, MDS_PAST_END);
-    SAME(mds_scan_html_tag_over_lines(NULL, 0, 1, NULL, 0, NULL, 0).status, MDS_PAST_END);
-    /* Up to a place, with the table of the page: behind the tag, in it, and in what is left out. */
-    TAG_AT("> <a\n> <b\n> c>", 7, table, 14, "<b\nc>");
-    NO_TAG_AT("> <a\n> <b\n> c", 7, table, MDS_NOTHING);
-    NO_TAG_AT("> <a\n> <b\n>", 7, table, MDS_NOTHING);
-    TAG_AT("> <b>", 2, table, 5, "");
-    /* Other bytes than those of the tag may be any. */
-    TAG_AT("\xff\n> <b\n> c>\xff", 4, TABLE(SKIP(2, 2), SKIP(7, 2)), 11, "<b\nc>");
-}
-
-/* A skip whose place is not that of a line in the tag says nothing, and one of length 0 leaves nothing out. */
-static void idle_skips(void) {
-    TAG("<foo bar>", TABLE(SKIP(1, 3)), 9, "");
-    TAG("<foo\nbar>", TABLE(SKIP(5, 0)), 9, "");
-    TAG("<foo\nbar>", TABLE(SKIP(0, 0), SKIP(1, 4), SKIP(9, 0)), 9, "");
-    TAG("<foo\n> bar>\n> ", TABLE(SKIP(5, 2), SKIP(12, 2)), 11, "<foo\nbar>");
-    TAG("<foo\n> bar>", TABLE(SKIP(6, 1)), 6, "");
-    TAG("<foo\n> bar>", TABLE(SKIP(4, 2)), 6, "");
 }
 
 /* ---- Labels ---- */
@@ -121,99 +60,31 @@ static struct mds_label label_of(
     return mds_scan_link_label(input, length, start, in_table, skips, table->count, writable(BUFFER, room), room);
 }
 
-static void label_is(int line, const char *bytes, size_t length, size_t from, bool in_table, const struct table *table,
-    size_t end, const char *text, size_t start) {
-    size_t wanted = strlen(text);
+/* The label at an offset, in a cell of a table or not, where it is returned with each room for its text that is too small, and with
+ * enough. */
+static void label_is(
+    int line, const struct text *page, size_t from, bool in_table, const struct table *table, const struct mds_label *label,
+    const struct text *text) {
+    const char *bytes = (const char *)page->bytes;
+    size_t length = page->length, wanted = text->length;
     for (size_t room = 0; room <= wanted + 1; room++) {
         struct mds_label found = label_of(bytes, length, from, in_table, table, room);
-        bool needs = room < wanted && (room > 0 || start == MDS_NONE);
+        bool needs = room < wanted && (room > 0 || label->start == MDS_NONE);
         same(line, "status", found.status, needs ? MDS_TOO_SHORT : MDS_OK);
-        same(line, "end", found.end, end), same(line, "length", found.length, wanted);
-        same(line, "start", found.start, start);
+        same(line, "end", found.end, label->end), same(line, "length", found.length, wanted);
+        same(line, "start", found.start, label->start);
         same(line, "what else is written", is_left(BUFFER, room < wanted ? 0 : wanted), true);
     }
     label_of(bytes, length, from, in_table, table, wanted);
-    same(line, "text", memcmp(whole(BUFFER) + (at_front ? 0 : ROOM_SIZE - wanted), text, wanted), 0);
+    same(line, "text", memcmp(whole(BUFFER) + (at_front ? 0 : ROOM_SIZE - wanted), text->bytes, wanted), 0);
 }
 
-static void no_label(int line, const char *bytes, size_t length, size_t from, const struct table *table, uint32_t status) {
-    struct mds_label found = label_of(bytes, length, from, false, table, 8);
+static void no_label(
+    int line, const char *bytes, size_t length, size_t from, bool in_table, const struct table *table, uint32_t status) {
+    struct mds_label found = label_of(bytes, length, from, in_table, table, 8);
     same(line, "status", found.status, status), same(line, "end", found.end, 0);
     same(line, "length", found.length, 0), same(line, "start", found.start, 0);
     same(line, "what is written", is_left(BUFFER, 0), true);
-}
-
-#define LABEL_AT(input, from, table, ...) \
-    label_is(__LINE__, input, sizeof(input) - 1, from, false, table, __VA_ARGS__)
-#define NO_LABEL_AT(input, from, table, status) no_label(__LINE__, input, sizeof(input) - 1, from, table, status)
-#define LABEL(input, table, ...) label_is(__LINE__, input, sizeof(input) - 1, 0, false, table, __VA_ARGS__)
-#define CELL(input, table, ...) label_is(__LINE__, input, sizeof(input) - 1, 0, true, table, __VA_ARGS__)
-#define NO_LABEL(input, table) no_label(__LINE__, input, sizeof(input) - 1, 0, table, MDS_NOTHING)
-
-static void labels(void) {
-    LABEL("a b] c", &none, 4, "a b", 0);
-    LABEL(" a b ]", &none, 6, "a b", 1);
-    LABEL("a]", &none, 2, "a", 0);
-    LABEL("a  b]", &none, 5, "a b", MDS_NONE);
-    LABEL("\ta]", &none, 3, "a", MDS_NONE);
-    LABEL("a\nb]", &none, 4, "a b", MDS_NONE);
-    LABEL("a\\|b]", &none, 5, "a\\|b", 0);
-    CELL("a\\|b]", &none, 5, "a|b", MDS_NONE);
-    LABEL("Link\n> label]: /url", TABLE(SKIP(5, 2)), 13, "Link label", MDS_NONE);
-    LABEL("Link\r\n  > label]", TABLE(SKIP(6, 4)), 16, "Link label", MDS_NONE);
-    LABEL("a\n> b\n>> c]", TABLE(SKIP(2, 2), SKIP(6, 3)), 11, "a b c", MDS_NONE);
-    LABEL("a\n] b]", TABLE(SKIP(2, 2)), 6, "a b", MDS_NONE);
-    LABEL("a\n> b]", &none, 6, "a > b", MDS_NONE);
-    LABEL("\xc2\xab\n\xc2\xbb]", TABLE(SKIP(3, 0)), 6, "\xc2\xab \xc2\xbb", MDS_NONE);
-    LABEL("\xc2\xab]", TABLE(SKIP(1, 0)), 3, "\xc2\xab", 0);
-    LABEL("\\[a\\]]]", &none, 6, "\\[a\\]", 0);
-    LABEL("a\\\\]", &none, 4, "a\\\\", 0);
-    NO_LABEL("a\\]", &none);
-    NO_LABEL("a[b]", &none);
-    NO_LABEL("a\n> \n> b]", TABLE(SKIP(2, 2), SKIP(5, 2)));
-    NO_LABEL("a\n> ]", TABLE(SKIP(2, 3)));
-    NO_LABEL(" ]", &none);
-    NO_LABEL("", &none);
-    SAME(mds_scan_link_label(NULL, 0, 0, false, NULL, 0, NULL, 0).status, MDS_NOTHING);
-}
-
-/* Labels in the middle of a page, whose table is one for all of it. */
-static void labels_in_a_page(void) {
-    static const char page[] = "> [a\n> [ b\n> c] [d ]\n> e";
-    const struct table *table = TABLE(SKIP(0, 2), SKIP(5, 2), SKIP(11, 2));
-    SAME(check_of(page, sizeof(page) - 1, table), MDS_OK);
-    LABEL_AT("> [a\n> [ b\n> c] [d ]\n> e", 8, table, 15, "b c", MDS_NONE);
-    LABEL_AT("> [a\n> [ b\n> c] [d ]\n> e", 9, table, 15, "b c", MDS_NONE);
-    LABEL_AT("> [a\n> [ b\n> c] [d ]\n> e", 13, table, 15, "c", 13);
-    LABEL_AT("> [a\n> [ b\n> c] [d ]\n> e", 17, table, 20, "d", 17);
-    LABEL_AT("> [a\n> [ b\n> c] [d ]\n> e", 11, table, 15, "> c", 11);
-    NO_LABEL_AT("> [a\n> [ b\n> c] [d ]\n> e", 3, table, MDS_NOTHING);
-    NO_LABEL_AT("> [a\n> [ b\n> c] [d ]\n> e", 21, table, MDS_NOTHING);
-    NO_LABEL_AT("> [a\n> [ b\n> c] [d ]\n> e", 24, table, MDS_NOTHING);
-    NO_LABEL_AT("> [a\n> [ b\n> c] [d ]\n> e", 25, table, MDS_PAST_END);
-    NO_LABEL_AT("> [a\n> [ b\n> c] [d ]\n> e", SIZE_MAX, table, MDS_PAST_END);
-    SAME(mds_scan_link_label(NULL, 0, 1, false, NULL, 0, NULL, 0).status, MDS_PAST_END);
-    /* Up to a place, with the table of the page: behind the label, in it, and in what is left out. */
-    LABEL_AT("> [a\n> [ b\n> c]", 8, table, 15, "b c", MDS_NONE);
-    NO_LABEL_AT("> [a\n> [ b\n> c", 8, table, MDS_NOTHING);
-    NO_LABEL_AT("> [a\n> [ b\n>", 8, table, MDS_NOTHING);
-}
-
-/* The bytes of a label are UTF-8, and those before and behind it may be any. */
-static void labels_in_bytes(void) {
-    LABEL("a]\xff", &none, 2, "a", 0);
-    LABEL("a\n> b]\x80", TABLE(SKIP(2, 2)), 6, "a b", MDS_NONE);
-    LABEL("\xf0\x9f\x8d\x94]\xf0\x9f", &none, 5, "\xf0\x9f\x8d\x94", 0);
-    LABEL_AT("\xff\xfe[a b]", 3, &none, 7, "a b", 3);
-    LABEL_AT("\xc2[\xab]\xc2\xab]", 4, &none, 7, "\xc2\xab", 4);
-    NO_LABEL("a\xff]", &none);
-    NO_LABEL("\xff", &none);
-    NO_LABEL("a\xc2]", &none);
-    NO_LABEL("a\xed\xa0\x80]", &none);
-    NO_LABEL("a\\]\xff]", &none);
-    NO_LABEL("a\n> \xff\n> b]", TABLE(SKIP(2, 2), SKIP(6, 2)));
-    NO_LABEL_AT("\xc2\xab]", 1, &none, MDS_NOTHING);
-    NO_LABEL_AT("\xe2\x82\xac]", 2, &none, MDS_NOTHING);
 }
 
 /* A label has 999 characters at most, of up to four bytes, whatever is left out of its lines. */
@@ -226,18 +97,19 @@ static void longest_labels(void) {
     struct mds_label found = label_of(text, LONG + 1, 0, false, &none, 0);
     SAME(found.status, MDS_OK), SAME(found.end, LONG + 1), SAME(found.length, LONG), SAME(found.start, 0);
     text[LONG] = '\xf0', text[LONG + 4] = ']';
-    no_label(__LINE__, text, LONG + 5, 0, &none, MDS_NOTHING);
+    no_label(__LINE__, text, LONG + 5, 0, false, &none, MDS_NOTHING);
     enum { SKIPPED = 2000, CLOSE = SKIPPED + CHARACTERS };
+    const struct table skipped = {1, {{3, SKIPPED}}};
     memset(text, 'a', LONG), text[2] = '\n', memset(text + 3, ' ', SKIPPED), text[CLOSE] = ']';
-    found = label_of(text, LONG, 0, false, TABLE(SKIP(3, SKIPPED)), 0);
+    found = label_of(text, LONG, 0, false, &skipped, 0);
     SAME(found.status, MDS_TOO_SHORT), SAME(found.end, CLOSE + 1), SAME(found.length, CHARACTERS);
     text[CLOSE] = 'a', text[CLOSE + 1] = ']';
-    no_label(__LINE__, text, LONG, 0, TABLE(SKIP(3, SKIPPED)), MDS_NOTHING);
+    no_label(__LINE__, text, LONG, 0, false, &skipped, MDS_NOTHING);
 }
 
 /* ---- Tables ---- */
 
-/* What a call over any table tells: nothing past the end, and no more than there is room for. */
+/* What a call over any table answers: nothing past the end, and no more than there is room for. */
 static void bounds(int line, uint32_t status, size_t start, size_t end, size_t length, size_t size, size_t room) {
     bool is_returned = status == MDS_OK || status == MDS_TOO_SHORT, is_refused = status == MDS_NOTHING || status == MDS_PAST_END;
     same(line, "status", is_returned || is_refused, true), same(line, "past", status == MDS_PAST_END, size < start);
@@ -253,63 +125,81 @@ static void any_answer(int line, const char *bytes, size_t size, size_t start, c
     bounds(line, label.status, start, label.end, label.length, size, room);
 }
 
-/* Tables of no text of eleven bytes, with which all calls are safe. */
-static void wrong_table(int line, const struct table *table) {
-    static const char *const pages[] = {
-        "<foo\n> bar>", "a b\nc d\ne]f", "\n\n\n\n\n\n\n\n\n\n]", "\xff\xff\xff\xff\xff\xff\xff\xff\xff\xff\xff"};
-    for (size_t i = 0; i < 4; i++) {
-        same(line, "check", check_of(pages[i], 11, table), MDS_BAD_SKIPS);
-        for (size_t start = 0; start <= 12; start++)
-            any_answer(line, pages[i], 11, start, table, start);
+/* A table of no such text, with which all calls are safe. */
+static void is_bad(const struct text *page, const struct table *table, int line) {
+    for (size_t start = 0; start <= page->length + 1; start++)
+        any_answer(line, (const char *)page->bytes, page->length, start, table, start);
+}
+
+/* ---- Rows ---- */
+
+static struct table skips_of(const char *words) {
+    struct table table = {0, {{0, 0}}};
+    for (const char *word = *words ? words : NULL; word; word = after(word, ' ')) {
+        const char *length = after(word, ',');
+        if (table.count == MOST || !length)
+            stop_at_row("it has more skips than there is space for, or one without its length");
+        table.skips[table.count++] = (struct mds_skip){number_of(word), number_of(length)};
+    }
+    return table;
+}
+
+static void check_tag(const struct row *row, const struct text *page, const struct table *table) {
+    const char *answer = row->columns[4];
+    static struct text text;
+    size_t start = number_of(row->columns[2]);
+    if (strncmp(answer, "MDS_", 4) == 0) {
+        no_tag(row->line, page, start, table, status_of(answer));
+        return;
+    }
+    read_text(field_of(answer, "text"), 0, &text);
+    tag_is(row->line, page, start, table, number_of(field_of(answer, "end")), &text);
+}
+
+static void check_label(const struct row *row, const struct text *page, const struct table *table) {
+    const char *answer = row->columns[4], *flag = after(row->columns[2], ' ');
+    static struct text text;
+    size_t from = number_of(row->columns[2]);
+    bool in_table = flag ? number_of(flag) : false;
+    if (!flag)
+        stop_at_row("it is not said whether the label is in a table");
+    if (strncmp(answer, "MDS_", 4) == 0) {
+        no_label(row->line, (const char *)page->bytes, page->length, from, in_table, table, status_of(answer));
+        return;
+    }
+    const struct mds_label label = {.end = number_of(field_of(answer, "end")), .start = number_of(field_of(answer, "start"))};
+    read_text(field_of(answer, "text"), 0, &text);
+    label_is(row->line, page, from, in_table, table, &label, &text);
+}
+
+static void check(const struct row *row) {
+    const char *call = row->columns[0];
+    static struct text page;
+    struct table table = skips_of(row->columns[3]);
+    read_text(row->columns[1], 0, &page);
+    if (strcmp(call, "scan_html_tag_over_lines") == 0) {
+        check_tag(row, &page, &table);
+    } else if (strcmp(call, "scan_link_label") == 0) {
+        check_label(row, &page, &table);
+    } else if (strcmp(call, "check_skips") == 0) {
+        uint32_t status = status_of(row->columns[4]);
+        same(row->line, "check", check_of((const char *)page.bytes, page.length, &table), status);
+        if (status == MDS_BAD_SKIPS)
+            is_bad(&page, &table, row->line);
+    } else {
+        stop_at_row("no such call");
     }
 }
 
-#define WRONG(...) wrong_table(__LINE__, TABLE(__VA_ARGS__))
-
-static void wrong_tables(void) {
-    WRONG(SKIP(12, 0));
-    WRONG(SKIP(11, 1));
-    WRONG(SKIP(5, 7));
-    WRONG(SKIP(SIZE_MAX, 0));
-    WRONG(SKIP(SIZE_MAX, 1));
-    WRONG(SKIP(0, SIZE_MAX));
-    WRONG(SKIP(5, SIZE_MAX));
-    WRONG(SKIP(5, SIZE_MAX - 4));
-    WRONG(SKIP(SIZE_MAX, SIZE_MAX));
-    WRONG(SKIP(5, 2), SKIP(5, 2));
-    WRONG(SKIP(5, 0), SKIP(5, 1));
-    WRONG(SKIP(5, 1), SKIP(4, 1));
-    WRONG(SKIP(5, 3), SKIP(7, 1));
-    WRONG(SKIP(0, 6), SKIP(5, 2));
-    WRONG(SKIP(0, 1), SKIP(5, 2), SKIP(SIZE_MAX, 0));
-    WRONG(SKIP(0, 1), SKIP(8, 2), SKIP(5, 2));
-    WRONG(SKIP(9, 1), SKIP(5, 2), SKIP(4, 2));
-}
-
-#define CHECK(input, ...) check_of(input, sizeof(input) - 1, TABLE(__VA_ARGS__))
-
-static void checks(void) {
-    SAME(CHECK("", SKIP(0, 0)), MDS_OK);
-    SAME(CHECK("", SKIP(0, 1)), MDS_BAD_SKIPS);
-    SAME(CHECK("a\n> b", SKIP(2, 2)), MDS_OK);
-    SAME(CHECK("a\n> b", SKIP(2, 3)), MDS_OK);
-    SAME(CHECK("a\n> b", SKIP(2, 4)), MDS_BAD_SKIPS);
-    SAME(CHECK("a\n> b", SKIP(5, 0)), MDS_OK);
-    SAME(CHECK("a\n> b", SKIP(6, 0)), MDS_BAD_SKIPS);
-    SAME(CHECK("a\n> b", SKIP(0, 2), SKIP(2, 2), SKIP(4, 1)), MDS_OK);
-    SAME(CHECK("a\n> b", SKIP(0, 0), SKIP(1, 0), SKIP(2, 0)), MDS_OK);
-    SAME(CHECK("a\n> b", SKIP(0, 0), SKIP(0, 0)), MDS_BAD_SKIPS);
-    SAME(CHECK("a\n\xc2\xab]", SKIP(2, 2)), MDS_BAD_SKIPS);
-    SAME(CHECK("a\n\xc2\xab]", SKIP(2, 1)), MDS_BAD_SKIPS);
-    SAME(CHECK("a\n\xc2\xab]", SKIP(3, 1)), MDS_BAD_SKIPS);
-    SAME(CHECK("a\n\xc2\xab]", SKIP(2, 0), SKIP(3, 0), SKIP(4, 1)), MDS_OK);
-    SAME(CHECK("a]\x80", SKIP(2, 1)), MDS_BAD_SKIPS);
-    SAME(CHECK("\x7f\x80", SKIP(0, 1)), MDS_OK);
+static void null_pointers(void) {
+    SAME(mds_scan_html_tag_over_lines(NULL, 0, 0, NULL, 0, NULL, 0).status, MDS_NOTHING);
+    SAME(mds_scan_html_tag_over_lines(NULL, 0, 1, NULL, 0, NULL, 0).status, MDS_PAST_END);
+    SAME(mds_scan_link_label(NULL, 0, 0, false, NULL, 0, NULL, 0).status, MDS_NOTHING);
+    SAME(mds_scan_link_label(NULL, 0, 1, false, NULL, 0, NULL, 0).status, MDS_PAST_END);
     SAME(mds_check_skips(NULL, 0, NULL, 0), MDS_OK);
-    SAME(check_of("\xff", 1, &none), MDS_OK);
-    any_answer(__LINE__, "a\n\xc2\xab]", 5, 0, TABLE(SKIP(2, 1)), 8);
-    any_answer(__LINE__, "a\n\xc2\xab]", 5, 0, TABLE(SKIP(2, 2)), 8);
 }
+
+/* ---- Made pages ---- */
 
 /* Numbers that look as any, and are the same in each run. */
 static size_t number_below(size_t limit) {
@@ -396,16 +286,15 @@ static void made_pages(void) {
     }
 }
 
-static void all_rows(void) {
+static void others(void) {
     check_rooms();
-    tags(), tags_in_a_page(), idle_skips();
-    labels(), labels_in_a_page(), labels_in_bytes(), longest_labels();
-    checks(), wrong_tables(), made_pages();
+    null_pointers(), longest_labels(), made_pages();
 }
 
 int main(void) {
-    all_rows();
+    each_row("skips.tsv", 5, NULL, check);
+    others();
     at_front = true;
-    all_rows();
+    others();
     return report("skips");
 }

@@ -4,8 +4,8 @@ and all must answer alike."""
 import itertools
 
 import proved_markdown as mds
-from c_rows import SIZE_MAX as NONE
 from proved_markdown import _c
+from tables import LARGEST as NONE
 
 FORMS = ["alone", "inside", "buffer", "str"]
 BEFORE, BEHIND = b"<!>\xff", b"-->]"
@@ -219,54 +219,73 @@ def label_key(data):
     return {"status": status, "taken": len(data) if ok else 0, "text": found if ok else b""}
 
 
-CALLS = {
-    **{f"mds_{it}": ends(it) for it in (
-        "scan_ch", "scan_ch_repeat", "scan_while", "scan_whitespace_in_line", "scan_eol", "scan_line", "scan_nextline",
-        "scan_blank_line", "scan_blockquote_start", "scan_closing_code_fence", "scan_closing_metadata_block",
-        "scan_html_type_7", "scan_html_tag")},
-    **{f"mds_{it}": plain(it) for it in ("is_utf8", "starts_html_block_type_6", "interrupts_paragraph")},
-    **{f"mds_{it}": fence(it) for it in ("scan_code_fence", "scan_metadata_block")},
-    **{f"mds_{it}": part(it) for it in (
-        "scan_link_dest", "scan_link_title", "scan_autolink", "scan_email_autolink", "scan_code_span", "scan_wikilink_pipe")},
-    "mds_scan_reference_definition": definition,
-    "mds_scan_delimiter_run": delimiter_run,
-    "mds_scan_rev_while": from_back,
-    "mds_scan_atx_heading": lambda d: mds.scan_atx_heading(d.data, d.at, d.end) or 0,
-    "mds_scan_listitem": item,
-    "mds_calc_indent": indent,
-    "mds_scan_hrule": hrule,
-    "mds_scan_setext_heading": underline,
-    "mds_scan_html_block_start": html_start,
-    "mds_ends_html_block": html_end,
+# The calls on line starts by their names without `mds_`: the package's call, and the fields of the answer where it has some.
+LINE_CALLS = {
+    "line_space": ["space"], "line_space_up_to": ["upto", "columns"], "line_all_space": ["all_space"], "line_is_at_end": ["eol"],
+    "line_quote": ["quote"], "line_list": ["list_item", "delimiter", "start", "indent"], "line_definition": ["definition", "columns"],
+    "line_task": ["task", "checked"], "line_alert": ["alert", "kind"],
 }
 
 
-def at_front(method, *fields):
+def line_call(start, call, given):
+    """What a call on a line start answers."""
+    method, *fields = LINE_CALLS[call]
+    status, found = outcome_of(getattr(start, method), *given)
+    if not fields:
+        return {"status": _c.NOTHING if found is False else _c.OK if found in (None, True) else status}
+    if status != _c.OK:
+        return {"status": status}
+    values = [getattr(found, name) for name in fields] if len(fields) > 1 else [found]
+    return {"status": status, **dict(zip(fields, values))}
+
+
+def line_state(d, start):
+    """Where a line start has come to."""
+    return {"place": d.length(start.place), "pending": start.pending, "phase": start._numbers.phase}
+
+
+def at_front(call):
     """A call at the front of a line, and where the line start has come to."""
     def called(d, *given):
         start = mds.LineStart(d.data, d.at, d.end)
-        status, found = outcome_of(getattr(start, method), *given)
-        state = {"place": d.length(start.place), "pending": start.pending, "phase": start._numbers.phase}
-        if status != _c.OK:
-            return {"status": status, **state}
-        values = [getattr(found, name) for name in fields] if len(fields) > 1 else [found]
-        return {"status": status, **dict(zip(fields, values)), **state}
+        return {**line_call(start, call, given), **line_state(d, start)}
 
     return called
 
 
+def label_text(d, in_table):
+    """A label by itself, without where it starts."""
+    found = label(d, [], in_table)
+    del found["start"]
+    return found
+
+
 # The calls of packages/rows.tsv, by their names without `mds_`.
-TABLE_CALLS = {
-    **{name.removeprefix("mds_"): call for name, call in CALLS.items()},
+CALLS = {
+    **{it: ends(it) for it in (
+        "scan_ch", "scan_ch_repeat", "scan_while", "scan_whitespace_in_line", "scan_eol", "scan_line", "scan_nextline",
+        "scan_blank_line", "scan_blockquote_start", "scan_closing_code_fence", "scan_closing_metadata_block",
+        "scan_html_type_7", "scan_html_tag")},
+    **{it: plain(it) for it in ("is_utf8", "starts_html_block_type_6", "interrupts_paragraph")},
+    **{it: fence(it) for it in ("scan_code_fence", "scan_metadata_block")},
+    **{it: part(it) for it in (
+        "scan_link_dest", "scan_link_title", "scan_autolink", "scan_email_autolink", "scan_code_span", "scan_wikilink_pipe")},
+    "scan_reference_definition": definition,
+    "scan_delimiter_run": delimiter_run,
+    "scan_rev_while": from_back,
+    "scan_atx_heading": lambda d: mds.scan_atx_heading(d.data, d.at, d.end) or 0,
+    "scan_listitem": item,
+    "calc_indent": indent,
+    "scan_hrule": hrule,
+    "scan_setext_heading": underline,
+    "scan_html_block_start": html_start,
+    "ends_html_block": html_end,
     "scan_entity": text("scan_entity"),
     "scan_table_head": text("scan_table_head", of=lambda found: bytes(found.alignments)),
     "scan_inline_html": first_end,
     "unescape": lambda d, in_table: text("unescape", of=lambda found: found, in_table=in_table)(d),
-    "scan_link_label": lambda d, in_table: label(d, [], in_table),
+    "scan_link_label": label_text,
     "labels_match": lambda d, other: labels_match(d.raw, other),
     "label_key": lambda d: label_key(d.raw),
-    "line_list": at_front("list_item", "delimiter", "start", "indent"),
-    "line_definition": at_front("definition", "columns"),
-    "line_task": at_front("task", "checked"),
-    "line_alert": at_front("alert", "kind"),
+    **{it: at_front(it) for it in ("line_list", "line_definition", "line_task", "line_alert")},
 }

@@ -1,22 +1,13 @@
-"""The blocks of pages and their content, on the rows of packages/c/tests/blocks.c: examples of CommonMark 0.31.2 by their numbers.
-What C would say is made of the leaf blocks and their containers."""
-import ast
-import re
+"""The blocks of pages and their content, on the rows of packages/pages.tsv. What they say is made of the leaf blocks and their
+containers."""
 import unittest
-from pathlib import Path
 
 import proved_markdown as mds
+import tables
 from proved_markdown import BlockKind, BlockQuote, Item
+from test_rows import hold
 
-ROWS = Path(__file__).resolve().parents[2] / "c/tests/blocks.c"
-WORDS = r'((?:"(?:[^"\\]|\\.)*"\s*)+)'
 NUMBERED = {BlockKind.HEADING, BlockKind.SETEXT, BlockKind.HTML}
-
-
-def rows():
-    """Each example with its page, its blocks and their contents."""
-    for number, *words in re.findall(rf"^    \{{(\d+), {WORDS},\s*{WORDS},\s*{WORDS}\}},$", ROWS.read_text(), re.M):
-        yield int(number), *[ast.literal_eval(f"({it})") for it in words]
 
 
 def word_of(container, at):
@@ -43,18 +34,23 @@ def described(page, at=0, end=None):
 
 
 class Blocks(unittest.TestCase):
+    def ways(self, page):
+        """What is described of a page by itself, inside of other bytes, in a buffer and as a str among other characters."""
+        data = page.encode()
+        for given in ((data,), (b"# x\xff" + data + b"> y", 4, 4 + len(data)), (bytearray(data),)):
+            said, contents = described(*given)
+            yield said, b"".join(it + b"|" for it in contents)
+        for given in ((page,), ("é🍔" + page + "- é", 2, 2 + len(page))):
+            said, contents = described(*given)
+            yield said, "".join(it + "|" for it in contents).encode()
+
     def test_rows(self):
-        """As C has them, of a page by itself, inside of other bytes, in a buffer and as a str among other characters."""
-        found = list(rows())
-        self.assertEqual(len(found), ROWS.read_text().count('\n    {') - ROWS.read_text().count("\n    {\n"))
-        for number, page, blocks, contents in found:
-            data = page.encode()
-            wanted = blocks, [it.encode() for it in contents.split("|")[:-1]]
-            self.assertEqual(described(data), wanted, number)
-            self.assertEqual(described(b"# x\xff" + data + b"> y", 4, 4 + len(data)), wanted, number)
-            self.assertEqual(described(bytearray(data)), wanted, number)
-            self.assertEqual(described(page), (blocks, contents.split("|")[:-1]), number)
-            self.assertEqual(described("é🍔" + page + "- é", 2, 2 + len(page)), (blocks, contents.split("|")[:-1]), number)
+        for call in ("scan_blocks", "block_content"):
+            rows = tables.pages(call)
+            for row in rows:
+                for said, contents in self.ways(row.text.decode()):
+                    self.assertEqual(said.encode() if call == "scan_blocks" else contents, row.answer, row.where)
+            hold(self, call, len(rows))
 
     def test_fields(self):
         first, second, third = mds.scan_blocks("> é\n\n1) ```` é\n")

@@ -1,6 +1,5 @@
-"""The events of pages: on the rows of packages/c/tests/events.c, and by the HTML that a small program makes of them, which is that of
-the examples of CommonMark 0.31.2. `html` is checked on these examples too."""
-import ast
+"""The events of pages: on the rows of packages/pages.tsv, and by the HTML that a small program makes of them, which is that of the
+examples of CommonMark 0.31.2. `html` is checked on these examples too."""
 import re
 import sys
 import unittest
@@ -9,30 +8,14 @@ from pathlib import Path
 from urllib.parse import quote
 
 import proved_markdown as mds
+import tables
 from proved_markdown import Element, EventKind, LinkKind
+from test_html import asked_of
 from test_rows import hold
 
 TOP = Path(__file__).resolve().parents[3]
 sys.path.append(str(TOP / "tests/html"))
 import spec
-
-ROWS = TOP / "packages/c/tests/events.c"
-WORD = r'"((?:[^"\\]|\\.)*)"'
-EVERY = ("table", "strikethrough", "tasklist", "wikilinks")
-
-
-def said(words):
-    """What adjacent strings of C say, in bytes."""
-    return b"".join(ast.literal_eval(f'b"{it}"') for it in re.findall(WORD, words))
-
-
-def rows(name):
-    """The rows of a table of C: of each the page, and the lines of its events."""
-    table = ROWS.read_text().split(f"static const struct row {name}[] = {{\n")[1].split("\n};")[0]
-    found = re.findall(rf"^    \{{({WORD}),\s*(.*?)\}},$", table, re.M | re.S)
-    if len(found) != len(re.findall(r"^    \{", table, re.M)) or not found:
-        raise AssertionError(f"{ROWS} is not as it was")
-    return [(said(page), said(lines).decode()) for page, _, lines in found]
 
 
 def as_text(it):
@@ -153,16 +136,14 @@ def without_lines(html):
 
 class Events(unittest.TestCase):
     def test_rows(self):
-        tried = 0
-        for name, asked in (("rows", ()), ("extended", EVERY)):
-            for page, wanted in rows(name):
-                tried += 1
-                self.assertEqual(lines_of(page, asked), wanted)
-                self.assertEqual(lines_of(page.decode(), asked), wanted)
-                self.assertEqual(lines_of(bytearray(b"*\xff" + page + b"*"), asked, 2, 2 + len(page)), wanted)
-                text = page.decode()
-                self.assertEqual(lines_of(f"é*{text}*🍔", asked, 2, 2 + len(text)), wanted)
-        hold(self, "events.c", tried)
+        rows = tables.pages("events")
+        for row in rows:
+            page, text, asked, lines = row.text, row.text.decode(), asked_of(row), row.answer.decode()
+            self.assertEqual(lines_of(page, asked), lines, row.where)
+            self.assertEqual(lines_of(text, asked), lines, row.where)
+            self.assertEqual(lines_of(bytearray(b"*\xff" + page + b"*"), asked, 2, 2 + len(page)), lines, row.where)
+            self.assertEqual(lines_of(f"é*{text}*🍔", asked, 2, 2 + len(text)), lines, row.where)
+        hold(self, "events", len(rows))
 
     def test_examples(self):
         """Each example of the specification: by `html`, of a str and of bytes, and by events."""

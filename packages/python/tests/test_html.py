@@ -1,51 +1,41 @@
-"""The HTML of pages, on the rows of packages/c/tests/html.c: examples of CommonMark 0.31.2 and of GitHub Flavored Markdown 0.29."""
-import ast
-import re
+"""The HTML of pages, on the rows of packages/pages.tsv."""
 import unittest
-from pathlib import Path
 
 import proved_markdown as mds
+import tables
+from test_rows import hold
 
-ROWS = Path(__file__).resolve().parents[2] / "c/tests/html.c"
-WORD = r'"((?:[^"\\]|\\.)*)"'
-GITHUB = ("table", "strikethrough", "tasklist")
-
-
-def said(words):
-    """What adjacent strings of C say."""
-    return "".join(ast.literal_eval(f'"{it}"') for it in re.findall(WORD, words))
+EXTENSIONS = {"tables": "table", "strikethrough": "strikethrough", "tasks": "tasklist", "wikilinks": "wikilinks"}
 
 
-def rows(name):
-    """The rows of a table of C: of each the page and its HTML."""
-    table = ROWS.read_text().split(f"static const struct row {name}[] = {{\n")[1].split("\n};")[0]
-    for row in re.findall(r"^    \{\d+, (.*?)\},$", re.sub(r'SAFE\("([^"]*)"\)', safe_attributes, table), re.M | re.S):
-        page, html = re.match(rf"({WORD}),\s*(.*)", row, re.S).group(1, 3)
-        yield said(page), said(html)
-
-
-def safe_attributes(found):
-    """The macro SAFE, which stands between strings of C."""
-    return rf'"href=\"{found[1]}\" rel=\"nofollow noopener\""'
+def asked_of(row):
+    """The extensions that a row asks for."""
+    return [EXTENSIONS[it] for it in row.words]
 
 
 class Html(unittest.TestCase):
-    def are_rows(self, name, **asked):
-        found = list(rows(name))
-        table = ROWS.read_text().split(f"static const struct row {name}[] = {{\n")[1].split("\n};")[0]
-        self.assertEqual(len(found), len(re.findall(r"^    \{\d", table, re.M)))
-        self.assertGreater(len(found), 0)
-        for page, wanted in found:
-            self.assertEqual(mds.html(page, **asked), wanted)
-            self.assertEqual(mds.html(page.encode(), **asked), wanted.encode())
-            self.assertEqual(mds.html(bytearray(page.encode()), **asked), wanted.encode())
+    def are_rows(self, rows, **asked):
+        for row in rows:
+            page, html = row.text.decode(), row.answer
+            asked["extensions"] = asked_of(row)
+            self.assertEqual(mds.html(page, **asked), html.decode(), row.where)
+            self.assertEqual(mds.html(row.text, **asked), html, row.where)
+            self.assertEqual(mds.html(bytearray(row.text), **asked), html, row.where)
 
     def test_rows(self):
-        self.are_rows("rows", safe=False)
-        self.are_rows("extended", safe=False, extensions=GITHUB)
-        self.are_rows("extended", extensions=list(GITHUB))
-        self.are_rows("safe")
-        self.are_rows("safe", safe=True, extensions=[*GITHUB, "wikilinks"])
+        rows = tables.pages("html")
+        self.are_rows(rows, safe=False)
+        hold(self, "html", len(rows))
+
+    def test_rows_of_safe_html(self):
+        """But for those that name a scheme, as no call of the package does."""
+        rows = tables.pages("safe_html")
+        of_schemes = [it for it in rows if any(word.startswith("scheme=") for word in it.words)]
+        others = [it for it in rows if it not in of_schemes]
+        self.are_rows(others)
+        self.are_rows(others, safe=True)
+        hold(self, "safe_html", len(others))
+        hold(self, "safe_html_left_out", len(of_schemes))
 
     def test_safe_is_the_default(self):
         self.assertEqual(mds.html("<script>"), "&lt;script&gt;\n")

@@ -1,16 +1,11 @@
-"""The inlines of texts, on the rows of packages/c/tests/inlines.c: examples of CommonMark 0.31.2 by their numbers, of which cmark
-makes what stands beside them."""
-import ast
-import re
+"""The inlines of texts, on the rows of packages/pages.tsv."""
 import unittest
-from pathlib import Path
 
 import proved_markdown as mds
+import tables
 from proved_markdown import InlineKind, LinkTarget, Span
+from test_rows import hold
 
-ROWS = Path(__file__).resolve().parents[2] / "c/tests/inlines.c"
-WORD = r'"((?:[^"\\]|\\.)*)"'
-DEFINITION = rf"\{{{WORD}, {WORD}, {WORD}\}}"
 TAGS = {
     InlineKind.SOFT_BREAK: "\n",
     InlineKind.HARD_BREAK: "<br>",
@@ -18,31 +13,25 @@ TAGS = {
     InlineKind.EMPHASIS_END: "</em>",
     InlineKind.STRONG: "<strong>",
     InlineKind.STRONG_END: "</strong>",
+    InlineKind.STRIKETHROUGH: "<del>",
+    InlineKind.STRIKETHROUGH_END: "</del>",
     InlineKind.LINK_END: "</>",
 }
 
 
-def said(word):
-    """A string of C."""
-    return ast.literal_eval(f'"{word}"')
-
-
-def rows():
-    """Each example with its text, its definitions, and what cmark makes of it."""
-    text = ROWS.read_text()
-    for number, given, wanted in re.findall(rf"^    \{{(\d+), {WORD},\s*{WORD}\}},$", text, re.M):
-        yield int(number), said(given), [], said(wanted)
-    defined = rf"^    \{{(\d+), {WORD}, \{{((?:{DEFINITION}(?:, )?)+)\}},\s*{WORD}\}},$"
-    for number, given, definitions, *_, wanted in re.findall(defined, text, re.M):
-        yield int(number), said(given), [tuple(map(said, it)) for it in re.findall(DEFINITION, definitions)], said(wanted)
+def asked_of(row):
+    """The extensions that a row asks for, and its definitions, each a label, a destination and a title."""
+    fields = [word.partition("=") for word in row.words]
+    texts = [tables.read_text(value).decode() for _, separator, value in fields if separator]
+    return {name: True for name, separator, _ in fields if not separator}, list(zip(*[iter(texts)] * 3, strict=True))
 
 
 class Returned:
     """What is said of the inlines of a text, which may be bytes, and stand at a place."""
 
-    def __init__(self, data, at, end, definitions):
+    def __init__(self, data, at, end, extensions, definitions):
         self.data, self.end, self.definitions = data, end, definitions
-        found = mds.scan_inlines(data, at, end, labels=[it[0] for it in definitions])
+        found = mds.scan_inlines(data, at, end, labels=[it[0] for it in definitions], **extensions)
         self.text = "".join(map(self.inline, found))
 
     def part(self, start, stop):
@@ -69,6 +58,8 @@ class Returned:
         return text[1:-1] if text.strip(" ") and text[0] == text[-1] == " " else text
 
     def target(self, link):
+        if link.target == LinkTarget.WIKI:
+            return self.part(*link.destination) + "|"
         if link.target == LinkTarget.INLINE:
             parts = [self.part(*link.destination), self.part(*link.title) if link.title else ""]
         else:
@@ -80,16 +71,14 @@ class Returned:
 
 class Inlines(unittest.TestCase):
     def test_rows(self):
-        """As C has them, of a text by itself, inside of other bytes, in a buffer and as a str among other characters."""
-        found = list(rows())
-        self.assertEqual(len(found), ROWS.read_text().count("\n    {"))
-        for number, text, definitions, wanted in found:
-            data = text.encode()
-            self.assertEqual(Returned(data, 0, None, definitions).text, wanted, number)
-            self.assertEqual(Returned(b"*[\xff" + data + b"](b)*", 3, 3 + len(data), definitions).text, wanted, number)
-            self.assertEqual(Returned(bytearray(data), 0, None, definitions).text, wanted, number)
-            self.assertEqual(Returned(text, 0, None, definitions).text, wanted, number)
-            self.assertEqual(Returned("é🍔[" + text + "]*é", 3, 3 + len(text), definitions).text, wanted, number)
+        """Of a text by itself, inside of other bytes, in a buffer and as a str among other characters."""
+        rows = tables.pages("scan_inlines")
+        for row in rows:
+            data, text, asked = row.text, row.text.decode(), asked_of(row)
+            inside = (b"*[\xff" + data + b"](b)*", 3, 3 + len(data)), ("é🍔[" + text + "]*é", 3, 3 + len(text))
+            for given in ((data, 0, None), (bytearray(data), 0, None), (text, 0, None), *inside):
+                self.assertEqual(Returned(*given, *asked).text, row.answer.decode(), row.where)
+        hold(self, "scan_inlines", len(rows))
 
     def test_fields(self):
         image, text, end = mds.scan_inlines("![é](<b> 'c')")

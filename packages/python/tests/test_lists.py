@@ -1,33 +1,24 @@
-"""The lists of pages, on the rows of packages/c/tests/lists.c: examples of CommonMark 0.31.2."""
-import ast
-import re
+"""The lists of pages, on the rows of packages/pages.tsv."""
 import unittest
-from pathlib import Path
 
 import proved_markdown as mds
-
-ROWS = Path(__file__).resolve().parents[2] / "c/tests/lists.c"
-WORD = r'("(?:[^"\\]|\\.)*")'
-
-
-def rows():
-    """Each page, and what is said of its lists."""
-    return [tuple(map(ast.literal_eval, it)) for it in re.findall(rf"^    \{{{WORD}, {WORD}\}},$", ROWS.read_text(), re.M)]
+import tables
+from test_rows import hold
 
 
 def described(it):
-    return f"{chr(it.delimiter)}{it.start}@{it.depth}:{it.line + 1}-{it.line + it.lines} {'loose' if it.is_loose else 'tight'} "
+    return f"{chr(it.delimiter)}{it.start}@{it.depth}:{it.line + 1}-{it.line + it.lines} {'loose' if it.is_loose else 'tight'}"
 
 
 class Lists(unittest.TestCase):
     def test_rows(self):
-        """As C has them, of a page by itself and inside of other bytes, in a buffer and as a str."""
-        found = rows()
-        self.assertEqual(len(found), ROWS.read_text().count("\n    {"))
-        for page, wanted in found:
-            data = page.encode()
-            for given in ((page,), (data,), (bytearray(data),), (b"- a\n" + data + b"- b\n", 4, 4 + len(data))):
-                self.assertEqual("".join(map(described, mds.scan_lists(*given))), wanted, page)
+        """Of a page by itself and inside of other bytes, in a buffer and as a str."""
+        rows = tables.pages("scan_lists")
+        for row in rows:
+            data = row.text
+            for given in ((data.decode(),), (data,), (bytearray(data),), (b"- a\n" + data + b"- b\n", 4, 4 + len(data))):
+                self.assertEqual(" ".join(map(described, mds.scan_lists(*given))), row.answer.decode(), row.where)
+        hold(self, "scan_lists", len(rows))
 
     def test_many(self):
         """More than a first buffer holds."""

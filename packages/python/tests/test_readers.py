@@ -1,9 +1,9 @@
-"""Pages that come piece by piece have the blocks of the whole page, on the pages of packages/c/tests/blocks.c."""
+"""Pages that come piece by piece have the blocks of the whole page, on the pages of packages/pages.tsv."""
 import unittest
 
 import proved_markdown as mds
+import tables
 from proved_markdown import BlockKind, BlockReader, FootnoteDefinition, TermDefinition, read_blocks
-from test_blocks import rows
 
 
 def fields_of(block):
@@ -27,7 +27,7 @@ def together(blocks):
 class Readers(unittest.TestCase):
     def test_pieces(self):
         """In pieces of each size."""
-        pages = [page.encode() for _, page, *_ in rows()]
+        pages = [row.text for row in tables.pages("scan_blocks")]
         self.assertGreater(len(pages), 30)
         for page in pages:
             whole = list(mds.scan_blocks(page))
