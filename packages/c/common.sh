@@ -10,6 +10,7 @@ proof=$crate/out/proof.txt               # what rt said when it made that, after
 archive=out/libproved_markdown.a
 shared_name=libproved_markdown.so.${version%%.*}
 shared=out/$shared_name
+packed_programs=(cmark_html cmark_links cmark_tables cmark_blocks cmark_scan)
 earlier_name=libmarkdown_scanners.so.${version%%.*} # of programs that were linked before
 script=$(basename "$0")
 room=$(mktemp -d)

@@ -1,5 +1,6 @@
 /**
- * Scanners of Markdown's lines, blocks and inline text, proved to answer what CommonMark 0.31.2 says.
+ * A Markdown parser, proved to do what CommonMark 0.31.2 says: HTML and events of a page, its blocks and inlines, and the scanners
+ * below them.
  *
  *     import { load } from "./proved_markdown.mjs";
  *
@@ -27,7 +28,7 @@ export { VERSION };
 
 /** Node's files, which a browser has not. */
 const FILES = "node:fs/promises";
-/** The section of a module that tells its version, and the one in which the 32-bit module names the 64-bit one beside it. */
+/** The section of a module that says its version, and the one in which the 32-bit module names the 64-bit one beside it. */
 const VERSION_SECTION = "proved_markdown";
 const WIDE_SECTION = "proved_markdown64";
 /** A module that has a 64-bit memory and nothing else. */
@@ -40,7 +41,7 @@ export class Scanners {
     /** @param {WebAssembly.Module} module */
     constructor(module) {
         const version = sectionOf(module, VERSION_SECTION);
-        if (!version) throw new BadModule("the module is none of proved_markdown");
+        if (!version) throw new BadModule("the module is not one of proved_markdown");
         if (version !== VERSION) throw new WrongVersion(`the module is of version ${version}, and this package of ${VERSION}`);
         this.#engine = new Engine(module);
     }

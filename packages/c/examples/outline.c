@@ -72,7 +72,7 @@ static struct text made(const uint8_t *buffer, struct mds_text found) {
     return (struct text){buffer, found.length};
 }
 
-/* Reads the label in brackets at the place, and answers the place behind it, or 0. (CommonMark 0.31.2, 6.3) */
+/* Reads the label in brackets at the place, and answers the offset after it, or 0. (CommonMark 0.31.2, 6.3) */
 static size_t read_label(struct text text, size_t place, struct entry *entry) {
     if (!begins_with(rest_of(text, place), "["))
         return 0;
@@ -141,7 +141,7 @@ static size_t inline_length(struct text text, size_t place, struct known *known)
 }
 
 /* A line ending is written as a space, with the white space before it. */
-static void write_text(struct text text, const char *behind) {
+static void write_text(struct text text, const char *after) {
     for (size_t space, ending; text.length > 0; text = rest_of(text, space + ending)) {
         space = mds_scan_whitespace_in_line(text.bytes, text.length);
         ending = mds_scan_eol(text.bytes + space, text.length - space);
@@ -153,7 +153,7 @@ static void write_text(struct text text, const char *behind) {
         else
             putchar(text.bytes[ending++]);
     }
-    fputs(behind, stdout);
+    fputs(after, stdout);
 }
 
 /* Adds the full references of a text that begins in this line. (6.3) */
@@ -240,14 +240,14 @@ static int by_key(const void *one, const void *other) {
 }
 
 /* Prints each entry whose key is not among the known ones, and answers how many they are. */
-static size_t print(struct entries entries, struct entries known, const char *behind) {
+static size_t print(struct entries entries, struct entries known, const char *after) {
     size_t printed = 0;
     for (size_t i = 0; i < entries.count; i++) {
         struct entry *entry = &entries.items[i];
         if (known.count > 0 && bsearch(entry, known.items, known.count, sizeof(*entry), by_key))
             continue;
         printf("%zu: [", entry->line);
-        write_text(entry->label, behind), write_text(entry->target, "\n");
+        write_text(entry->label, after), write_text(entry->target, "\n");
         printed++;
     }
     return printed;

@@ -39,7 +39,7 @@ except ImportError:
 
 
 def find(text, place, closers):
-    """The place of the first of these bytes that no backslash stands before, or one behind the text. (2.4)"""
+    """The place of the first of these bytes that no backslash stands before, or one after the text. (2.4)"""
     while place < len(text) and text[place] not in closers:
         place += 2 if text[place] == ord("\\") else 1
     return place

@@ -34,11 +34,11 @@ static void read_more(struct page *page) {
     page->length -= page->printed;
     memmove(page->text, page->text + page->printed, page->length);
     page->printed = 0;
-    size_t wanted = page->length + (page->length < 4096 ? 4096 : page->length);
-    if (page->room < wanted)
-        page->text = grown(page->text, wanted), page->room = wanted;
-    size_t count = fread(page->text + page->length, 1, wanted - page->length, stdin);
-    page->length += count, page->has_ended = page->length < wanted;
+    size_t needed = page->length + (page->length < 4096 ? 4096 : page->length);
+    if (page->room < needed)
+        page->text = grown(page->text, needed), page->room = needed;
+    size_t count = fread(page->text + page->length, 1, needed - page->length, stdin);
+    page->length += count, page->has_ended = page->length < needed;
     if (ferror(stdin))
         stop("the input can't be read");
 }

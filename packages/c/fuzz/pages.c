@@ -24,7 +24,7 @@ static void stop(const char *why) {
     exit(1);
 }
 
-/* The end of a room of so many bytes, behind which a byte that is read or written is a fault. */
+/* The end of a room of so many bytes, after which a byte that is read or written is a fault. */
 static uint8_t *room_end(size_t size) {
     size_t whole = (size + 4095) / 4096 * 4096;
     uint8_t *room = mmap(NULL, whole + 4096, PROT_READ | PROT_WRITE, MAP_PRIVATE | MAP_ANONYMOUS, -1, 0);
@@ -48,9 +48,9 @@ static void make_page(void) {
         "<b@c>", "<d:e>", "<!-- ", "-->", "<![CDATA[", "]]>", "<?", "?>", "<", ">", "\"", "'", "\n", "  \n", "\n\n", "\r", "\r\n", "> ", "- ", "+ ",
         "1. ", "9) ", "# ", " #", "===\n", "---\n", "```\n", "~~~ a\n", "    ", "\t", "|", "|-|\n", "|:-:|\n", "~~", "~", "[[a|", "]]", "- [ ] ",
         "- [x] ", "a", " ", "\xc3\xa4", "\xe2\x82\xac", "\xf0\x9f\x8d\x94", "\xc2\xa0"};
-    size_t wanted = 1 + below(below(8) ? 200 : MOST);
+    size_t least = 1 + below(below(8) ? 200 : MOST);
     length = 0;
-    while (length < wanted) {
+    while (length < least) {
         size_t at = below(file_size + 1), count = below(60);
         const char *piece = pieces[below(sizeof(pieces) / sizeof(*pieces))];
         if (below(3)) add(piece, strlen(piece));

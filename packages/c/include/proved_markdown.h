@@ -1,13 +1,13 @@
-/* The scanners of Markdown's lines, blocks and inline text, as C functions.
+/* A Markdown parser as C functions: the HTML, the events, the blocks and the inlines of a page, and the scanners below them.
  *
- * They stand over the libraries `markdown_scanners_tree`, `markdown_inlines`, `markdown_blocks`, `markdown_events` and
- * `markdown_html`, and each is proved to answer what their definitions say, after CommonMark 0.31.2
- * (https://spec.commonmark.org/0.31.2/), whose sections stand in brackets below. They are scanners: each reads from the
- * front of the bytes that it is given, or from an offset in them, and says what begins there. None looks for the next
- * construct, so a caller goes through its document and asks. But
- * mds_scan_blocks reads a page, and says which blocks it has, and mds_scan_inlines the text of a block, and says which inlines.
- * mds_block_line reads a page that comes piece by piece. mds_html and mds_safe_html make the HTML of a page, and
- * mds_events its events.
+ * They stand over the libraries `markdown_html`, `markdown_events`, `markdown_blocks`, `markdown_inlines` and
+ * `markdown_scanners_tree`, and each is proved to answer what their definitions say, after CommonMark 0.31.2
+ * (https://spec.commonmark.org/0.31.2/), whose sections stand in brackets below.
+ *
+ * mds_html and mds_safe_html write the HTML of a page, and mds_events its events. mds_scan_blocks returns the blocks of a page,
+ * mds_scan_inlines the inlines of the text of a block. mds_block_line reads a page that comes piece by piece. The others are
+ * scanners: each reads from the front of the bytes that it is given, or from an offset in them, and says what begins there. None
+ * looks for the next construct, so a caller goes through its document and asks.
  *
  * Bytes and texts. A pointer and a length go together; nothing has to end in a zero byte, and zero bytes are read as
  * any other. What is read may be of any type of bytes, as `char` or `uint8_t`. The pointer may be null where the length

@@ -260,7 +260,7 @@ static struct mds_line_block line_in(
     return mds_block_line(given(BYTES, text, length), length, true, containers, capacity, open, block);
 }
 
-/* What is refused in this state, and that all is left as it was then; behind a paragraph a term stands where it is asked for. */
+/* What is refused in this state, and that all is left as it was then; after a paragraph a term stands where it is asked for. */
 static void refused_in(int line, uint32_t state, uint32_t kind, size_t depth, uint32_t extensions, size_t capacity, uint32_t status) {
     struct mds_open_blocks open = {depth, extensions, state};
     struct mds_block block = {.kind = 99};
@@ -356,10 +356,10 @@ static size_t made(size_t below) {
 static size_t make_page(char *page) {
     static const char *const pieces[] = {
         "> ", "- ", "1. ", "\n", "\n\n", "\r", "\t", "    ", "  ", "a", "# b", "```", "===", "---", "[c]: d", "<div>", "|-|", "\xff"};
-    size_t length = 0, wanted = made(LONGEST);
+    size_t length = 0, most = made(LONGEST);
     for (;;) {
         const char *piece = pieces[made(sizeof(pieces) / sizeof(*pieces))];
-        if (length + strlen(piece) > wanted)
+        if (length + strlen(piece) > most)
             return length;
         memcpy(page + length, piece, strlen(piece)), length += strlen(piece);
     }

@@ -20,7 +20,7 @@ static size_t length_of_line(const char *bytes, size_t length) {
     return end + (is_cr_lf ? 2 : 1);
 }
 
-/* A thematic break: three or more of one marker, with nothing but spaces and tabs between and behind them. (4.1) */
+/* A thematic break: three or more of one marker, with nothing but spaces and tabs between and after them. (4.1) */
 static bool is_break(const char *bytes, size_t length) {
     size_t markers = 0;
     if (length == 0 || !strchr("*-_", bytes[0]))
@@ -47,7 +47,7 @@ static bool has_blank_line(const char *bytes, size_t length) {
     return false;
 }
 
-/* A link title: straight quotes or parentheses, and between them neither of the two but behind a backslash; it may go on over
+/* A link title: straight quotes or parentheses, and between them neither of the two but after a backslash; it may go on over
  * lines, and not contain a blank one. (6.3) */
 static size_t length_of_title(const char *bytes, size_t length) {
     size_t end = 1;
@@ -209,7 +209,7 @@ static const uint8_t *before_far(const char *front, size_t length) {
     return memcpy(pages + ROOM_SIZE - length, front, length);
 }
 
-/* Each link of a page of more than a mebibyte in one line: what stands behind the link is not read, so k links of n bytes cost
+/* Each link of a page of more than a mebibyte in one line: what stands after the link is not read, so k links of n bytes cost
  * k and not k n. */
 static void long_lines(void) {
     static const char links[] = "[a](b) <ab:c> [[d|e]] [f](<g h>)";

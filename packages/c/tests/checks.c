@@ -16,14 +16,14 @@ static unsigned long long passed, failed;
 static uint8_t *rooms[ROOMS];
 static size_t puts_at[ROOMS];
 
-void same(int line, const char *what, unsigned long long found, unsigned long long wanted) {
-    if (found == wanted) {
+void same(int line, const char *what, unsigned long long found, unsigned long long expected) {
+    if (found == expected) {
         passed++;
         return;
     }
     failed++;
     const char *edge = at_front ? "front" : "end", *file = checked_file ? checked_file : "";
-    fprintf(stderr, "%s%sline %d, at the %s: %s is %llu and not %llu\n", file, *file ? ", " : "", line, edge, what, found, wanted);
+    fprintf(stderr, "%s%sline %d, at the %s: %s is %llu and not %llu\n", file, *file ? ", " : "", line, edge, what, found, expected);
 }
 
 int report(const char *name) {

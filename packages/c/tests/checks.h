@@ -1,5 +1,5 @@
 /* Checks that are counted, and rooms in memory between pages that can't be read or written. What a call is given stands at
- * an edge of such a room, behind the page before it or in front of the page behind it, so that a byte read or written past
+ * an edge of such a room, after the page before it or before the page after it, so that a byte read or written past
  * that edge is a fault. What a call only reads can't be written; what it may write is UNTOUCHED at first. */
 #ifndef CHECKS_H
 #define CHECKS_H
@@ -11,16 +11,16 @@ enum room { BYTES, OTHER_BYTES, LIST, BUFFER, REST, ROOMS };
 
 enum { ROOM_SIZE = 4096, UNTOUCHED = 'z' };
 
-/* At which edge things are put: behind the page before the room, or in front of the page behind it. */
+/* At which edge things are put: after the page before the room, or before the page after it. */
 extern bool at_front;
 
 /* The file that has the lines of checks, where it is not the program's own. */
 extern const char *checked_file;
 
-/* Notes whether what was found is what was wanted. */
-void same(int line, const char *what, unsigned long long found, unsigned long long wanted);
+/* Notes whether what was found is what was expected. */
+void same(int line, const char *what, unsigned long long found, unsigned long long expected);
 
-#define SAME(found, wanted) same(__LINE__, #found, (unsigned long long)(found), (unsigned long long)(wanted))
+#define SAME(found, expected) same(__LINE__, #found, (unsigned long long)(found), (unsigned long long)(expected))
 
 /* Prints how many checks have passed and failed, and answers the status of the program. */
 int report(const char *name);

@@ -152,10 +152,10 @@ static size_t make_page(char *page) {
         "*", "**", "_", "`", "[a]", "[", "![", "](b)", "](c \"d\")", "[a]: b 'c'\n", "\\", "&lt;", "<a>", "<b@c>", "<d:e>", "<!-- ", "-->",
         "\n", "  \n", "\n\n", "> ", "- ", "1. ", "# ", "===\n", "```\n", "    ", "\t", "|", "|-|\n", "~~", "[[a|", "]]", "- [ ] ", "a",
         "\xc3\xa4"};
-    size_t length = 0, wanted = made(MOST);
+    size_t length = 0, most = made(MOST);
     for (;;) {
         const char *piece = pieces[made(sizeof(pieces) / sizeof(*pieces))];
-        if (length + strlen(piece) > wanted)
+        if (length + strlen(piece) > most)
             return length;
         memcpy(page + length, piece, strlen(piece)), length += strlen(piece);
     }

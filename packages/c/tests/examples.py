@@ -24,7 +24,7 @@ static void hold(bool holds, const char *line) {
 
 
 def examples(text):
-    """Each function that is declared behind a comment, with the comment's lines of code."""
+    """Each function that is declared after a comment, with the comment's lines of code."""
     for comment, name in re.findall(r"/\*((?:[^*]|\*(?!/))*)\*/\n[^/;{}#]*?\b(mds_\w+)\([^;{}]*\);", text):
         yield name, re.findall(r"^ \*     (\S.*)$", comment, re.M)
 

@@ -17,10 +17,10 @@ static size_t made(size_t below) {
 /* A text of the pieces that comments, CDATA sections, declarations and instructions are made of. */
 static size_t make_text(char *text) {
     static const char *const pieces[] = {"<!", "<?", "--", "-", ">", "[CDATA[", "]]>", "]", "?>", "a", "\n", "\xC3\xA9"};
-    size_t length = 0, wanted = made(LONGEST);
+    size_t length = 0, most = made(LONGEST);
     for (;;) {
         const char *piece = pieces[made(sizeof pieces / sizeof *pieces)];
-        if (length + strlen(piece) > wanted)
+        if (length + strlen(piece) > most)
             return length;
         memcpy(text + length, piece, strlen(piece)), length += strlen(piece);
     }
@@ -30,7 +30,7 @@ static bool stands(const char *text, size_t length, size_t place, const char *by
     return place <= length && length - place >= strlen(bytes) && memcmp(text + place, bytes, strlen(bytes)) == 0;
 }
 
-/* The end of the first one of these bytes at the place or behind it. */
+/* The end of the first one of these bytes at the place or after it. */
 static size_t closed(const char *text, size_t length, size_t place, const char *bytes) {
     for (; place <= length; place++)
         if (stands(text, length, place, bytes))
@@ -42,7 +42,7 @@ static bool is_letter(uint8_t byte) {
     return (byte >= 'a' && byte <= 'z') || (byte >= 'A' && byte <= 'Z');
 }
 
-/* The end of what begins with the `<!` or `<?` behind which the place is. */
+/* The end of what begins with the `<!` or `<?` after which the place is. */
 static size_t plain_end(const char *text, size_t length, size_t place) {
     if (text[place - 1] == '?')
         return closed(text, length, place, "?>");
@@ -99,10 +99,10 @@ static void scan_text(const char *text, size_t length, const void *bytes) {
     for (size_t place = 2; place <= length; place++) {
         if (!is_opener(text, length, place))
             continue;
-        const size_t wanted = plain_end(text, length, place);
+        const size_t expected = plain_end(text, length, place);
         const struct mds_end found = mds_scan_inline_html(bytes, length, place, &guard);
-        SAME(found.status, wanted == NONE ? MDS_NOTHING : MDS_OK);
-        SAME(found.end, wanted == NONE ? 0 : wanted);
+        SAME(found.status, expected == NONE ? MDS_NOTHING : MDS_OK);
+        SAME(found.end, expected == NONE ? 0 : expected);
         passed += found.passed, calls++;
         if (found.status == MDS_OK)
             place = found.end - 1;
@@ -121,8 +121,8 @@ static void whole_texts(void) {
 
 static const struct mds_html_guard zero = {0, 0, 0, 0};
 
-static void guard_is(int line, struct mds_html_guard found, struct mds_html_guard wanted) {
-    same(line, "guard", memcmp(&found, &wanted, sizeof(found)), 0);
+static void guard_is(int line, struct mds_html_guard found, struct mds_html_guard expected) {
+    same(line, "guard", memcmp(&found, &expected, sizeof(found)), 0);
 }
 
 static void ends_under_a_guard(void) {

@@ -161,16 +161,16 @@ static void check(const struct row *row) {
 }
 
 /* One inline with these numbers; all other numbers are 0. */
-static void is_inline(int line, const struct mds_inline *found, struct mds_inline wanted) {
-    same(line, "kind", found->kind, wanted.kind), same(line, "target", found->target, wanted.target);
-    same(line, "start", found->start, wanted.start), same(line, "length", found->length, wanted.length);
-    same(line, "count", found->count, wanted.count), same(line, "end", found->end, wanted.end);
-    same(line, "destination_start", found->destination_start, wanted.destination_start);
-    same(line, "destination_length", found->destination_length, wanted.destination_length);
-    same(line, "title_start", found->title_start, wanted.title_start);
-    same(line, "title_length", found->title_length, wanted.title_length);
-    same(line, "label_start", found->label_start, wanted.label_start);
-    same(line, "label_length", found->label_length, wanted.label_length);
+static void is_inline(int line, const struct mds_inline *found, struct mds_inline expected) {
+    same(line, "kind", found->kind, expected.kind), same(line, "target", found->target, expected.target);
+    same(line, "start", found->start, expected.start), same(line, "length", found->length, expected.length);
+    same(line, "count", found->count, expected.count), same(line, "end", found->end, expected.end);
+    same(line, "destination_start", found->destination_start, expected.destination_start);
+    same(line, "destination_length", found->destination_length, expected.destination_length);
+    same(line, "title_start", found->title_start, expected.title_start);
+    same(line, "title_length", found->title_length, expected.title_length);
+    same(line, "label_start", found->label_start, expected.label_start);
+    same(line, "label_length", found->label_length, expected.label_length);
 }
 
 #define IS(found, ...) is_inline(__LINE__, &(found), (struct mds_inline){__VA_ARGS__})
@@ -261,10 +261,10 @@ static size_t make_text(char *text) {
     static const char *const pieces[] = {
         "*", "**", "_", "`", "``", "[", "![", "]", "](b)", "[a]", "][a]", "[]", "\\", "&amp;", "<a>", "<b@c>", "\n", "  \n", "a", " ",
         "\xc3\xa4", "~", "~~", "[[a|", "]]"};
-    size_t length = 0, wanted = made(MOST);
+    size_t length = 0, most = made(MOST);
     for (;;) {
         const char *piece = pieces[made(sizeof(pieces) / sizeof(*pieces))];
-        if (length + strlen(piece) > wanted)
+        if (length + strlen(piece) > most)
             return length;
         memcpy(text + length, piece, strlen(piece)), length += strlen(piece);
     }

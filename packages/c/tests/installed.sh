@@ -9,9 +9,9 @@ readme_program() {
 # prints_level PROGRAM KIND: the program prints what the README says; it needs the shared library where it is built with it.
 prints_level() {
     [ "$(LD_LIBRARY_PATH="$prefix/$libdir" "$1")" = "<p><em>a</em> &lt;b&gt;</p>" ] || stop "the README's program prints something else"
-    local wants
-    wants=$(readelf -dW "$1" | grep -c "NEEDED.*\[$shared_name\]" || true)
-    [ "$wants" = "$([ "$2" = shared ] && echo 1 || echo 0)" ] || stop "the README's program is not built with the $2 library"
+    local needs
+    needs=$(readelf -dW "$1" | grep -c "NEEDED.*\[$shared_name\]" || true)
+    [ "$needs" = "$([ "$2" = shared ] && echo 1 || echo 0)" ] || stop "the README's program is not built with the $2 library"
     runs=$((runs + 1))
 }
 
@@ -135,6 +135,7 @@ check_dist() {
     grep -q 'rattle-kit-' "$at/PROOF" && [[ $(tail -n 1 "$at/PROOF") = logic=proved\ * ]] || stop "the proof is not recorded"
     cmp "$archive" "$at/lib/libproved_markdown.a" && cmp "$shared" "$at/lib/$shared_name" || stop "other libraries are packed"
     by_pkg_config "$at"
+    by_pkg_config "$at" lib markdown_scanners
     check_packed_programs "$at"
     check_packed_python "$at"
     check_packed_rust "$at"
@@ -152,13 +153,15 @@ prints_outline() {
 
 # The programs, in an empty environment, as the stored runs have it; the README says which C library they need.
 check_packed_programs() {
-    local needs words
-    mapfile -t words <crates/cmark_scan/args
-    env -i "$1/bin/cmark_blocks" <crates/cmark_blocks/stdin | cmp - crates/cmark_blocks/stdout || stop "cmark_blocks prints something else"
-    env -i "$1/bin/cmark_scan" "${words[@]}" <crates/cmark_scan/stdin | cmp - crates/cmark_scan/stdout || stop "cmark_scan prints something else"
+    local needs words program at
+    for program in "${packed_programs[@]}"; do
+        at=crates/$program words=()
+        [ ! -f "$at/args" ] || mapfile -t words <"$at/args"
+        env -i "$1/bin/$program" "${words[@]}" <"$at/stdin" | cmp - "$at/stdout" || stop "$program prints something else"
+    done
     needs=$(sed -n 's/^The programs .*glibc \([0-9.]*\), the libraries$/\1/p; s/^glibc \([0-9.]*\), or later\.$/\1/p; ' "$1/README.md" | wc -l)
     [ "$needs" = 2 ] || stop "the README doesn't say which glibc is needed"
-    passed packed_programs 2
+    passed packed_programs "${#packed_programs[@]}"
 }
 
 # The package, of the wheel alone, and the example on it.
@@ -195,6 +198,7 @@ check_packed_rust() {
         unset PROVED_MARKDOWN_LIB_DIR PKG_CONFIG_PATH
         export CARGO_TARGET_DIR=$room/packed
         prints_outline cargo run -q --offline --example headings ../README.md
+        cargo test -q --offline --manifest-path alias/Cargo.toml >"$room/said" 2>&1 || { cat "$room/said" >&2; stop "the earlier crate that is packed fails"; }
     )
     passed packed_rust 1
 }

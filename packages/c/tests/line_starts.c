@@ -88,7 +88,7 @@ static struct refusal call(size_t kind, const uint8_t *bytes, size_t length, str
     }
 }
 
-/* Whether it is one of the statuses of a call on a state that is none of the wrong ones. */
+/* Whether it is one of the statuses of a call on a state that is not wrong. */
 static bool is_returned(size_t kind, struct refusal returned) {
     if (kind == RUN)
         return returned.status == MDS_OK || returned.status == MDS_SPACE_PENDING || returned.status == MDS_TOO_LARGE;
@@ -291,7 +291,7 @@ static void show_near(uint8_t *line, size_t place) {
         abort();
 }
 
-/* Each bullet in turn, behind a first call that may read the whole line; what is known is kept, or forgotten. */
+/* Each bullet in turn, after a first call that may read the whole line; what is known is kept, or forgotten. */
 static bool are_items(uint8_t *line, bool is_kept) {
     struct mds_line_start start = {0};
     for (size_t i = 0; i < BULLETS; i++) {

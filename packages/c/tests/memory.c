@@ -1,5 +1,5 @@
 /* Memory refused. Fourteen functions may answer MDS_NO_MEMORY: on each of their inputs here the first, second, .. request is refused
- * until none is left, by itself and with all that follow. The call then answers MDS_NO_MEMORY, tells nothing more and writes
+ * until none is left, by itself and with all that follow. The call then answers MDS_NO_MEMORY, returns nothing more and writes
  * nothing, or it has the same answer as with ample memory; and it frees what it was given. The other functions make no request,
  * and neither do these fourteen where the header says so. The linker puts the functions __wrap_.. in the place of the C library's
  * (--wrap). */
@@ -48,7 +48,7 @@ void __wrap_free(void *old) {
 /* The parts of a long input, the bytes of one, and the room in a buffer for whatever a call makes here. */
 enum { MANY = 40, LONG = 900, AMPLE = 2400 };
 
-/* What a call tells: its status, and its other numbers. */
+/* What a call returns: its status, and its other numbers. */
 struct returned {
     uint32_t status;
     size_t numbers[3];
@@ -318,11 +318,11 @@ static struct returned long_events(size_t room) {
 /* A handle is empty where some request of it is refused, and may be begun anew. */
 static void handles(void) {
     struct mds_parser parser;
-    size_t wanted;
+    size_t total;
     requests = refused = 0;
-    SAME(mds_parser_new(&parser, whole_page, sizeof(whole_page) - 1, 0), MDS_OK), wanted = requests;
+    SAME(mds_parser_new(&parser, whole_page, sizeof(whole_page) - 1, 0), MDS_OK), total = requests;
     mds_parser_free(&parser), SAME(held, 0);
-    for (size_t which = 1; which <= wanted; which++) {
+    for (size_t which = 1; which <= total; which++) {
         requests = 0, refused = which;
         uint32_t status = mds_parser_new(&parser, whole_page, sizeof(whole_page) - 1, 0);
         SAME(status == MDS_OK || (status == MDS_NO_MEMORY && held == 0 && parser.count == 0), true);
@@ -373,13 +373,13 @@ static bool returned_refusal(int line, struct returned found, struct returned am
 
 static void refuse_each(int line, call_with *call, size_t room, bool exact) {
     struct returned ample = made(call, room, 0);
-    size_t wanted = requests, refusals = 0;
+    size_t total = requests, refusals = 0;
     keep();
     same(line, "status", ample.status, room ? MDS_OK : MDS_TOO_SHORT);
     same(line, "what is held", held, 0);
     if (exact)
-        same(line, "requests", wanted, 1), same(line, "bytes asked for", asked, ample.numbers[1]);
-    for (size_t which = 1; which <= wanted; which++) {
+        same(line, "requests", total, 1), same(line, "bytes asked for", asked, ample.numbers[1]);
+    for (size_t which = 1; which <= total; which++) {
         refusals += returned_refusal(line, made(call, room, which), ample);
         all_later = true;
         refusals += returned_refusal(line, made(call, room, which), ample);
@@ -395,7 +395,7 @@ static void refuse_each(int line, call_with *call, size_t room, bool exact) {
 #define ASKS_ONCE(call) refuse_each(__LINE__, call, AMPLE, true), refuse_each(__LINE__, call, 0, true)
 
 /* It makes none. */
-#define ASKS_NOT(call, wanted) (requests = 0, refused = 1, SAME(call, wanted), SAME(requests, 0), refused = 0)
+#define ASKS_NOT(call, expected) (requests = 0, refused = 1, SAME(call, expected), SAME(requests, 0), refused = 0)
 
 static void asking(void) {
     ASKS_ONCE(escape), ASKS_ONCE(escape_in_cell), ASKS_ONCE(long_escape);

@@ -3,7 +3,7 @@
  *
  * pages UNIT COUNT TAGS LABELS: how many tags and labels a unit has; the status is 1 where more or fewer are found.
  *
- * pages UNIT COUNT: the units are bullets of one line, and one run passes them all but the last, behind which no space
+ * pages UNIT COUNT: the units are bullets of one line, and one run passes them all but the last, after which no space
  * stands. */
 #include "proved_markdown.h"
 #include <stdio.h>

@@ -25,12 +25,12 @@ static void html_run(
     }
 }
 
-static void answers_are(int line, const struct mds_line_answer *found, const struct mds_line_answer *wanted, size_t count) {
+static void answers_are(int line, const struct mds_line_answer *found, const struct mds_line_answer *expected, size_t count) {
     for (size_t i = 0; i < count; i++) {
-        same(line, "found", found[i].found, wanted[i].found);
-        same(line, "delimiter", found[i].delimiter, wanted[i].delimiter);
-        same(line, "start", found[i].start, wanted[i].start);
-        same(line, "number", found[i].number, wanted[i].number);
+        same(line, "found", found[i].found, expected[i].found);
+        same(line, "delimiter", found[i].delimiter, expected[i].delimiter);
+        same(line, "start", found[i].start, expected[i].start);
+        same(line, "number", found[i].number, expected[i].number);
     }
 }
 
@@ -209,17 +209,17 @@ static void null_pointers(void) {
  * where nothing is known, and MDS_LIST is made. */
 static void untrue_breaks(size_t none_before, size_t behind_break) {
     const struct mds_line_call calls[] = {{MDS_QUOTE, 0}, {MDS_UPTO, 3}, {MDS_EOL, 0}, {MDS_LIST, 0}};
-    const struct mds_line_answer wanted[] = {{true, 0, 0, 0}, {true, 0, 0, 2}, {false, 0, 0, 0}};
+    const struct mds_line_answer expected[] = {{true, 0, 0, 0}, {true, 0, 0, 2}, {false, 0, 0, 0}};
     struct mds_line_answer answers[4] = {{0}};
     struct mds_line_start start = {0, 0, 0, none_before, behind_break};
     struct mds_line_run run = mds_run_line(OF(">\t- x"), &start, calls, 3, answers, 3);
     SAME(run.status, MDS_OK), SAME(run.count, 3);
     SAME(start.place, 2), SAME(start.pending, 0), SAME(start.phase, 0);
-    answers_are(__LINE__, answers, wanted, 3);
+    answers_are(__LINE__, answers, expected, 3);
     start = (struct mds_line_start){0, 0, 0, none_before, behind_break};
     run = mds_run_line(OF(">\t- x"), &start, calls, 4, answers, 4);
     SAME(run.status, MDS_OK), SAME(run.count, 4);
-    answers_are(__LINE__, answers, wanted, 3);
+    answers_are(__LINE__, answers, expected, 3);
 }
 
 static void all_untrue_breaks(void) {

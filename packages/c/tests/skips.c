@@ -33,15 +33,15 @@ static struct mds_tag tag_of(const char *bytes, size_t length, size_t start, con
 /* The tag, where it is returned with each room for its text that is too small, and with enough. */
 static void tag_is(int line, const struct text *page, size_t start, const struct table *table, size_t end, const struct text *text) {
     const char *bytes = (const char *)page->bytes;
-    size_t length = page->length, wanted = text->length;
-    for (size_t room = 0; room <= wanted + 1; room++) {
+    size_t length = page->length, size = text->length;
+    for (size_t room = 0; room <= size + 1; room++) {
         struct mds_tag found = tag_of(bytes, length, start, table, room);
-        same(line, "status", found.status, room < wanted ? MDS_TOO_SHORT : MDS_OK);
-        same(line, "end", found.end, end), same(line, "length", found.length, wanted);
-        same(line, "what else is written", is_left(BUFFER, room < wanted ? 0 : wanted), true);
+        same(line, "status", found.status, room < size ? MDS_TOO_SHORT : MDS_OK);
+        same(line, "end", found.end, end), same(line, "length", found.length, size);
+        same(line, "what else is written", is_left(BUFFER, room < size ? 0 : size), true);
     }
-    tag_of(bytes, length, start, table, wanted);
-    same(line, "text", memcmp(whole(BUFFER) + (at_front ? 0 : ROOM_SIZE - wanted), text->bytes, wanted), 0);
+    tag_of(bytes, length, start, table, size);
+    same(line, "text", memcmp(whole(BUFFER) + (at_front ? 0 : ROOM_SIZE - size), text->bytes, size), 0);
 }
 
 static void no_tag(int line, const struct text *page, size_t start, const struct table *table, uint32_t status) {
@@ -66,17 +66,17 @@ static void label_is(
     int line, const struct text *page, size_t from, bool in_table, const struct table *table, const struct mds_label *label,
     const struct text *text) {
     const char *bytes = (const char *)page->bytes;
-    size_t length = page->length, wanted = text->length;
-    for (size_t room = 0; room <= wanted + 1; room++) {
+    size_t length = page->length, size = text->length;
+    for (size_t room = 0; room <= size + 1; room++) {
         struct mds_label found = label_of(bytes, length, from, in_table, table, room);
-        bool needs = room < wanted && (room > 0 || label->start == MDS_NONE);
+        bool needs = room < size && (room > 0 || label->start == MDS_NONE);
         same(line, "status", found.status, needs ? MDS_TOO_SHORT : MDS_OK);
-        same(line, "end", found.end, label->end), same(line, "length", found.length, wanted);
+        same(line, "end", found.end, label->end), same(line, "length", found.length, size);
         same(line, "start", found.start, label->start);
-        same(line, "what else is written", is_left(BUFFER, room < wanted ? 0 : wanted), true);
+        same(line, "what else is written", is_left(BUFFER, room < size ? 0 : size), true);
     }
-    label_of(bytes, length, from, in_table, table, wanted);
-    same(line, "text", memcmp(whole(BUFFER) + (at_front ? 0 : ROOM_SIZE - wanted), text->bytes, wanted), 0);
+    label_of(bytes, length, from, in_table, table, size);
+    same(line, "text", memcmp(whole(BUFFER) + (at_front ? 0 : ROOM_SIZE - size), text->bytes, size), 0);
 }
 
 static void no_label(
@@ -109,7 +109,7 @@ static void longest_labels(void) {
 
 /* ---- Tables ---- */
 
-/* What a call over any table answers: nothing past the end, and no more than there is room for. */
+/* What a call over any table returns: nothing past the end, and no more than there is room for. */
 static void bounds(int line, uint32_t status, size_t start, size_t end, size_t length, size_t size, size_t room) {
     bool is_returned = status == MDS_OK || status == MDS_TOO_SHORT, is_refused = status == MDS_NOTHING || status == MDS_PAST_END;
     same(line, "status", is_returned || is_refused, true), same(line, "past", status == MDS_PAST_END, size < start);
@@ -220,7 +220,7 @@ static bool are_good(const struct table *table, size_t size) {
     return true;
 }
 
-/* What is left of a page behind `start` where the skips of its lines are left out; `places` has the place of each byte. */
+/* What is left of a page after `start` where the skips of its lines are left out; `places` has the place of each byte. */
 static size_t flat(const char *page, size_t size, size_t start, const struct table *table, char *text, size_t *places) {
     size_t length = 0;
     for (size_t i = start; i < size; i++) {
@@ -248,15 +248,15 @@ enum { PAGE = 24 };
 
 /* With a table, what is returned of a page is what is returned without one of the page in which it is left out. */
 static void is_flat(const char *page, size_t start, const struct table *table) {
-    char text[PAGE], found[PAGE], wanted[PAGE];
+    char text[PAGE], found[PAGE], expected[PAGE];
     size_t places[PAGE], length = flat(page, PAGE, start, table, text, places);
     if (joins_endings(text, places, length))
         return;
     struct mds_label label = label_of(page, PAGE, start, false, table, PAGE);
     memcpy(found, whole(BUFFER) + (at_front ? 0 : ROOM_SIZE - PAGE), PAGE);
     struct mds_label other = label_of(text, length, 0, false, &none, PAGE);
-    memcpy(wanted, whole(BUFFER) + (at_front ? 0 : ROOM_SIZE - PAGE), PAGE);
-    SAME(label.status, other.status), SAME(label.length, other.length), SAME(memcmp(found, wanted, PAGE), 0);
+    memcpy(expected, whole(BUFFER) + (at_front ? 0 : ROOM_SIZE - PAGE), PAGE);
+    SAME(label.status, other.status), SAME(label.length, other.length), SAME(memcmp(found, expected, PAGE), 0);
     SAME(label.end, other.status == MDS_OK ? places[other.end - 1] + 1 : 0);
     struct mds_tag tag = tag_of(page, PAGE, start, table, PAGE), plain = tag_of(text, length, 0, &none, PAGE);
     SAME(tag.status, plain.status), SAME(tag.end, plain.status == MDS_OK ? places[plain.end - 1] + 1 : 0);

@@ -18,8 +18,8 @@ import { Pages } from "./pages.mjs";
 const ALIGNMENTS = { [c.ALIGN_NONE]: "none", [c.ALIGN_LEFT]: "left", [c.ALIGN_CENTER]: "center", [c.ALIGN_RIGHT]: "right" };
 
 /**
- * The scanners of lines and blocks. Each begins at the place `at`, and reads up to the place `end` at most; options stand behind
- * these. What stands alone in an answer is the place behind what was scanned; null says that nothing of the kind stands there.
+ * The scanners of lines and blocks. Each begins at the place `at`, and reads up to the place `end` at most; options stand after
+ * these. What stands alone in an answer is the offset after what was scanned; null says that nothing of the kind stands there.
  * @template {string | Uint8Array} Made
  * @extends {Pages<Made>}
  */
@@ -30,7 +30,7 @@ export class Blocks extends Pages {
     }
 
     /**
-     * The place behind this ASCII character, or byte, where it is the first one.
+     * The offset after this ASCII character, or byte, where it is the first one.
      * @param {string | number} character
      */
     scanCh(character, at = 0, end = this.length) {
@@ -38,7 +38,7 @@ export class Blocks extends Pages {
     }
 
     /**
-     * The place behind as many of this ASCII character, or byte, as stand there.
+     * The offset after as many of this ASCII character, or byte, as stand there.
      * @param {string | number} character
      */
     scanChRepeat(character, at = 0, end = this.length) {
@@ -46,7 +46,7 @@ export class Blocks extends Pages {
     }
 
     /**
-     * The place behind as many bytes there as are among the accepted ones: ASCII characters, or any bytes of a text of bytes.
+     * The offset after as many bytes there as are among the accepted ones: ASCII characters, or any bytes of a text of bytes.
      * @param {string | Uint8Array} accepted
      */
     scanWhile(accepted, at = 0, end = this.length) {
@@ -73,34 +73,34 @@ export class Blocks extends Pages {
         return [block.address, block.bytes.length];
     }
 
-    /** The place behind the white space there that ends no line. */
+    /** The offset after the white space there that ends no line. */
     scanWhitespaceInLine(at = 0, end = this.length) {
         return this.#place("scanWhitespaceInLine", at, end);
     }
 
-    /** The place behind the line ending there, or there at the end. (2.1) */
+    /** The offset after the line ending there, or there at the end. (2.1) */
     scanEol(at = 0, end = this.length) {
-        return this.behind("scanEol", at, end);
+        return this.after("scanEol", at, end);
     }
 
-    /** The place behind the line and its ending, LF, CR LF or CR. (2.1) */
+    /** The offset after the line and its ending, LF, CR LF or CR. (2.1) */
     scanLine(at = 0, end = this.length) {
         return this.#place("scanLine", at, end);
     }
 
-    /** The place behind the first LF, or the end where there is none. It knows LF alone. */
+    /** The offset after the first LF, or the end where there is none. It knows LF alone. */
     scanNextline(at = 0, end = this.length) {
         return this.#place("scanNextline", at, end);
     }
 
-    /** The place behind the rest of the line with its ending, where that is blank. (4.9) */
+    /** The offset after the rest of the line with its ending, where that is blank. (4.9) */
     scanBlankLine(at = 0, end = this.length) {
-        return this.behind("scanBlankLine", at, end);
+        return this.after("scanBlankLine", at, end);
     }
 
-    /** The place behind a block quote marker, `>` and at most one space. (5.1) */
+    /** The offset after a block quote marker, `>` and at most one space. (5.1) */
     scanBlockquoteStart(at = 0, end = this.length) {
-        return this.behind("scanBlockquoteStart", at, end);
+        return this.after("scanBlockquoteStart", at, end);
     }
 
     /**
@@ -109,8 +109,8 @@ export class Blocks extends Pages {
      */
     scanListitem(at = 0, end = this.length) {
         const { length, delimiter, start, indent } = this.scan("scanListitem", at, end);
-        const behind = this.behindLength(at, length);
-        return behind === null ? null : { end: behind, delimiter: String.fromCharCode(delimiter), start, indent };
+        const after = this.afterLength(at, length);
+        return after === null ? null : { end: after, delimiter: String.fromCharCode(delimiter), start, indent };
     }
 
     /**
@@ -133,9 +133,9 @@ export class Blocks extends Pages {
         return new LineStart(this.engine, this, this.limits(at, end), (it) => this.made(it));
     }
 
-    /** The place behind a thematic break and its line ending. (4.1) */
+    /** The offset after a thematic break and its line ending. (4.1) */
     scanHrule(at = 0, end = this.length) {
-        return this.behindLength(at, this.scan("scanHrule", at, end).length);
+        return this.afterLength(at, this.scan("scanHrule", at, end).length);
     }
 
     /** Where no thematic break begins: one begins at no place from this one on and before the answer. (4.1) */
@@ -149,13 +149,13 @@ export class Blocks extends Pages {
     }
 
     /**
-     * A setext heading's underline: the place behind its line, and its level. (4.3)
+     * A setext heading's underline: the offset after its line, and its level. (4.3)
      * @returns {Underline | null}
      */
     scanSetextHeading(at = 0, end = this.length) {
         const { length, level } = this.scan("scanSetextHeading", at, end);
-        const behind = this.behindLength(at, length);
-        return behind === null ? null : { end: behind, level };
+        const after = this.afterLength(at, length);
+        return after === null ? null : { end: after, level };
     }
 
     /** An opening code fence, without its info string. (4.5) */
@@ -164,13 +164,13 @@ export class Blocks extends Pages {
     }
 
     /**
-     * The place behind the fence that closes one of `count` of the character, with the spaces and tabs behind it; at the end of
+     * The offset after the fence that closes one of `count` of the character, with the spaces and tabs after it; at the end of
      * the text that end. (4.5)
      * @param {string | number} character
      * @param {number | bigint} count
      */
     scanClosingCodeFence(character, count, at = 0, end = this.length) {
-        return this.behind("scanClosingCodeFence", at, end, byteOf("character", character), sizeOf("count", count));
+        return this.after("scanClosingCodeFence", at, end, byteOf("character", character), sizeOf("count", count));
     }
 
     /**
@@ -186,14 +186,14 @@ export class Blocks extends Pages {
     }
 
     /**
-     * The place behind what closes a metadata block that was opened by the character.
+     * The offset after what closes a metadata block that was opened by the character.
      * @param {string | number} character
      */
     scanClosingMetadataBlock(character, at = 0, end = this.length) {
-        return this.behind("scanClosingMetadataBlock", at, end, byteOf("character", character));
+        return this.after("scanClosingMetadataBlock", at, end, byteOf("character", character));
     }
 
-    /** Whether the line can interrupt a paragraph, behind at most three columns of indent. (4.8) */
+    /** Whether the line can interrupt a paragraph, after at most three columns of indent. (4.8) */
     interruptsParagraph(at = 0, end = this.length) {
         return /** @type {boolean} */ (this.scan("interruptsParagraph", at, end));
     }
@@ -221,7 +221,7 @@ export class Blocks extends Pages {
     }
 
     /**
-     * The delimiter row of a table: the place behind it, and how its columns are aligned. (GitHub Flavored Markdown 0.29, 4.10)
+     * The delimiter row of a table: the offset after it, and how its columns are aligned. (GitHub Flavored Markdown 0.29, 4.10)
      * @returns {TableHead | null}
      */
     scanTableHead(at = 0, end = this.length) {
@@ -242,14 +242,14 @@ export class Blocks extends Pages {
     }
 
     /**
-     * The place behind what is always there, of no bytes too.
+     * The offset after what is always there, of no bytes too.
      * @param {string} name
      * @param {number} at
      * @param {number} end
      * @param {...unknown} given
      */
     #place(name, at, end, ...given) {
-        return /** @type {number} */ (this.behind(name, at, end, ...given));
+        return /** @type {number} */ (this.after(name, at, end, ...given));
     }
 
     /**
@@ -261,6 +261,6 @@ export class Blocks extends Pages {
      */
     #fence(name, at, end, ...given) {
         const { length, byte } = this.scan(name, at, end, ...given);
-        return length === NONE ? null : { end: /** @type {number} */ (this.behindLength(at, length)), character: String.fromCharCode(byte) };
+        return length === NONE ? null : { end: /** @type {number} */ (this.afterLength(at, length)), character: String.fromCharCode(byte) };
     }
 }

@@ -112,7 +112,7 @@ export class Engine {
     }
 
     /**
-     * The same function, behind whose fault the module begins anew.
+     * The same function, after whose fault the module begins anew.
      * @param {Function} call
      * @returns {(...given: any[]) => any}
      */

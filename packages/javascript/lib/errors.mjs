@@ -23,7 +23,7 @@ export class LoneSurrogate extends Refusal {
     }
 }
 
-/** The table of what is left out is none of the text. */
+/** The table of what is left out is not of this text. */
 export class BadSkips extends Refusal {}
 
 /** A limit or an indent is so large that columns can't be added to it. */
@@ -84,7 +84,7 @@ export class ModuleFault extends LoadError {}
 /** @type {Map<number, [new (message: string) => Refusal, string]>} */
 const REFUSALS = new Map([
     [c.NOT_UTF8, [NotUtf8, "the text is not UTF-8"]],
-    [c.BAD_SKIPS, [BadSkips, "the table of what is left out is none of the text"]],
+    [c.BAD_SKIPS, [BadSkips, "the table of what is left out is not of this text"]],
     [c.TOO_LARGE, [TooLarge, "a limit or an indent is so large that columns can't be added to it"]],
     [c.EMPTY, [Empty, "there are no bytes"]],
     [c.NO_MEMORY, [OutOfMemory, "memory was refused"]],

@@ -17,10 +17,10 @@ export function written(given) {
  * What is thrown for a value of another type.
  * @param {string} name of the argument
  * @param {unknown} given
- * @param {string} wanted
+ * @param {string} expected
  */
-export function wrongType(name, given, wanted) {
-    return new TypeError(`\`${name}\` is ${written(given)}, and not ${wanted}`);
+export function wrongType(name, given, expected) {
+    return new TypeError(`\`${name}\` is ${written(given)}, and not ${expected}`);
 }
 
 /**
@@ -31,7 +31,7 @@ export function wrongType(name, given, wanted) {
 export function bytesOf(name, given) {
     if (given instanceof Uint8Array) return new Uint8Array(given);
     if (typeof given !== "string") throw wrongType(name, given, "a string or a Uint8Array");
-    const isWhole = /** @type {any} */ (given).isWellFormed?.() ?? false; // older engines lack it
+    const isWhole = /** @type {any} */ (given).isWellFormed?.() ?? false; // older engines have no such call
     const lone = isWhole ? -1 : given.search(/\p{Surrogate}/u);
     if (lone >= 0) throw new LoneSurrogate(lone);
     return ENCODER.encode(given);

@@ -1,8 +1,8 @@
-/** The free memory of a module behind its constants and its stack. */
+/** The free memory of a module after its constants and its stack. */
 
 const PAGE = 65536;
 
-/** Blocks one behind another, of which only the last can grow or be given back by itself. */
+/** Blocks one after another, of which only the last can grow or be given back by itself. */
 export class Heap {
     #memory;
     #last = 0;

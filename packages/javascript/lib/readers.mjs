@@ -10,7 +10,7 @@ const { size: SIZE } = c.STRUCTS.block;
 const SHORT = 4096;
 
 /**
- * Reads a page that comes piece by piece, and tells each leaf block once what has come shows where it ends. It keeps what is not
+ * Reads a page that comes piece by piece, and returns each leaf block once what has come shows where it ends. It keeps what is not
  * returned yet, and the containers that are open, so that it has memory for the longest block and the deepest nesting.
  *
  * A block is as `scanBlocks` has it of the whole page, with the places of the page's bytes, and its content as bytes; but a
@@ -23,7 +23,7 @@ export class BlockReader {
     #pieces = [];
     /** How many bytes these have, and have to have before they are read again. */
     #size = 0;
-    #wanted = 0;
+    #needed = 0;
     /** @type {Leaf<Uint8Array>[]} What is ready and not returned, as memory was refused then. */
     #ready = [];
     /** The structs of the containers that are open, with room for more, and the same as they began. */
@@ -54,7 +54,7 @@ export class BlockReader {
         const piece = bytesOf("data", data);
         this.#pieces.push(piece);
         this.#size += piece.length;
-        return this.#size < this.#wanted ? [] : this.#returned(false);
+        return this.#size < this.#needed ? [] : this.#returned(false);
     }
 
     /**
@@ -78,7 +78,7 @@ export class BlockReader {
         } finally {
             this.#pieces = [text.bytes.slice(size - this.#size)];
         }
-        this.#wanted = this.#size > SHORT ? 2 * this.#size : 0;
+        this.#needed = this.#size > SHORT ? 2 * this.#size : 0;
         return this.#ready.splice(0);
     }
 

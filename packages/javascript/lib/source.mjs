@@ -77,7 +77,7 @@ export class Source {
     }
 
     /**
-     * The same, or a place in bytes that there is none of where the place is past the end.
+     * The same, or an offset past the bytes where it is past the end.
      * @protected
      * @param {number | bigint} place
      * @param {string} name
@@ -142,24 +142,24 @@ export class Source {
     }
 
     /**
-     * The place behind what a function of C finds the length of, or null.
+     * The offset after what a function of C finds the length of, or null.
      * @protected
      * @param {string} name
      * @param {number} at
      * @param {number} end
      * @param {...unknown} given
      */
-    behind(name, at, end, ...given) {
-        return this.behindLength(at, this.scan(name, at, end, ...given));
+    after(name, at, end, ...given) {
+        return this.afterLength(at, this.scan(name, at, end, ...given));
     }
 
     /**
-     * The place so many bytes behind another one, or null where there are none to tell of.
+     * The offset so many bytes after another one, or null where there is none.
      * @protected
      * @param {number} at
      * @param {number} length
      */
-    behindLength(at, length) {
+    afterLength(at, length) {
         return length === NONE ? null : this.placeOf(this.inBytes(at) + length);
     }
 

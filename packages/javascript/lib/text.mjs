@@ -95,18 +95,18 @@ export class Text extends Inlines {
         return this.#part("scanWikilinkPipe", at, end, to - from);
     }
 
-    /** Whether an HTML block that a name of start condition 6 opens begins there, behind the `<`. (4.6) */
+    /** Whether an HTML block that a name of start condition 6 opens begins there, after the `<`. (4.6) */
     startsHtmlBlockType6(at = 0, end = this.length) {
         return /** @type {boolean} */ (this.scan("startsHtmlBlockType6", at, end));
     }
 
-    /** The place behind the tag that stands alone in the rest of its line. (4.6, start condition 7) */
+    /** The offset after the tag that stands alone in the rest of its line. (4.6, start condition 7) */
     scanHtmlType7(at = 0, end = this.length) {
-        return this.behind("scanHtmlType7", at, end);
+        return this.after("scanHtmlType7", at, end);
     }
 
     /**
-     * The kind of the HTML block that begins there, behind the indent of its line. (4.6)
+     * The kind of the HTML block that begins there, after the indent of its line. (4.6)
      * @returns {HtmlBlockKind | null}
      */
     scanHtmlBlockStart(at = 0, end = this.length) {
@@ -114,7 +114,7 @@ export class Text extends Inlines {
     }
 
     /**
-     * Whether the line ends an HTML block of this kind: as its last line, or as the blank line behind it. (4.6)
+     * Whether the line ends an HTML block of this kind: as its last line, or as the blank line after it. (4.6)
      * @param {HtmlBlockKind} kind
      */
     endsHtmlBlock(kind, at = 0, end = this.length) {
@@ -123,14 +123,14 @@ export class Text extends Inlines {
         return isAnswer(this.scan("endsHtmlBlock", at, end, kind));
     }
 
-    /** The place behind an open or closing tag that holds no line ending. (6.6) */
+    /** The offset after an open or closing tag that holds no line ending. (6.6) */
     scanHtmlTag(at = 0, end = this.length) {
-        return this.behind("scanHtmlTag", at, end);
+        return this.after("scanHtmlTag", at, end);
     }
 
     /**
      * A table of what is left out at the fronts of lines, the markers and the indent of their containers: at each place so many
-     * bytes, all of them ASCII. It is made once for a page. BadSkips where it is none.
+     * bytes, all of them ASCII. It is made once for a page. BadSkips where it is not of this text.
      * @param {[place: number | bigint, length: number | bigint][]} rows
      */
     skips(rows) {
@@ -145,7 +145,7 @@ export class Text extends Inlines {
     }
 
     /**
-     * An open or closing tag, over lines of which the skips are left out: the place behind it, and what it is without them, or
+     * An open or closing tag, over lines of which the skips are left out: the offset after it, and what it is without them, or
      * null where none are. (6.6)
      * @param {number} [at]
      * @param {number} [end]
@@ -189,7 +189,7 @@ export class Text extends Inlines {
     }
 
     /**
-     * The place behind what begins at each of the places in turn, or null, as an HtmlScanGuard finds them. Before a place that
+     * The offset after what begins at each of the places in turn, or null, as an HtmlScanGuard finds them. Before a place that
      * is refused the run stops: NoOpener, NotRising or InsideFind, whose `run` has the ends that were found before. (6.6)
      * @param {(number | bigint)[]} places
      */
@@ -233,7 +233,7 @@ export class Text extends Inlines {
 
     /**
      * The link label whose opening bracket stands just before the place, over lines of which the skips of the page are left
-     * out: the place behind its closing bracket, its words, joined by one space, and the place where they stand as they are, or
+     * out: the offset after its closing bracket, its words, joined by one space, and the place where they stand as they are, or
      * null. In a cell of a table a pipe loses the backslash before it. (6.3)
      * @param {number} [at]
      * @param {number} [end]
@@ -359,7 +359,7 @@ export class Skips {
 
 /**
  * What the scans of one text have searched in vain, so that none of them searches it again: k scans at rising places of n bytes,
- * each at or behind the end that was found before it, pass over at most 4n + 8k bytes.
+ * each at or after the end that was found before it, pass over at most 4n + 8k bytes.
  */
 export class HtmlScanGuard {
     #scan;
@@ -374,7 +374,7 @@ export class HtmlScanGuard {
     }
 
     /**
-     * The place behind the comment, CDATA section, declaration or processing instruction whose `<!` or `<?` ends at the place.
+     * The offset after the comment, CDATA section, declaration or processing instruction whose `<!` or `<?` ends at the place.
      * NoOpener where none ends there. (6.6)
      * @param {number | bigint} at
      */

@@ -8,14 +8,14 @@ export const MOST_COLUMNS = 200;
  * Columns that one call took, by its number in the line, or that none did; `→` is where a tab begins, `·` its other columns.
  */
 
-/** The cells of a line: of each column its character, where that stands, and how many of its columns come behind. */
+/** The cells of a line: of each column its character, where that stands, and how many of its columns come after. */
 function cellsOf(text, at) {
     const cells = [];
     let place = at;
     for (const character of text.replace(/[\r\n]+$/, "")) {
         const width = character === "\t" ? 4 - (cells.length % 4) : 1;
         for (let column = 0; column < width; column++) {
-            cells.push({ place, behind: width - column - 1, character, isFirst: column === 0 });
+            cells.push({ place, after: width - column - 1, character, isFirst: column === 0 });
         }
         place += character.codePointAt(0) < 0x80 ? 1 : new TextEncoder().encode(character).length;
         if (cells.length > MOST_COLUMNS) break;
@@ -31,7 +31,7 @@ function drawn({ character, isFirst }, isTaken) {
 
 /** Whether the cell stands before the place that was reached with so many columns pending. */
 function isBefore(cell, { place, pending }) {
-    return cell.place < place && !(cell.behind < pending && isLastOf(cell, place));
+    return cell.place < place && !(cell.after < pending && isLastOf(cell, place));
 }
 
 /** Whether the byte of the cell is the last one before the place: only its columns can be pending. */

@@ -1,7 +1,7 @@
 /** What the containers of a block, block quotes and list items, take of its lines, by line starts. (5.1, 5.2) */
 
 /** @typedef {{ call: string, given: unknown[], answer: any }} Returned a call of the package, and its answer */
-/** @typedef {Returned & { kind: string, place: number, pending: number }} Taken what it took of the line, up to a place and columns behind */
+/** @typedef {Returned & { kind: string, place: number, pending: number }} Taken what it took of the line, up to a place and columns after */
 
 /** A line, while it is read: the place in it, and what each call has taken up to there. */
 export class Line {

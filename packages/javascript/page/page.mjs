@@ -3,7 +3,7 @@ import { answers, drawnAnswer, drawnHtml, drawnLabels, drawnOutline, drawnRow, d
 import { fill, newFrame } from "./frame.mjs";
 
 const SAMPLE = `# Tabs are columns
->\t- A tab behind a quote: the quote takes one
+>\t- A tab after a quote: the quote takes one
 >\t  column of it, the item what is left.
 
 A paragraph with a [link][two words], an <em>inline</em> tag,
@@ -15,7 +15,7 @@ lines that go on
 
 1. one
    - two
-\t- three, behind a tab
+\t- three, after a tab
 
 | column | aligned |
 |--------|:-------:|
@@ -103,7 +103,7 @@ function drawRendered(it) {
     settle("drawn");
 }
 
-/** Marks the source of an element, and tells where it stands. */
+/** Marks the source of an element, and says where it stands. */
 function point(name, start, stop) {
     text.setSelectionRange(start, stop);
     mark(start, stop);
@@ -204,7 +204,7 @@ function follow() {
     marks.style.transform = `translate(${-text.scrollLeft}px, ${-text.scrollTop}px)`;
 }
 
-/** Marks the bytes of an answer in the text, and tells what it is. */
+/** Marks the bytes of an answer in the text, and says what it is. */
 function show(it) {
     const found = answers.get(it);
     if (!found) return;

@@ -5,7 +5,7 @@ const PUNCTUATION = new Set([..."!\"#$%&'()*+,-./:;<=>?@[\\]^_`{|}~"].map((it) =
 const [LF, BACKSLASH, BACKTICK, LESS, OPEN, CLOSE, PAREN] = [..."\n\\`<[]("].map((it) => it.charCodeAt(0));
 const [EXCLAMATION, QUESTION] = [..."!?"].map((it) => it.charCodeAt(0));
 
-/** Lines of a text, one behind another with LF between them, and where they stand in the page. */
+/** Lines of a text, one after another with LF between them, and where they stand in the page. */
 export class Joined {
     /** @type {{ from: number, to: number, at: number }[]} */
     #lines = [];
@@ -143,7 +143,7 @@ export class Inline {
         this.place++;
     }
 
-    /** The place behind a closing bracket, and what makes a link of it. (6.3) */
+    /** The offset after a closing bracket, and what makes a link of it. (6.3) */
     #linkEnd() {
         const next = this.place + 1;
         const label = this.label(next);

@@ -70,7 +70,7 @@ export class Reading {
     }
 
     /**
-     * What a block has in a line, as a call tells it. The words of a paragraph are added to those before.
+     * What a block has in a line, as a call returns it. The words of a paragraph are added to those before.
      * @param {any} block
      * @param {Line} line
      * @param {number} index
@@ -95,7 +95,7 @@ export class Reading {
     }
 
     /**
-     * What this call tells of what is left of the line.
+     * What this call returns of what is left of the line.
      * @param {Line} line
      * @param {string} name
      * @param {string} call

@@ -45,11 +45,11 @@ function described(text, at = 0, end = text.length) {
 
 test("each row, by itself, inside of other text, as bytes and in UTF-16 units", () => {
     assert.equal(rows.length, source.match(/^ {4}\{\d+, "/gm).length);
-    for (const [number, page, ...wanted] of rows) {
-        assert.deepEqual(described(scanners.text(page)), wanted, number);
-        assert.deepEqual(described(scanners.text(Buffer.from(page))), wanted, number);
-        assert.deepEqual(described(scanners.text(`é🍔${page}- é`), 6, 6 + page.length), wanted, number);
-        assert.deepEqual(described(scanners.text(`é🍔${page}- é`, { units: "utf-16" }), 3, 3 + page.length), wanted, number);
+    for (const [number, page, ...expected] of rows) {
+        assert.deepEqual(described(scanners.text(page)), expected, number);
+        assert.deepEqual(described(scanners.text(Buffer.from(page))), expected, number);
+        assert.deepEqual(described(scanners.text(`é🍔${page}- é`), 6, 6 + page.length), expected, number);
+        assert.deepEqual(described(scanners.text(`é🍔${page}- é`, { units: "utf-16" }), 3, 3 + page.length), expected, number);
     }
 });
 

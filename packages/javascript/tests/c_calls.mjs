@@ -1,7 +1,7 @@
 /**
  * Each function of the header by its name, as the package's calls answer it: what C would answer is made of the package's
  * answer. What C gives is given three times: as bytes by itself, inside of other bytes, and, where it is UTF-8, as a string
- * whose places are those of UTF-16 units, behind characters of several bytes. All must answer alike.
+ * whose places are those of UTF-16 units, after characters of several bytes. All must answer alike.
  */
 import * as c from "../lib/c.mjs";
 import * as mds from "../proved_markdown.mjs";
@@ -11,7 +11,7 @@ export const NONE = 2n ** 64n - 1n;
 export const scanners = await mds.load(MODULE);
 
 const BEFORE = Buffer.from("<!>\xff", "latin1");
-const BEHIND = Buffer.from("-->]");
+const AFTER = Buffer.from("-->]");
 const BEFORE_UNITS = "é🍔\n";
 const STATUSES = [
     [mds.NotUtf8, c.NOT_UTF8],
@@ -73,11 +73,11 @@ function isInside(data, place) {
 /** The ways in which bytes are given, with these numbers, of which a string has no place inside of a character. */
 export function ways(data, numbers = []) {
     const made = [new Given(scanners.text(data), 0, data.length)];
-    const inside = Buffer.concat([BEFORE, data, BEHIND]);
+    const inside = Buffer.concat([BEFORE, data, AFTER]);
     made.push(new Given(scanners.text(inside), BEFORE.length, BEFORE.length + data.length));
     if (isText(data) && !numbers.some((it) => isInside(data, it))) {
-        const text = scanners.text(BEFORE_UNITS + data.toString("utf8") + BEHIND, { units: "utf-16" });
-        made.push(new Given(text, BEFORE_UNITS.length, text.length - BEHIND.length));
+        const text = scanners.text(BEFORE_UNITS + data.toString("utf8") + AFTER, { units: "utf-16" });
+        made.push(new Given(text, BEFORE_UNITS.length, text.length - AFTER.length));
     }
     return made;
 }
@@ -149,7 +149,7 @@ function delimiterRun(d, place) {
     return { status, byte: code(found.character), count: found.end - at, can_open: found.canOpen, can_close: found.canClose };
 }
 
-/** A text that is made, as struct mds_text tells it. */
+/** A text that is made, as struct mds_text has it. */
 const text = (call, textOf = (found) => bytesOf(found.text)) => (d) => {
     const [status, found] = outcomeOf(() => call(d));
     if (status !== c.OK) return { status, taken: 0, text: "" };

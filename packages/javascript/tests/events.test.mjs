@@ -59,12 +59,12 @@ function linesOf(events, byteOf = (place) => place) {
 test("each row", () => {
     let tried = 0;
     for (const [name, extensions] of [["rows", []], ["extended", EVERY]]) {
-        for (const [page, wanted] of rowsOf(name)) {
+        for (const [page, expected] of rowsOf(name)) {
             tried += 1;
             const inBytes = (place) => Buffer.byteLength(page.slice(0, place));
-            assert.equal(linesOf(scanners.events(page, { extensions }), inBytes), wanted);
-            assert.equal(linesOf(scanners.text(page).events({ extensions })), wanted);
-            assert.equal(linesOf(scanners.events(new TextEncoder().encode(page), { extensions })), wanted);
+            assert.equal(linesOf(scanners.events(page, { extensions }), inBytes), expected);
+            assert.equal(linesOf(scanners.text(page).events({ extensions })), expected);
+            assert.equal(linesOf(scanners.events(new TextEncoder().encode(page), { extensions })), expected);
         }
     }
     hold("events.c", tried);
@@ -73,7 +73,7 @@ test("each row", () => {
 test("each example of the specification", () => {
     const spec = readFileSync(new URL("tests/commonmark/spec-0.31.2.txt", TOP), "utf8").replaceAll("→", "\t");
     const examples = spec.split(`\n${FENCE} example\n`).slice(1).map((it) => it.split(FENCE)[0].match(/^(?:\.\n|([^]*?\n)\.\n)([^]*)$/));
-    for (const [, page = "", wanted] of examples) assert.equal(scanners.html(page, { safe: false }), wanted);
+    for (const [, page = "", expected] of examples) assert.equal(scanners.html(page, { safe: false }), expected);
     hold("examples_by_html", examples.length);
 });
 

@@ -24,10 +24,10 @@ function rowsOf(name) {
 }
 
 function areRows(name, options) {
-    for (const [page, wanted] of rowsOf(name)) {
-        assert.equal(scanners.html(page, options), wanted);
-        assert.equal(scanners.text(page, { units: "utf-16" }).html(options), wanted);
-        assert.equal(Buffer.from(scanners.html(new TextEncoder().encode(page), options)).toString(), wanted);
+    for (const [page, expected] of rowsOf(name)) {
+        assert.equal(scanners.html(page, options), expected);
+        assert.equal(scanners.text(page, { units: "utf-16" }).html(options), expected);
+        assert.equal(Buffer.from(scanners.html(new TextEncoder().encode(page), options)).toString(), expected);
     }
 }
 
@@ -47,7 +47,7 @@ test("safe is the default", () => {
     assert.throws(() => scanners.html("a", { unsafe: true }), { name: "TypeError", message: /unsafe/ });
 });
 
-test("extensions that there are none of", () => {
+test("unknown extensions", () => {
     assert.equal(scanners.html("[[a|b]]", { safe: false, extensions: ["wikilinks"] }), '<p><a href="a">b</a></p>\n');
     for (const it of ["footnotes", "Table", "", "toString", 2, null]) {
         assert.throws(() => scanners.html("a", { extensions: ["table", it] }), { name: "TypeError", message: /there is no extension/ });

@@ -14,9 +14,9 @@ const WORD = String.raw`("(?:[^"\\]|\\.)*")`;
 const DEFINITION = String.raw`\{${WORD}, ${WORD}, ${WORD}\}`;
 const ROW = new RegExp(String.raw`^    \{(\d+), ${WORD},\s*(?:\{((?:${DEFINITION}(?:, )?)+)\},\s*)?${WORD}\},$`, "gm");
 const source = readFileSync(new URL("packages/c/tests/inlines.c", TOP), "utf8");
-const rows = [...source.matchAll(ROW)].map(([, number, text, definitions, , , , wanted]) => {
+const rows = [...source.matchAll(ROW)].map(([, number, text, definitions, , , , expected]) => {
     const found = [...(definitions ?? "").matchAll(new RegExp(DEFINITION, "g"))];
-    return [number, JSON.parse(text), found.map((it) => it.slice(1).map(JSON.parse)), JSON.parse(wanted)];
+    return [number, JSON.parse(text), found.map((it) => it.slice(1).map(JSON.parse)), JSON.parse(expected)];
 });
 const MARKS = {
     softBreak: "\n",
@@ -51,12 +51,12 @@ function described(text, definitions, at = 0, end = text.length) {
 
 test("each row, by itself, inside of other text, as bytes and in UTF-16 units", () => {
     assert.equal(rows.length, source.match(/^ {4}\{\d+, "/gm).length);
-    for (const [number, text, definitions, wanted] of rows) {
+    for (const [number, text, definitions, expected] of rows) {
         const [bytes, inside] = [Buffer.from(text), `é🍔[${text}]*é`];
-        assert.equal(described(scanners.text(text), definitions), wanted, number);
-        assert.equal(described(scanners.text(bytes), definitions), wanted, number);
-        assert.equal(described(scanners.text(inside), definitions, 7, 7 + bytes.length), wanted, number);
-        assert.equal(described(scanners.text(inside, { units: "utf-16" }), definitions, 4, 4 + text.length), wanted, number);
+        assert.equal(described(scanners.text(text), definitions), expected, number);
+        assert.equal(described(scanners.text(bytes), definitions), expected, number);
+        assert.equal(described(scanners.text(inside), definitions, 7, 7 + bytes.length), expected, number);
+        assert.equal(described(scanners.text(inside, { units: "utf-16" }), definitions, 4, 4 + text.length), expected, number);
     }
 });
 

@@ -19,7 +19,7 @@ const CALLS = {
 };
 const ALERTS = [null, "note", "tip", "important", "warning", "caution"];
 const RUN_CALLS = ["space", "upto", "eol", "quote", "list", "definition"];
-const BEHIND = {
+const AFTER = {
     ITEM: ["delimiter", "start", "indent"],
     COLUMNS: ["status", "columns"],
     NO_ITEM: ["status"],
@@ -107,13 +107,13 @@ export class LineRows {
         else if (macro === "LINE_RUN") this.#checkRun(row, ...given);
         else if (macro === "LINE_REST") this.#checkRest(row, ...given);
         else if (macro === "AT") this.#rows.same(row, this.#place(), given.slice(0, 2));
-        else this.#checkBehind(row, ...given);
+        else this.#checkAfter(row, ...given);
     }
 
-    /** One call behind others. */
-    #checkBehind(row, made, ...wanted) {
+    /** One call after others. */
+    #checkAfter(row, made, ...expected) {
         const found = this.#rows.found(made);
-        this.#rows.same(row, BEHIND[row.macro].map((it) => found[it]), wanted);
+        this.#rows.same(row, AFTER[row.macro].map((it) => found[it]), expected);
     }
 
     #checkRun(row, data, calls, status, place, rest, answers) {
@@ -129,7 +129,7 @@ export class LineRows {
     }
 
     /** The first so many calls in one run, and the others in a second one. */
-    #checkParts(row, d, named, first, wanted) {
+    #checkParts(row, d, named, first, expected) {
         const start = d.text.lineStart(d.at, d.end);
         let [status, run] = outcomeOf(() => start.run(named.slice(0, first)));
         let answers = run.run ?? run;
@@ -137,9 +137,9 @@ export class LineRows {
             [status, run] = outcomeOf(() => start.run(named.slice(first)));
             answers = [...answers, ...(run.run ?? run)];
         }
-        const made = answers.map((it, index) => answer(wanted.calls[index][0], it));
+        const made = answers.map((it, index) => answer(expected.calls[index][0], it));
         const found = [status, d.place(start.place), bytesOf(start.rest()), made];
-        assert.deepEqual(plain(found), plain([wanted.status, wanted.place, wanted.rest, wanted.answers]), `line ${row.line}`);
+        assert.deepEqual(plain(found), plain([expected.status, expected.place, expected.rest, expected.answers]), `line ${row.line}`);
     }
 
     #checkRest(row, data, place, pending, phase, rest) {

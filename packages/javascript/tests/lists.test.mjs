@@ -15,10 +15,10 @@ const all = (text, at, end) => text.scanLists(at, end).map(described).join("");
 
 test("each row, by itself, as bytes and inside of other text", () => {
     assert.equal(rows.length, source.match(/^ {4}\{/gm).length);
-    for (const [page, wanted] of rows) {
-        assert.equal(all(scanners.text(page)), wanted, page);
-        assert.equal(all(scanners.text(Buffer.from(page))), wanted, page);
-        assert.equal(all(scanners.text(`- é\n${page}- b\n`, { units: "utf-16" }), 4, 4 + page.length), wanted, page);
+    for (const [page, expected] of rows) {
+        assert.equal(all(scanners.text(page)), expected, page);
+        assert.equal(all(scanners.text(Buffer.from(page))), expected, page);
+        assert.equal(all(scanners.text(`- é\n${page}- b\n`, { units: "utf-16" }), 4, 4 + page.length), expected, page);
     }
 });
 

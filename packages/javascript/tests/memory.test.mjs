@@ -53,9 +53,9 @@ test("memory that is refused within a call has an error, and the next call has i
         () => [...scanners.text("*[a]*").scanInlines(0, 5, { labels: ["A"], strikethrough: true })],
     ];
     for (const call of calls) {
-        const wanted = call();
+        const expected = call();
         assert.throws(() => refusing(call), mds.OutOfMemory);
-        assert.deepEqual(call(), wanted);
+        assert.deepEqual(call(), expected);
     }
 });
 

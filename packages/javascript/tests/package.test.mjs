@@ -1,6 +1,6 @@
 /**
  * What no row of packages/c/tests says: bytes of each number, places in UTF-16 units, bad input, large texts, and modules that
- * are none.
+ * are broken.
  */
 import assert from "node:assert/strict";
 import { cpSync, mkdtempSync, readFileSync, rmSync, writeFileSync } from "node:fs";
@@ -58,7 +58,7 @@ test("what is no byte, number, place or text is refused", () => {
     assert.throws(() => text("🍔", { units: "utf-16" }).scanLine(1), RangeError);
 });
 
-/** Of calls that are given something of another type, or a word that there is none of, what their message has to name. */
+/** Of calls that are given something of another type, or an unknown word, what their message has to name. */
 const WRONG = [
     ["`at` is", [(page) => page.scanLine("0"), (page) => page.scanLinkLabel({}), (page) => page.slice(null), (page) => page.htmlScanGuard().scan("2")]],
     ["`end` is", [(page) => page.scanLine(0, "1"), (page) => page.scanLinkDest(0, { maxNext: 3 }), (page) => page.unescape(0, true)]],
@@ -98,7 +98,7 @@ const WRONG = [
     ["the number of upto", [(page) => page.lineStart().run([["upto"]]), (page) => page.lineStart().run([["upto", "3"]])]],
 ];
 
-test("what is of another type, and words that there are none of, are refused by their names", () => {
+test("what is of another type, and unknown words, are refused by their names", () => {
     for (const [words, calls] of WRONG) {
         for (const call of calls) {
             assert.throws(() => call(text("> a")), (why) => why instanceof TypeError && why.message.includes(words), `${words}: ${call}`);
@@ -106,7 +106,7 @@ test("what is of another type, and words that there are none of, are refused by 
     }
 });
 
-test("the end stands behind the place, and options behind both", () => {
+test("the end stands after the place, and options after both", () => {
     const page = text("&amp;x&amp;y"); // from 5 to 11 stands `x&amp;`
     assert.equal(page.unescape(5, 11), "x&");
     assert.equal(text("\\\\|").unescape(0, 3, { inTable: true }), "|"); // two backslashes and a pipe, in a cell
@@ -188,9 +188,9 @@ test("a text is its own copy, and made texts are as what it is made of", () => {
 
 test("all entities of HTML", () => {
     const names = new URL("crates/html_entities_names/", TOP);
-    const wanted = readFileSync(new URL("stdout", names), "utf8");
+    const expected = readFileSync(new URL("stdout", names), "utf8");
     const found = readFileSync(new URL("stdin", names), "utf8").split("\n").slice(0, -1).map((line) => meaning(line));
-    assert.equal(`${found.join("\n")}\n`, wanted);
+    assert.equal(`${found.join("\n")}\n`, expected);
 });
 
 /** What crates/html_entities_names prints of a line. */
@@ -269,7 +269,7 @@ test("a bundle that has no URL can be imported, and given the module", async () 
     rmSync(folder, { recursive: true });
 });
 
-test("each function is called, and the package tells one version", () => {
+test("each function is called, and the package has one version", () => {
     const files = ["source", "blocks", "events", "inlines", "line_start", "pages", "readers", "text"].map((it) => new URL(`../lib/${it}.mjs`, import.meta.url));
     const sources = [...files, new URL("../proved_markdown.mjs", import.meta.url)].map((it) => readFileSync(it, "utf8")).join("");
     const missing = Object.keys(FUNCTIONS).filter((it) => !new RegExp(`"${it}"|calls\\.${it}\\b`).test(sources));

@@ -29,8 +29,8 @@ test("each page that has no definitions, in pieces of each size", () => {
     const plain = pages.map((it) => Buffer.from(it)).filter((it) => !it.includes("]:"));
     assert.ok(plain.length > 25);
     for (const page of plain) {
-        const wanted = [...scanners.text(page).scanBlocks()].map(returned);
-        for (let size = 1; size <= page.length; size++) assert.deepEqual(fed(page, size), wanted, `${page}`);
+        const expected = [...scanners.text(page).scanBlocks()].map(returned);
+        for (let size = 1; size <= page.length; size++) assert.deepEqual(fed(page, size), expected, `${page}`);
     }
 });
 

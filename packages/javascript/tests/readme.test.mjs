@@ -1,4 +1,4 @@
-/** The example of the README: behind `//` stands what a line answers. */
+/** The example of the README: after `//` stands what a line answers. */
 import assert from "node:assert/strict";
 import { readFileSync } from "node:fs";
 import { test } from "node:test";
@@ -14,6 +14,6 @@ test("the example of the README", async () => {
     const body = lines.map((it) => it.replace(/^(.*); \/\/ (.*)$/, "returned.push([$1, $2]);")).join("\n");
     const returned = [];
     await new AsyncFunction("load", "returned", body)(() => load(MODULE), returned);
-    returned.forEach(([found, wanted]) => assert.deepEqual(found, wanted));
+    returned.forEach(([found, expected]) => assert.deepEqual(found, expected));
     hold("examples", returned.length);
 });

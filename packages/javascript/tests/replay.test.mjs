@@ -1,7 +1,7 @@
 /**
  * The worked rows and the answers of pulldown-cmark 0.13.6 that crates/cmark_replay stores, and what the package answers.
  * packages/javascript/totals has how many there are. Left out are labels whose text ends at a line ending, since no call of C
- * ends one there, texts with a name that the table of the cases may lack, and heads of lines, for which C has no call.
+ * ends one there, texts with a name that the table of the cases may not have, and heads of lines, for which C has no call.
  */
 import assert from "node:assert/strict";
 import { readFileSync } from "node:fs";

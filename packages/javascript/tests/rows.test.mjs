@@ -29,8 +29,8 @@ class Rows {
     variables = {};
     lines = new LineRows(this);
 
-    same(row, found, wanted) {
-        assert.deepEqual(plain(found), plain(wanted), `${row.file}, line ${row.line}: ${row.macro}`);
+    same(row, found, expected) {
+        assert.deepEqual(plain(found), plain(expected), `${row.file}, line ${row.line}: ${row.macro}`);
         this.tried[row.file]++;
     }
 
@@ -65,10 +65,10 @@ class Rows {
         else if (value?.call in CALLS && Buffer.isBuffer(value.given[0])) this.variables[name] = this.found(value);
     }
 
-    checkSame(row, call, wanted) {
+    checkSame(row, call, expected) {
         const found = this.value(call);
-        const isNamed = wanted && typeof wanted === "object";
-        if (found !== undefined && typeof found !== "object" && !isNamed) this.same(row, Number(found), Number(wanted));
+        const isNamed = expected && typeof expected === "object";
+        if (found !== undefined && typeof found !== "object" && !isNamed) this.same(row, Number(found), Number(expected));
     }
 
     checkText(row, found, status, taken, text) {
@@ -76,9 +76,9 @@ class Rows {
     }
 
     /** A tag or a label over lines; of those in a page the place stands before the table. */
-    checkOver(row, data, ...wanted) {
-        const start = row.macro.endsWith("_AT") ? wanted.shift() : 0;
-        const [table, ...more] = wanted;
+    checkOver(row, data, ...expected) {
+        const start = row.macro.endsWith("_AT") ? expected.shift() : 0;
+        const [table, ...more] = expected;
         const skips = Array.isArray(table) ? table : (this.variables[table.name] ?? []);
         const call = row.macro.includes("TAG") ? tag : (d, rows, at) => label(d, rows, row.macro === "CELL", at);
         const one = this.alike(ways(data, [start, ...skips.map(([place]) => place)]).map((it) => call(it, skips, start)), row.macro);
@@ -94,8 +94,8 @@ class Rows {
     }
 
     checkHtmlRun(row, data, places, status, ends) {
-        const behind = Buffer.concat([data, Buffer.from("-->]")]);
-        for (const [bytes, end] of [[data, data.length], [behind, data.length]]) {
+        const after = Buffer.concat([data, Buffer.from("-->]")]);
+        for (const [bytes, end] of [[data, data.length], [after, data.length]]) {
             const [found, run] = outcomeOf(() => scanners.text(bytes).runInlineHtml(places, end));
             const all = (run.run ?? run).map((it) => it ?? NONE);
             assert.deepEqual(plain([found, all]), plain([status, ends]), `${row.file}, line ${row.line}`);

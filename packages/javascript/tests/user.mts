@@ -1,4 +1,4 @@
-/** What a user of the package writes in TypeScript; what stands behind `@ts-expect-error` must have an error. */
+/** What a user of the package writes in TypeScript; what stands after `@ts-expect-error` must have an error. */
 import { load, NotUtf8, type LineStart, type Text } from "proved-markdown";
 
 const scanners = await load();
@@ -31,7 +31,7 @@ console.log(scanners.isUnicodeWhitespace("a"), scanners.isUnicodePunctuation(33)
 
 // @ts-expect-error a place is a number
 page.scanLine("0");
-// @ts-expect-error options stand behind the end
+// @ts-expect-error options stand after the end
 page.scanLinkLabel({ inTable: true });
 // @ts-expect-error there is no such option
 page.unescape(0, 3, { intable: true });

@@ -1,4 +1,4 @@
-/* The functions of the library for CPython, on its stable ABI: what the package has by ctypes and in Python where this lacks. They
+/* The functions of the library for CPython, on its stable ABI: what the package has by ctypes and in Python where this is missing. They
  * take addresses and numbers, at which the package has looked, and answer a number, a bool, or the fields of a struct; those that
  * write into a buffer take its size, and answer the fields and the bytes. */
 #define Py_LIMITED_API 0x030B0000
@@ -8,9 +8,9 @@
 #include "proved_markdown.h"
 
 /* Whether so many are given, addresses and numbers; None is the null address. Else an exception is set. */
-static bool taken(size_t *it, int wanted, PyObject *const *given, Py_ssize_t count) {
-    if (count != wanted) return PyErr_Format(PyExc_TypeError, "%d arguments are wanted, and %zd given", wanted, count), false;
-    for (int at = 0; at < wanted; at++) it[at] = given[at] == Py_None ? 0 : PyLong_AsSize_t(given[at]);
+static bool taken(size_t *it, int expected, PyObject *const *given, Py_ssize_t count) {
+    if (count != expected) return PyErr_Format(PyExc_TypeError, "%d arguments are expected, and %zd given", expected, count), false;
+    for (int at = 0; at < expected; at++) it[at] = given[at] == Py_None ? 0 : PyLong_AsSize_t(given[at]);
     return !PyErr_Occurred();
 }
 
@@ -60,7 +60,7 @@ static PyObject *with_text(PyObject *found, struct room *room, size_t length) {
 }
 
 #define ANSWER(name, type, count, ...)                                                                                         \
-    static PyStructSequence_Desc struct_##name = {"proved_markdown._fast." #name, NULL, fields_##name, count};               \
+    static PyStructSequence_Desc struct_##name = {"proved_markdown._fast." #name, NULL, fields_##name, count};                 \
     static PyTypeObject *type_##name;                                                                                          \
     static PyObject *of_##name(struct type it) { return fields(type_##name, count, (const size_t[]){__VA_ARGS__}); }
 #define ANSWER2(name, type, a, b)                                                                                              \
@@ -79,20 +79,20 @@ static PyObject *with_text(PyObject *found, struct room *room, size_t length) {
     static PyStructSequence_Field fields_##name[] = {                                                                          \
         {#a, NULL}, {#b, NULL}, {#c, NULL}, {#d, NULL}, {#e, NULL}, {#f, NULL}, {#g, NULL}, {#h, NULL}, {NULL, NULL}};         \
     ANSWER(name, type, 8, it.a, it.b, it.c, it.d, it.e, it.f, it.g, it.h)
-#define SCANNER(name, made, wanted, ...)                                                                                       \
+#define SCANNER(name, made, expected, ...)                                                                                     \
     static __typeof__(mds_##name) *its_##name;                                                                                 \
     static PyObject *call_##name(PyObject *module, PyObject *const *given, Py_ssize_t count) {                                 \
-        size_t it[wanted];                                                                                                     \
+        size_t it[expected];                                                                                                   \
         (void)module;                                                                                                          \
-        return taken(it, wanted, given, count) ? made(its_##name(__VA_ARGS__)) : NULL;                                         \
+        return taken(it, expected, given, count) ? made(its_##name(__VA_ARGS__)) : NULL;                                       \
     }
-#define WRITER(name, type, made, wanted, ...)                                                                                  \
+#define WRITER(name, type, made, expected, ...)                                                                                \
     static __typeof__(mds_##name) *its_##name;                                                                                 \
     static PyObject *call_##name(PyObject *module, PyObject *const *given, Py_ssize_t count) {                                 \
-        size_t it[wanted + 1];                                                                                                 \
+        size_t it[expected + 1];                                                                                               \
         struct room room;                                                                                                      \
         (void)module;                                                                                                          \
-        if (!taken(it, wanted + 1, given, count) || !has_room(&room, it[wanted])) return NULL;                                 \
+        if (!taken(it, expected + 1, given, count) || !has_room(&room, it[expected])) return NULL;                             \
         struct type found = its_##name(__VA_ARGS__, room.bytes, room.size);                                                    \
         while (found.status == MDS_TOO_SHORT && has_other_room(&room, found.length))                                           \
             found = its_##name(__VA_ARGS__, room.bytes, room.size);                                                            \
@@ -119,7 +119,7 @@ static PyObject *address_of_text(PyObject *module, PyObject *text) {
 
 #define STEP 64
 
-static size_t behind_character(const uint8_t *text, size_t at) {
+static size_t after_character(const uint8_t *text, size_t at) {
     do at++;
     while ((text[at] & 0xC0) == 0x80);
     return at;
@@ -127,7 +127,7 @@ static size_t behind_character(const uint8_t *text, size_t at) {
 
 static size_t byte_of(const uint8_t *text, const size_t *marks, size_t place) {
     size_t at = marks[place / STEP];
-    for (size_t left = place % STEP; left > 0; left--) at = behind_character(text, at);
+    for (size_t left = place % STEP; left > 0; left--) at = after_character(text, at);
     return at;
 }
 
@@ -154,13 +154,13 @@ static PyObject *index_of(PyObject *module, PyObject *const *given, Py_ssize_t c
     const size_t *marks = (const size_t *)it[0];
     size_t block = 0, past = it[1] - 1;
     size_t byte = it[2] < marks[past] ? it[2] : marks[past];
-    while (past - block > 1) { /* the block begins at the byte or before it, and what is past it behind */
+    while (past - block > 1) { /* the block begins at the byte or before it, and `past` stands after it */
         size_t middle = block + (past - block) / 2;
         if (marks[middle] <= byte) block = middle;
         else past = middle;
     }
     size_t index = block * STEP, at = marks[block];
-    while (at < byte && (at = behind_character(text, at)) <= byte) index++;
+    while (at < byte && (at = after_character(text, at)) <= byte) index++;
     return PyLong_FromSize_t(index);
 }
 

@@ -1,7 +1,8 @@
-"""Scanners of Markdown's lines, blocks and inline text, proved to answer what CommonMark 0.31.2 says.
+"""A Markdown parser, proved to do what CommonMark 0.31.2 says: `html` and `events` of a page, its blocks and inlines, and the scanners
+below them.
 
-Each scanner reads a page, `bytes`, another buffer or a `str`, from the offset `at` on, up to the offset `end`, and copies none
-of it. It answers offsets of the same page: a number alone is the offset after what was scanned. None says that nothing of the
+Each call reads a page, `bytes`, another buffer or a `str`, from the offset `at` on, up to the offset `end`, and copies none of
+it. Scanners return offsets of the same page: a number alone is the offset after what was scanned. None says that nothing of the
 kind stands there; an exception that the call refuses what it is given.
 """
 from ._pages import Page

@@ -68,7 +68,7 @@ FAST = _extension()
 
 
 def function(name: str) -> Any:
-    """The function that stands in C under this name behind `mds_`."""
+    """The function that stands in C under this name after `mds_`."""
     return getattr(FAST, name) if FAST else _FUNCTIONS[name]
 
 

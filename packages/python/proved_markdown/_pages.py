@@ -72,7 +72,7 @@ def _marks(text: str) -> tuple[array[int], int]:
 
 
 def byte_of(text: str, place: int) -> int:
-    """The place in UTF-8 of a place in the str; behind the str a byte is counted for each."""
+    """The place in UTF-8 of a place in the str; after the str a byte is counted for each."""
     size, (marks, address) = len(text), _marks(text)
     if place >= size:
         return marks[-1] + place - size
@@ -231,8 +231,8 @@ def place_in(data: Page, place: int) -> int:
     return byte_of(data, place) if isinstance(data, str) and not data.isascii() else place
 
 
-def behind(at: int, length: int) -> Optional[int]:
-    """The place behind so many bytes, or None where C has answered that there is none."""
+def after(at: int, length: int) -> Optional[int]:
+    """The offset after so many bytes, or None where C has answered that there is none."""
     return None if length == NONE else at + length
 
 

@@ -6,7 +6,7 @@ from typing import Any, Callable, NamedTuple, Optional
 
 from . import _c
 from ._library import ROOM, function, writer
-from ._pages import Page, behind, flag, front, number, whole
+from ._pages import Page, after, flag, front, number, whole
 from ._pages import byte as _byte
 from .errors import stated
 from .line_scanners import Byte
@@ -24,13 +24,13 @@ _scan_table_head: Callable[..., tuple[Any, bytes]] = writer("scan_table_head")
 
 
 def scan_hrule(data: Page, at: int = 0, end: Optional[int] = None) -> Optional[int]:
-    r"""The place behind a thematic break and its line ending. (4.1)
+    r"""The offset after a thematic break and its line ending. (4.1)
 
     >>> scan_hrule(b"* * *\na"), scan_hrule(b"* * a")
     (6, None)
     """
     address, length, at = front(data, at, end)
-    return behind(at, _scan_hrule(address, length).length)
+    return after(at, _scan_hrule(address, length).length)
 
 
 def no_hrule_before(data: Page, at: int = 0, end: Optional[int] = None) -> int:
@@ -56,7 +56,7 @@ def scan_atx_heading(data: Page, at: int = 0, end: Optional[int] = None) -> Opti
 class Underline(NamedTuple):
     """A setext heading's underline."""
 
-    end: int  #: the place behind its line ending
+    end: int  #: the offset after its line ending
     level: int  #: 1 of `=`, 2 of `-`
 
 
@@ -74,7 +74,7 @@ def scan_setext_heading(data: Page, at: int = 0, end: Optional[int] = None) -> O
 class Fence(NamedTuple):
     """A fence, of code or of metadata."""
 
-    end: int  #: the place behind the fence's bytes
+    end: int  #: the offset after the fence's bytes
     byte: int  #: a backtick or `~` of code; `-` or `+` of metadata
 
 
@@ -95,14 +95,14 @@ def scan_code_fence(data: Page, at: int = 0, end: Optional[int] = None) -> Optio
 def scan_closing_code_fence(
     data: Page, at: int = 0, end: Optional[int] = None, *, byte: Byte, count: int
 ) -> Optional[int]:
-    r"""The place behind the fence that closes one of `count` of the byte, with spaces and tabs behind it. At the end of the
+    r"""The offset after the fence that closes one of `count` of the byte, with spaces and tabs after it. At the end of the
     bytes it is that end. (4.5)
 
     >>> scan_closing_code_fence(b"~~~~ \n", byte="~", count=3), scan_closing_code_fence(b"~~\n", byte="~", count=3)
     (5, None)
     """
     address, length, at = front(data, at, end)
-    return behind(at, _scan_closing_code_fence(address, length, _byte(byte), number("count", count)))
+    return after(at, _scan_closing_code_fence(address, length, _byte(byte), number("count", count)))
 
 
 def scan_metadata_block(
@@ -119,17 +119,17 @@ def scan_metadata_block(
 
 
 def scan_closing_metadata_block(data: Page, at: int = 0, end: Optional[int] = None, *, byte: Byte) -> Optional[int]:
-    r"""The place behind what closes a metadata block that was opened by the byte.
+    r"""The offset after what closes a metadata block that was opened by the byte.
 
     >>> scan_closing_metadata_block(b"...\n", byte="-")
     3
     """
     address, length, at = front(data, at, end)
-    return behind(at, _scan_closing_metadata_block(address, length, _byte(byte)))
+    return after(at, _scan_closing_metadata_block(address, length, _byte(byte)))
 
 
 def interrupts_paragraph(data: Page, at: int = 0, end: Optional[int] = None) -> bool:
-    """Whether the line can interrupt a paragraph, behind at most three columns of indent. (4.8)
+    """Whether the line can interrupt a paragraph, after at most three columns of indent. (4.8)
 
     >>> interrupts_paragraph(b"- a"), interrupts_paragraph(b"2. a")
     (True, False)
@@ -193,7 +193,7 @@ _ALIGNMENTS = tuple(Alignment)
 class TableHead(NamedTuple):
     """The delimiter row of a table."""
 
-    end: int  #: the place behind its line ending
+    end: int  #: the offset after its line ending
     alignments: tuple[Alignment, ...]  #: of each column
 
 

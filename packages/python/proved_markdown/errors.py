@@ -19,7 +19,7 @@ class NotUtf8Error(RefusalError, ValueError):
 
 
 class LoneSurrogateError(RefusalError, ValueError):
-    """A str has half of a surrogate pair, which UTF-8 has not; `index` is its place."""
+    """A str has half of a surrogate pair, which UTF-8 can't write; `index` is its offset."""
 
     def __init__(self, index: int) -> None:
         super().__init__(f"the str has half of a surrogate pair at index {index}")
@@ -30,7 +30,7 @@ class LoneSurrogateError(RefusalError, ValueError):
 
 
 class BadSkipsError(RefusalError, ValueError):
-    """The table of what is left out is none of the text."""
+    """The table of what is left out is not of this text."""
 
     status = _c.BAD_SKIPS
 
@@ -55,7 +55,7 @@ class StoppedError(RefusalError, ValueError):
 
 
 class NoOpenerError(StoppedError):
-    """No `<!` or `<?` ends at the place."""
+    """No `<!` or `<?` ends at the offset."""
 
     status = _c.NO_OPENER
 

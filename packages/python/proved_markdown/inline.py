@@ -7,7 +7,7 @@ from typing import Any, Callable, Generic, NamedTuple, Optional, Union, overload
 
 from . import _c
 from ._library import ROOM, function, writer
-from ._pages import Buffer, Made, Page, behind, character_number, flag, front, limits, number, place_in, text_for, whole
+from ._pages import Buffer, Made, Page, after, character_number, flag, front, limits, number, place_in, text_for, whole
 from .errors import stated
 from .skips import Skips, table
 
@@ -41,9 +41,9 @@ LABEL_ROOM = 4 * 999
 class Part(NamedTuple):
     """A part of the bytes."""
 
-    end: int  #: the place behind all that belongs to it
+    end: int  #: the offset after all that belongs to it
     start: int  #: the place of its own bytes
-    stop: int  #: the place behind these
+    stop: int  #: the offset after these
 
 
 def _part(found: _c.Part, origin: int) -> Optional[Part]:
@@ -162,7 +162,7 @@ def scan_wikilink_pipe(data: Page, at: int = 0, end: Optional[int] = None, *, co
 
 
 def starts_html_block_type_6(data: Page, at: int = 0, end: Optional[int] = None) -> bool:
-    """Whether an HTML block that a name of start condition 6 opens begins there, behind the `<`. (4.6)
+    """Whether an HTML block that a name of start condition 6 opens begins there, after the `<`. (4.6)
 
     >>> starts_html_block_type_6(b"<div>", 1), starts_html_block_type_6(b"<b>", 1)
     (True, False)
@@ -172,13 +172,13 @@ def starts_html_block_type_6(data: Page, at: int = 0, end: Optional[int] = None)
 
 
 def scan_html_type_7(data: Page, at: int = 0, end: Optional[int] = None) -> Optional[int]:
-    r"""The place behind the tag that stands alone in the rest of its line. (4.6, start condition 7)
+    r"""The offset after the tag that stands alone in the rest of its line. (4.6, start condition 7)
 
     >>> scan_html_type_7(b"<b> \n"), scan_html_type_7(b"<b> a")
     (3, None)
     """
     address, length, at = front(data, at, end)
-    return behind(at, _scan_html_type_7(address, length))
+    return after(at, _scan_html_type_7(address, length))
 
 
 class HtmlBlockKind(IntEnum):
@@ -194,7 +194,7 @@ class HtmlBlockKind(IntEnum):
 
 
 def scan_html_block_start(data: Page, at: int = 0, end: Optional[int] = None) -> Optional[HtmlBlockKind]:
-    """The kind of the HTML block that begins there, behind the indent of its line. (4.6)
+    """The kind of the HTML block that begins there, after the indent of its line. (4.6)
 
     >>> scan_html_block_start(b"<!-- a"), scan_html_block_start(b"<a> b")
     (<HtmlBlockKind.COMMENT: 2>, None)
@@ -205,7 +205,7 @@ def scan_html_block_start(data: Page, at: int = 0, end: Optional[int] = None) ->
 
 
 def ends_html_block(data: Page, at: int = 0, end: Optional[int] = None, *, kind: HtmlBlockKind) -> bool:
-    """Whether the line ends an HTML block of this kind: as its last line, or as the blank line behind it. (4.6)
+    """Whether the line ends an HTML block of this kind: as its last line, or as the blank line after it. (4.6)
 
     >>> [ends_html_block(b"a -->", kind=it) for it in (HtmlBlockKind.COMMENT, HtmlBlockKind.BLOCK_NAME)]
     [True, False]
@@ -215,19 +215,19 @@ def ends_html_block(data: Page, at: int = 0, end: Optional[int] = None, *, kind:
 
 
 def scan_html_tag(data: Page, at: int = 0, end: Optional[int] = None) -> Optional[int]:
-    """The place behind an open or closing tag that holds no line ending. (6.6)
+    """The offset after an open or closing tag that holds no line ending. (6.6)
 
     >>> scan_html_tag(b"a <b c='d'>", 2)
     11
     """
     address, length, at = front(data, at, end)
-    return behind(at, _scan_html_tag(address, length))
+    return after(at, _scan_html_tag(address, length))
 
 
 class Tag(NamedTuple, Generic[Made]):
     """A tag that goes on over lines."""
 
-    end: int  #: the place behind it
+    end: int  #: the offset after it
     text: Optional[Made]  #: what it is without the bytes that are left out; None where none are
 
 
@@ -253,7 +253,7 @@ def scan_html_tag_over_lines(data: Page, at: int = 0, end: Optional[int] = None,
 
 class HtmlScanGuard:
     """What the scans of one text have searched in vain, so that none of them searches it again: k scans at rising places of n
-    bytes, each at or behind the end that was found before, pass over at most 4n + 8k bytes."""
+    bytes, each at or after the end that was found before, pass over at most 4n + 8k bytes."""
 
     def __init__(self, data: Page, *, end: Optional[int] = None) -> None:
         self.data, self.end = data, limits(data, 0, end)[1]
@@ -261,7 +261,7 @@ class HtmlScanGuard:
         self._numbers = _c.HtmlGuard()
 
     def scan(self, at: int) -> Optional[int]:
-        """The place behind the comment, CDATA section, declaration or processing instruction whose `<!` or `<?` ends at the
+        """The offset after the comment, CDATA section, declaration or processing instruction whose `<!` or `<?` ends at the
         place. NoOpenerError where none ends there. (6.6)
 
         >>> guard = HtmlScanGuard(b"<!-- a --> <?b")
@@ -278,7 +278,7 @@ class HtmlScanGuard:
 class Entity(NamedTuple, Generic[Made]):
     """A character reference."""
 
-    end: int  #: the place behind its `;`
+    end: int  #: the offset after its `;`
     text: Made  #: what it stands for
 
 
@@ -318,7 +318,7 @@ def unescape(data: Page, at: int = 0, end: Optional[int] = None, *, in_table: bo
 class Label(NamedTuple, Generic[Made]):
     """A link label."""
 
-    end: int  #: the place behind the closing bracket
+    end: int  #: the offset after the closing bracket
     text: Made  #: its words, joined by one space
     start: Optional[int]  #: the place where that text stands as it is
 
@@ -345,7 +345,7 @@ def scan_link_label(
     found, text = _scan_link_label(address, length, first, flag("in_table", in_table), *table(skips, data), room)
     if not stated(found.status):
         return None
-    return Label(origin + found.end, text_for(data, text), behind(origin, found.start))
+    return Label(origin + found.end, text_for(data, text), after(origin, found.start))
 
 
 def labels_match(one: Page, other: Page) -> bool:

@@ -5,7 +5,7 @@ from typing import Callable, Iterator, NamedTuple, Optional, Union
 
 from . import _c
 from ._library import function
-from ._pages import Page, behind, front, limits, number
+from ._pages import Page, after, front, limits, number
 from ._pages import byte as _byte
 from .errors import stated
 
@@ -68,7 +68,7 @@ def is_utf8(data: Page, at: int = 0, end: Optional[int] = None) -> bool:
 
 
 def scan_ch(data: Page, at: int = 0, end: Optional[int] = None, *, byte: Byte) -> int:
-    """The place behind this byte; the place itself where another stands there.
+    """The offset after this byte; the place itself where another stands there.
 
     >>> scan_ch(b"a#", 1, byte="#"), scan_ch(b"a#", byte="#")
     (2, 0)
@@ -78,7 +78,7 @@ def scan_ch(data: Page, at: int = 0, end: Optional[int] = None, *, byte: Byte) -
 
 
 def scan_ch_repeat(data: Page, at: int = 0, end: Optional[int] = None, *, byte: Byte) -> int:
-    """The place behind as many of this byte as stand there.
+    """The offset after as many of this byte as stand there.
 
     >>> scan_ch_repeat(b"###a", 1, byte="#")
     3
@@ -98,7 +98,7 @@ def _accepted(given: Page) -> tuple[int, int, int]:
 
 
 def scan_while(data: Page, at: int = 0, end: Optional[int] = None, *, accepted: Page) -> int:
-    """The place behind as many bytes as are among the accepted ones. Each is looked for among all of these.
+    """The offset after as many bytes as are among the accepted ones. Each is looked for among all of these.
 
     >>> scan_while(b"-abca", 1, accepted=b"ba")
     3
@@ -120,7 +120,7 @@ def scan_rev_while(data: Page, at: int = 0, end: Optional[int] = None, *, accept
 
 
 def scan_whitespace_in_line(data: Page, at: int = 0, end: Optional[int] = None) -> int:
-    r"""The place behind white space that ends no line.
+    r"""The offset after white space that ends no line.
 
     >>> scan_whitespace_in_line(b"a \t\n", 1)
     3
@@ -130,17 +130,17 @@ def scan_whitespace_in_line(data: Page, at: int = 0, end: Optional[int] = None) 
 
 
 def scan_eol(data: Page, at: int = 0, end: Optional[int] = None) -> Optional[int]:
-    r"""The place behind the line ending: LF, CR LF, CR, or the end of the bytes. (2.1)
+    r"""The offset after the line ending: LF, CR LF, CR, or the end of the bytes. (2.1)
 
     >>> scan_eol(b"a\r\nb", 1), scan_eol(b"a\r\nb"), scan_eol(b"a", 1)
     (3, None, 1)
     """
     address, length, at = front(data, at, end)
-    return behind(at, _scan_eol(address, length))
+    return after(at, _scan_eol(address, length))
 
 
 def scan_line(data: Page, at: int = 0, end: Optional[int] = None) -> int:
-    r"""The place behind the line and its ending, LF, CR LF or CR; the end where there is none. (2.1)
+    r"""The offset after the line and its ending, LF, CR LF or CR; the end where there is none. (2.1)
 
     >>> scan_line(b"a\r\nb\nc"), scan_line(b"a\r\nb\nc", 3), scan_line(b"a\r\nb\nc", 5)
     (3, 5, 6)
@@ -153,16 +153,16 @@ class Line(NamedTuple):
     """A line."""
 
     start: int  #: the place of its first byte
-    end: int  #: the place behind its last byte, where its ending stands
-    next: int  #: the place behind its ending, where the next line begins
+    end: int  #: the offset after its last byte, where its ending stands
+    next: int  #: the offset after its ending, where the next line begins
 
 
 _ENDINGS = {"\r\n": 2, "\r": 1, "\n": 1}
 
 
-def _ending(data: Union[str, bytes, bytearray, memoryview], line: int, behind: int) -> int:
-    """How long the ending of a line is, of which `behind` is the place behind it."""
-    tail = data[max(line, behind - 2) : behind]
+def _ending(data: Union[str, bytes, bytearray, memoryview], line: int, after: int) -> int:
+    """How long the ending of a line is, of which `after` is the offset after it."""
+    tail = data[max(line, after - 2) : after]
     text = tail if isinstance(tail, str) else bytes(tail).decode("latin-1")
     return _ENDINGS.get(text, 0) or _ENDINGS.get(text[-1:], 0)
 
@@ -185,7 +185,7 @@ def lines(data: Page, at: int = 0, end: Optional[int] = None) -> Iterator[Line]:
 
 
 def scan_nextline(data: Page, at: int = 0, end: Optional[int] = None) -> int:
-    r"""The place behind the first LF, or the end where there is none. It knows LF alone.
+    r"""The offset after the first LF, or the end where there is none. It knows LF alone.
 
     >>> scan_nextline(b"a\rb\nc"), scan_nextline(b"a\rb\nc", 4)
     (4, 5)
@@ -195,29 +195,29 @@ def scan_nextline(data: Page, at: int = 0, end: Optional[int] = None) -> int:
 
 
 def scan_blank_line(data: Page, at: int = 0, end: Optional[int] = None) -> Optional[int]:
-    r"""The place behind the rest of the line with its ending, where that is blank. (4.9)
+    r"""The offset after the rest of the line with its ending, where that is blank. (4.9)
 
     >>> scan_blank_line(b"a \n", 1), scan_blank_line(b"a \n")
     (3, None)
     """
     address, length, at = front(data, at, end)
-    return behind(at, _scan_blank_line(address, length))
+    return after(at, _scan_blank_line(address, length))
 
 
 def scan_blockquote_start(data: Page, at: int = 0, end: Optional[int] = None) -> Optional[int]:
-    """The place behind a block quote marker, `>` and at most one space. (5.1)
+    """The offset after a block quote marker, `>` and at most one space. (5.1)
 
     >>> scan_blockquote_start(b"> a"), scan_blockquote_start(b">a"), scan_blockquote_start(b"a")
     (2, 1, None)
     """
     address, length, at = front(data, at, end)
-    return behind(at, _scan_blockquote_start(address, length))
+    return after(at, _scan_blockquote_start(address, length))
 
 
 class ListItem(NamedTuple):
     """A list item's marker."""
 
-    end: int  #: the place behind the marker and the white space that belongs to it
+    end: int  #: the offset after the marker and the white space that belongs to it
     delimiter: int  #: the byte `-`, `+` or `*`; `.` or `)` of an ordered item
     start: int  #: the number of an ordered item, else 0
     indent: int  #: columns of the marker and that space

@@ -42,7 +42,7 @@ class AlertKind(IntEnum):
 
 class LineStart(Generic[Made]):
     r"""A place in a line, whose tabs go to stops of four columns. The line begins at the place that is given; the bytes may go on
-    behind it. A buffer is held as long as this lives: it can't be resized or closed.
+    after it. A buffer is held as long as this lives: it can't be resized or closed.
 
     >>> start = LineStart(b">\t- item")
     >>> start.quote(), start.upto(4), start.list_item(2)
@@ -80,7 +80,7 @@ class LineStart(Generic[Made]):
         return _made_again, (type(self), self.data, self.begin, self.end, numbers)
 
     def __eq__(self, other: object) -> bool:
-        """Whether both are at the same place of the same line, with the same columns before and behind it."""
+        """Whether both are at the same place of the same line, with the same columns before and after it."""
         return isinstance(other, LineStart) and self._state() == other._state()
 
     def _state(self) -> tuple[Any, ...]:

@@ -76,8 +76,8 @@ class Block(Generic[Made]):
     line: int  #: how many lines of the page stand before it
     lines: int  #: how many lines it has
     start: int  #: the place of its first line
-    stop: int  #: the place behind its last line
-    place: int  #: the place of what its first line has behind its containers and `indent`
+    stop: int  #: the offset after its last line
+    place: int  #: the place of what its first line has after its containers and `indent`
     indent: int  #: the columns of space there, at most four
     number: int  #: as its kind has one; see `level`, `html_kind`, `fence` and `columns`
     _page: tuple[Any, int, Optional[int]]

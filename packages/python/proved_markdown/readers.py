@@ -16,7 +16,7 @@ _SHORT = 4096  #: a text of so many bytes is read again with each piece, and a l
 
 
 class BlockReader:
-    r"""Reads a page that comes piece by piece, of bytes that may end anywhere, and tells each leaf block once what has come shows
+    r"""Reads a page that comes piece by piece, of bytes that may end anywhere, and returns each leaf block once what has come shows
     where it ends. It keeps what is not returned yet, and the containers that are open.
 
     A block is as `scan_blocks` has it of the whole page, with places of the whole page; but a paragraph that begins with link
@@ -85,7 +85,7 @@ class BlockReader:
             self._room = room
 
     def _block(self, found: Any, leaf: _c.Block, lines: bytes) -> Block[bytes]:
-        """The block, behind which more of the page is returned."""
+        """The block, after which more of the page is returned."""
         kept, began = found.kept, self._room[found.kept : found.depth]
         if began or kept < len(self._containers):
             self._began = *self._began[:kept], *[_c.Block.from_buffer_copy(it) for it in began]

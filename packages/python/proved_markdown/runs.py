@@ -7,7 +7,7 @@ from typing import Any, Callable, Iterable, Optional, TypeVar, Union
 
 from . import _c
 from ._library import function, writer
-from ._pages import Made, Page, behind, number, place_in, text_for, whole
+from ._pages import Made, Page, after, number, place_in, text_for, whole
 from .errors import StoppedError, TooLargeError, refusal, stated
 from .line_start import LineStart, ListMarker
 
@@ -79,7 +79,7 @@ def line_rest(start: LineStart[Made]) -> Made:
 
 
 def run_inline_html(data: Page, places: Iterable[int], end: Optional[int] = None) -> tuple[Optional[int], ...]:
-    """The place behind what begins at each of the places in turn, or None, as HtmlScanGuard finds them. Before a place that is
+    """The offset after what begins at each of the places in turn, or None, as HtmlScanGuard finds them. Before a place that is
     refused the run stops: NoOpenerError, NotRisingError or InsideFindError, whose `run` has the ends that were found before
     it. (6.6)
 
@@ -90,7 +90,7 @@ def run_inline_html(data: Page, places: Iterable[int], end: Optional[int] = None
     listed = [min(place_in(data, number("a place", it)), _c.NONE) for it in places]
     given, ends = (c_size_t * len(listed))(*listed), (c_size_t * len(listed))()
     found = _run_inline_html(address, length, addressof(given), len(listed), addressof(ends), len(listed))
-    return _ended(found.status, tuple(behind(origin, it) for it in ends[: found.count]))
+    return _ended(found.status, tuple(after(origin, it) for it in ends[: found.count]))
 
 
 def _ended(status: int, run: tuple[Answer, ...]) -> tuple[Answer, ...]:

@@ -14,7 +14,7 @@ _check_skips: Callable[..., int] = function("check_skips")
 
 class Skips:
     r"""A table of a page: at each place, that of the first byte of a line, how many bytes are left out, all of them ASCII. It is
-    made once, and BadSkipsError where it is none: where the places don't rise, or one ends past the page or where the next has
+    made once, and BadSkipsError where it is not of this text: where the offsets don't rise, or one ends past the page or where the next has
     begun.
 
     >>> page = b"> <foo\n> bar>\n"
@@ -22,7 +22,7 @@ class Skips:
     2
     >>> Skips(page, [(7, 2), (0, 2)])
     Traceback (most recent call last):
-    proved_markdown.errors.BadSkipsError: The table of what is left out is none of the text
+    proved_markdown.errors.BadSkipsError: The table of what is left out is not of this text
     """
 
     def __init__(self, data: Page, rows: Iterable[tuple[int, int]] = ()) -> None:

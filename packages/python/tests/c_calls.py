@@ -8,7 +8,7 @@ from proved_markdown import _c
 from tables import LARGEST as NONE
 
 FORMS = ["alone", "inside", "buffer", "str"]
-BEFORE, BEHIND = b"<!>\xff", b"-->]"
+BEFORE, AFTER = b"<!>\xff", b"-->]"
 CHARACTERS = "<!>\u20ac", "-->]\U0001f354"
 
 
@@ -18,7 +18,7 @@ class Data:
     def __init__(self, data, form):
         self.raw, self.data, self.at, self.end = data, data, 0, None
         if form in ("inside", "buffer"):
-            self.data = BEFORE + data + BEHIND if form == "inside" else bytearray(BEFORE + data + BEHIND)
+            self.data = BEFORE + data + AFTER if form == "inside" else bytearray(BEFORE + data + AFTER)
             self.at, self.end = len(BEFORE), len(BEFORE + data)
         elif form == "str" and mds.is_utf8(data):
             text = data.decode()
@@ -62,7 +62,7 @@ def outcome_of(call, *given, **more):
     return (_c.NOTHING if found is None else _c.OK), found
 
 
-# What the calls take behind the bytes and their places, in the order of C.
+# What the calls take after the bytes and their places, in the order of C.
 TAKEN = {
     "scan_ch": ["byte"], "scan_ch_repeat": ["byte"], "scan_while": ["accepted"], "calc_indent": ["limit"],
     "scan_closing_code_fence": ["byte", "count"], "scan_closing_metadata_block": ["byte"],

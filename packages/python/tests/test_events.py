@@ -149,10 +149,10 @@ class Events(unittest.TestCase):
         """Each example of the specification: by `html`, of a str and of bytes, and by events."""
         found = list(spec.examples(spec.COMMONMARK))
         for it in found:
-            page, wanted = it.page.decode(), it.html.decode()
-            self.assertEqual(mds.html(page, safe=False), wanted, it)
+            page, expected = it.page.decode(), it.html.decode()
+            self.assertEqual(mds.html(page, safe=False), expected, it)
             self.assertEqual(mds.html(it.page, safe=False), it.html, it)
-            self.assertEqual(without_lines(html_of(page)), without_lines(wanted), it)
+            self.assertEqual(without_lines(html_of(page)), without_lines(expected), it)
         hold(self, "examples_of_spec", len(found))
 
     def test_texts(self):

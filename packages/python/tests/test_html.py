@@ -64,8 +64,8 @@ class Html(unittest.TestCase):
     def test_long_html(self):
         """More than a first buffer holds: an address is written as often as it is referred to."""
         address = "/" + "b" * 5000
-        wanted = "\n".join([f'<a href="{address}">a</a>'] * 100)
-        self.assertEqual(mds.html("[a]\n" * 100 + f"\n[a]: {address}\n", safe=False), f"<p>{wanted}</p>\n")
+        expected = "\n".join([f'<a href="{address}">a</a>'] * 100)
+        self.assertEqual(mds.html("[a]\n" * 100 + f"\n[a]: {address}\n", safe=False), f"<p>{expected}</p>\n")
 
 
 if __name__ == "__main__":

@@ -140,8 +140,8 @@ class Pages(unittest.TestCase):
 class Lines(unittest.TestCase):
     def test_lines(self):
         for page in ("", "a", "\n", "a\r\nb\rc\n\nd", "\r\n\r", "é\r\n🍔", LONG):
-            wanted = [mds.Line(it.start(), it.end(1), it.end()) for it in re.finditer(r"([^\r\n]*)(?:\r\n|\r|\n|$)", page) if it[0]]
-            self.assertEqual(list(mds.lines(page)), wanted)
+            expected = [mds.Line(it.start(), it.end(1), it.end()) for it in re.finditer(r"([^\r\n]*)(?:\r\n|\r|\n|$)", page) if it[0]]
+            self.assertEqual(list(mds.lines(page)), expected)
         self.assertEqual(list(mds.lines(b"a\r\nb\r\nc", 1, 5)), [mds.Line(1, 1, 3), mds.Line(3, 4, 5)])
         self.assertRaises(IndexError, mds.lines, b"a", 2)
 

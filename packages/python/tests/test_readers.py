@@ -13,7 +13,7 @@ def fields_of(block):
 
 
 def together(blocks):
-    """The same, where definitions are one block with what stands behind them: the first and the last byte of each, and its lines."""
+    """The same, where definitions are one block with what stands after them: the first and the last byte of each, and its lines."""
     found, before = [], None
     for it in blocks:
         part = it.start, it.stop, it.line, it.lines, it.containers, it.kept

@@ -7,7 +7,7 @@ from pathlib import Path
 
 import proved_markdown as mds
 import tables
-from c_calls import BEHIND, CALLS, FORMS, Data, as_bytes, check_skips, label, line_call, line_state, tag, outcome_of
+from c_calls import AFTER, CALLS, FORMS, Data, as_bytes, check_skips, label, line_call, line_state, tag, outcome_of
 from proved_markdown import _c
 from tables import LARGEST as NONE
 
@@ -64,7 +64,7 @@ class Rows(unittest.TestCase):
         hold(self, "runs.tsv", len(rows))
 
     def is_html_run(self, row):
-        for data, end in ((row.text, None), (row.text + BEHIND, len(row.text))):
+        for data, end in ((row.text, None), (row.text + AFTER, len(row.text))):
             status, run = outcome_of(mds.run_inline_html, data, row.given, end=end)
             ends = [NONE if it is None else it for it in getattr(run, "run", run)]
             self.assertEqual((NAMES[status], ends), (row.status, row.answers), row.where)

@@ -1,6 +1,6 @@
 //! Bytes, lines and blocks at the front of the text. Sections in brackets are those of CommonMark 0.31.2.
 //!
-//! A call of the library takes longer than a look at one byte. So where the first byte tells the answer, it is returned here; a build
+//! A call of the library takes longer than a look at one byte. So where the first byte decides the answer, it is returned here; a build
 //! with debug assertions compares it with the library's.
 
 use alloc::vec;
@@ -138,7 +138,7 @@ pub fn scan_line(bytes: &[u8]) -> usize {
     raw::scan_line(bytes)
 }
 
-/// The place behind the first LF, or the length where there is none. It knows LF alone.
+/// The offset after the first LF, or the length where there is none. It knows LF alone.
 ///
 /// ```
 /// assert_eq!(proved_markdown::scan_nextline(b"a\rb\nc"), 4);
@@ -353,7 +353,7 @@ pub fn scan_closing_metadata_block(bytes: &[u8], fence: u8) -> Option<usize> {
     found(raw::scan_closing_metadata_block(bytes, fence))
 }
 
-/// Whether the line at the front can interrupt a paragraph, behind at most three columns of indent. (4.8)
+/// Whether the line at the front can interrupt a paragraph, after at most three columns of indent. (4.8)
 ///
 /// ```
 /// assert!(proved_markdown::interrupts_paragraph(b"- a"));

@@ -26,7 +26,7 @@ pub(crate) fn string(bytes: Vec<u8>) -> String {
     String::from_utf8(bytes).expect("texts that are made of a text are UTF-8")
 }
 
-/// A part of the bytes: the place behind it, and its own bytes.
+/// A part of the bytes: the offset after it, and its own bytes.
 pub(crate) fn part(returned: ffi::Part, data: &[u8]) -> Option<(usize, &[u8])> {
     (returned.status == ffi::OK).then(|| (returned.end, &data[returned.start..returned.start + returned.length]))
 }
@@ -40,7 +40,7 @@ pub(crate) fn check_place(data: &str, start: usize) {
     assert!(data.is_char_boundary(start), "no character begins at {start}");
 }
 
-/// The first pipe of the `len` bytes from a place on: the place behind it, and the text before it. (An extension of
+/// The first pipe of the `len` bytes from a place on: the offset after it, and the text before it. (An extension of
 /// pulldown-cmark)
 ///
 /// # Panics
@@ -128,7 +128,7 @@ pub fn scan_link_title_bytes(data: &[u8], start_ix: usize) -> Option<(usize, &[u
     returned.map(|(end, text)| (end - start_ix, text))
 }
 
-/// The absolute URI of the autolink whose `<` stands just before the place: the place behind its `>`, and the URI. (6.5)
+/// The absolute URI of the autolink whose `<` stands just before the place: the offset after its `>`, and the URI. (6.5)
 ///
 /// # Panics
 ///
@@ -157,7 +157,7 @@ pub fn scan_autolink_bytes(data: &[u8], start_ix: usize) -> Option<(usize, &[u8]
     part(raw::scan_autolink(data, start_ix), data)
 }
 
-/// Whether an HTML block that a name of start condition 6 opens begins here, behind the `<`. (4.6)
+/// Whether an HTML block that a name of start condition 6 opens begins here, after the `<`. (4.6)
 ///
 /// ```
 /// assert!(proved_markdown::starts_html_block_type_6(b"div>"));
@@ -179,7 +179,7 @@ pub fn scan_html_type_7(data: &[u8]) -> Option<usize> {
     found(raw::scan_html_type_7(data))
 }
 
-/// The kind of the HTML block that begins at the front, behind the indent of its line. (4.6)
+/// The kind of the HTML block that begins at the front, after the indent of its line. (4.6)
 ///
 /// ```
 /// use proved_markdown::{scan_html_block_start, HtmlBlockKind};
@@ -191,7 +191,7 @@ pub fn scan_html_block_start(data: &[u8]) -> Option<HtmlBlockKind> {
     HtmlBlockKind::of(raw::scan_html_block_start(data))
 }
 
-/// Whether the line at the front ends an HTML block of this kind: as its last line, or as the blank line behind it. (4.6)
+/// Whether the line at the front ends an HTML block of this kind: as its last line, or as the blank line after it. (4.6)
 ///
 /// ```
 /// use proved_markdown::{ends_html_block, HtmlBlockKind};
@@ -272,7 +272,7 @@ impl<'page> Page<'page> {
         Page { bytes: &self.bytes[..end], ..self }
     }
 
-    /// The open or closing tag at the place: the place behind it, and its text where something is left out inside it. (6.6)
+    /// The open or closing tag at the place: the offset after it, and its text where something is left out inside it. (6.6)
     ///
     /// ```
     /// let page = proved_markdown::Page::new(b"a <b\nc>", &[]).unwrap();
@@ -294,7 +294,7 @@ impl<'page> Page<'page> {
         }
     }
 
-    /// The link label whose opening bracket stands just before the place: the place behind its closing one, and its words,
+    /// The link label whose opening bracket stands just before the place: the offset after its closing one, and its words,
     /// joined by one space. In a cell of a table a pipe loses the backslash before it. Its own bytes are UTF-8. (6.3)
     ///
     /// ```
@@ -314,7 +314,7 @@ type LabelText = Result<Range<usize>, String>;
 
 #[inline]
 fn label_at(bytes: &[u8], start: usize, skips: &[Skip], is_in_table: bool) -> Option<(usize, LabelText)> {
-    // Where nothing is left out most labels stand in the bytes as they are, and want no room.
+    // Where nothing is left out most labels stand in the bytes as they are, and need no buffer.
     let mut small;
     let room: &mut [u8] = if skips.is_empty() {
         &mut []
@@ -337,7 +337,7 @@ fn label_at(bytes: &[u8], start: usize, skips: &[Skip], is_in_table: bool) -> Op
 }
 
 /// A text with what scans for inline HTML have searched in it in vain, so that none of them searches it again: k scans of n
-/// bytes, at rising places, each at or behind the end that was found before, pass over at most 4n + 8k bytes.
+/// bytes, at rising places, each at or after the end that was found before, pass over at most 4n + 8k bytes.
 ///
 /// ```
 /// use proved_markdown::HtmlScanGuard;
@@ -381,7 +381,7 @@ impl<'text> HtmlScanGuard<'text> {
         (returned.status == ffi::OK).then_some(returned.end)
     }
 
-    /// The place behind the comment, CDATA section or declaration whose `<!` ends at the place; `None` too where none ends
+    /// The offset after the comment, CDATA section or declaration whose `<!` ends at the place; `None` too where none ends
     /// there. (6.6)
     ///
     /// ```
@@ -393,7 +393,7 @@ impl<'text> HtmlScanGuard<'text> {
         self.end(ix, b'!')
     }
 
-    /// The place behind the processing instruction whose `<?` ends at the place; `None` too where none ends there. (6.6)
+    /// The offset after the processing instruction whose `<?` ends at the place; `None` too where none ends there. (6.6)
     ///
     /// ```
     /// use proved_markdown::HtmlScanGuard;

@@ -5,7 +5,7 @@ use core::fmt;
 use crate::raw::{self, ffi};
 use crate::values::BlockQuoteKind;
 
-/// A place in a line, whose tabs go to stops of four columns. The bytes begin at the front of the line, and may go on behind
+/// A place in a line, whose tabs go to stops of four columns. The bytes begin at the front of the line, and may go on after
 /// it.
 ///
 /// ```

@@ -52,8 +52,8 @@ pub fn html(text: &str, extensions: Extensions) -> String {
 /// ```
 /// use proved_markdown::{safe_html, Extensions};
 /// assert_eq!(safe_html("<script>", Extensions::default()), "&lt;script&gt;\n");
-/// let wanted = "<p><a href=\"\" rel=\"nofollow noopener\">a</a></p>\n";
-/// assert_eq!(safe_html("[a](javascript:b)", Extensions::default()), wanted);
+/// let expected = "<p><a href=\"\" rel=\"nofollow noopener\">a</a></p>\n";
+/// assert_eq!(safe_html("[a](javascript:b)", Extensions::default()), expected);
 /// ```
 #[must_use]
 pub fn safe_html(text: &str, extensions: Extensions) -> String {
@@ -65,10 +65,10 @@ pub fn safe_html(text: &str, extensions: Extensions) -> String {
 ///
 /// ```
 /// use proved_markdown::{safe_html_with_schemes, Extensions};
-/// let wanted = "<p><a href=\"ftp://a\" rel=\"nofollow noopener\">ftp://a</a></p>\n";
-/// assert_eq!(safe_html_with_schemes("<ftp://a>", Extensions::default(), &["ftp"]), wanted);
-/// let wanted = "<p><a href=\"\" rel=\"nofollow noopener\">ftp://a</a></p>\n";
-/// assert_eq!(safe_html_with_schemes("<ftp://a>", Extensions::default(), &[]), wanted);
+/// let expected = "<p><a href=\"ftp://a\" rel=\"nofollow noopener\">ftp://a</a></p>\n";
+/// assert_eq!(safe_html_with_schemes("<ftp://a>", Extensions::default(), &["ftp"]), expected);
+/// let expected = "<p><a href=\"\" rel=\"nofollow noopener\">ftp://a</a></p>\n";
+/// assert_eq!(safe_html_with_schemes("<ftp://a>", Extensions::default(), &[]), expected);
 /// ```
 #[must_use]
 pub fn safe_html_with_schemes(text: &str, extensions: Extensions, schemes: &[&str]) -> String {

@@ -255,7 +255,7 @@ pub struct BlockReader {
     text: Vec<u8>,
     /// How much of the text is returned, and how many bytes have to be left before it is read again.
     used: usize,
-    wanted: usize,
+    needed: usize,
     has_ended: bool,
     page: ffi::OpenBlocks,
     room: Vec<ffi::Block>,
@@ -332,16 +332,16 @@ impl BlockReader {
     /// ```
     pub fn next_block(&mut self) -> Option<Block<'_>> {
         let left = self.text.len() - self.used;
-        if !self.has_ended && left < self.wanted {
+        if !self.has_ended && left < self.needed {
             return None;
         }
         let mut returned = ffi::Block::default();
         let found = self.read(&mut returned);
         let Some(kind) = kind_of(&returned).filter(|_| found.status == ffi::OK) else {
-            self.wanted = if left > SHORT { left.saturating_mul(2) } else { 0 };
+            self.needed = if left > SHORT { left.saturating_mul(2) } else { 0 };
             return None;
         };
-        self.wanted = 0;
+        self.needed = 0;
         Some(self.leaf(kind, returned, found))
     }
 

@@ -135,13 +135,13 @@ pub enum HtmlStop {
 /// What a run of inline HTML finds.
 #[derive(Clone, Debug, PartialEq, Eq)]
 pub struct HtmlRun {
-    /// The place behind what begins at each of the places, before the run stopped.
+    /// The offset after what begins at each of the places, before the run stopped.
     pub answers: Vec<Option<usize>>,
     /// Before which place the run stopped, and why.
     pub stop: Option<(usize, HtmlStop)>,
 }
 
-/// The place behind the comment, CDATA section, declaration or processing instruction that begins at each of the places in
+/// The offset after the comment, CDATA section, declaration or processing instruction that begins at each of the places in
 /// turn. The scans at k places of n bytes pass over at most 4n + 8k bytes. (6.6)
 ///
 /// ```

@@ -1,4 +1,4 @@
-//! What the scanners tell: levels, alignments, kinds, and why a call refuses what it is given.
+//! What the scanners return: levels, alignments, kinds, and why a call refuses what it is given.
 
 use core::error::Error;
 use core::fmt;
@@ -192,14 +192,14 @@ impl LinkType {
     }
 }
 
-/// A table of skips is none of the text: its places do not rise, one ends past the text or where the next has begun, or one
+/// A table of skips is not of this text: its offsets do not rise, one ends past the text or where the next has begun, or one
 /// leaves out other bytes than ASCII of a label.
 #[derive(Clone, Copy, Debug, PartialEq, Eq)]
 pub struct BadSkips;
 
 impl fmt::Display for BadSkips {
     fn fmt(&self, f: &mut fmt::Formatter<'_>) -> fmt::Result {
-        f.write_str("the table of what is left out is none of the text")
+        f.write_str("the table of what is left out is not of this text")
     }
 }
 

@@ -33,10 +33,10 @@ fn nothing() {
 #[test]
 fn levels() {
     use HeadingLevel::*;
-    for (level, wanted) in [H1, H2, H3, H4, H5, H6].into_iter().enumerate() {
-        assert_eq!(scan_atx_heading(&b"###### a"[5 - level..]), Some(wanted));
-        assert_eq!(HeadingLevel::try_from(level + 1), Ok(wanted));
-        assert_eq!(format!("{wanted:>3}"), format!(" h{}", level + 1));
+    for (level, expected) in [H1, H2, H3, H4, H5, H6].into_iter().enumerate() {
+        assert_eq!(scan_atx_heading(&b"###### a"[5 - level..]), Some(expected));
+        assert_eq!(HeadingLevel::try_from(level + 1), Ok(expected));
+        assert_eq!(format!("{expected:>3}"), format!(" h{}", level + 1));
     }
 }
 
@@ -208,9 +208,9 @@ fn delimiter_runs() {
         ("~~a", 0, None),
         ("", 0, None),
     ];
-    for (text, place, wanted) in rows {
+    for (text, place, expected) in rows {
         let found = scan_delimiter_run(text, place).map(|it| (it.byte, it.count, it.can_open, it.can_close));
-        assert_eq!(found, wanted, "{text}");
+        assert_eq!(found, expected, "{text}");
     }
     assert!(is_unicode_whitespace('\u{a0}') && !is_unicode_whitespace('\u{b}'));
     assert!(is_unicode_punctuation('🍔') && !is_unicode_punctuation('中'));
@@ -314,8 +314,8 @@ fn runs() {
     assert_eq!(run_line(&mut start, &[LineCall::Upto(3), LineCall::Eol]).answers[0], LineAnswer::Upto(1));
     let calls = [LineCall::Space(1), LineCall::Eol, LineCall::List(0), LineCall::Definition(2)];
     let run = run_line(&mut LineStart::new(b" - :  x"), &calls);
-    let wanted = [LineAnswer::Space(true), LineAnswer::Eol(false)];
-    assert_eq!(run.answers[..2], wanted);
+    let expected = [LineAnswer::Space(true), LineAnswer::Eol(false)];
+    assert_eq!(run.answers[..2], expected);
     assert_eq!(run.answers[2..], [LineAnswer::List(Some((b'-', 0, 2))), LineAnswer::Definition(Some(5))]);
     let run = run_line(&mut LineStart::new(b"- x"), &[LineCall::Quote, LineCall::List(usize::MAX)]);
     assert_eq!((run.answers, run.stop), (vec![LineAnswer::Quote(false)], Some((1, LineStop::IndentTooLarge))));
@@ -347,13 +347,13 @@ fn blocks() {
     assert_eq!(returned(b"````\n```\n"), [(Fenced(4, b'`'), 0, 0, 0)]); // as 124
     assert_eq!(returned(b"<!-- a -->\n"), [(Html(HtmlBlockKind::Comment), 0, 0, 0)]);
     assert_eq!(returned(b"| a |\n| - |\n| b |"), [(Table(1), 0, 0, 0)]);
-    let wanted = [(Definition, 0, 0, 0), (Setext(H1), 1, 0, 0), (Paragraph, 3, 0, 0)];
-    assert_eq!(returned(b"[foo]: /url\nbar\n===\n[foo]\n"), wanted); // 215
+    let expected = [(Definition, 0, 0, 0), (Setext(H1), 1, 0, 0), (Paragraph, 3, 0, 0)];
+    assert_eq!(returned(b"[foo]: /url\nbar\n===\n[foo]\n"), expected); // 215
     assert_eq!(returned(b"> bar\nbaz\n> foo\n"), [(Paragraph, 0, 0, 1)]); // 233
-    let wanted = [(Paragraph, 0, 0, 1), (Blank, 1, 1, 1), (Indented, 2, 1, 1)];
-    assert_eq!(returned(b"- foo\n\n\t\tbar\n"), wanted); // 5
-    let wanted = [(Blank, 0, 0, 1), (Blank, 1, 0, 0), (Paragraph, 2, 0, 0)];
-    assert_eq!(returned(b"-\n\n  foo\n"), wanted); // 280
+    let expected = [(Paragraph, 0, 0, 1), (Blank, 1, 1, 1), (Indented, 2, 1, 1)];
+    assert_eq!(returned(b"- foo\n\n\t\tbar\n"), expected); // 5
+    let expected = [(Blank, 0, 0, 1), (Blank, 1, 0, 0), (Paragraph, 2, 0, 0)];
+    assert_eq!(returned(b"-\n\n  foo\n"), expected); // 280
     assert_eq!(contents("- foo\n\n\t\tbar\n"), ["foo", "", "  bar\n"]);
     assert_eq!(contents("> bar\nbaz\n> foo\n"), ["bar\nbaz\nfoo"]);
     assert_eq!(contents(" ```\n aaa\naaa\n```\n"), ["aaa\naaa\n"]); // 131
@@ -395,11 +395,11 @@ fn lists() {
         ("- a\n  - b\n\n    c\n- d\n", &[(b'-', 0, true, 1, 1, 4), (b'-', 0, false, 0, 0, 5)]), // 319
         ("123456789. ok\n", &[(b'.', 123_456_789, false, 0, 0, 1)]),                        // 265
     ];
-    for (page, wanted) in rows {
+    for (page, expected) in rows {
         let found = scan_lists(page.as_bytes());
         let returned =
             found.iter().map(|it| (it.delimiter, it.start, it.is_loose, it.depth, it.lines.start, it.lines.end));
-        assert_eq!(returned.collect::<Vec<_>>(), wanted);
+        assert_eq!(returned.collect::<Vec<_>>(), expected);
     }
     assert_eq!(scan_lists("- a\n+ a\n".repeat(1000).as_bytes()).len(), 2000);
 }
@@ -453,9 +453,9 @@ fn inlines() {
         ("![foo ![bar](/url)](/url2)", &[], "<img /url2>foo <img /url>bar</></>"),   // 574
         ("foo \n baz", &[], "foo\nbaz"),                                             // 649
     ];
-    for (text, labels, wanted) in rows {
+    for (text, labels, expected) in rows {
         let none = InlineExtensions::default();
-        assert_eq!(marked(text, labels, none), wanted);
+        assert_eq!(marked(text, labels, none), expected);
         assert_eq!(scan_inlines(text, labels, none).map(|it| &text[it.range]).collect::<String>(), text);
     }
 }

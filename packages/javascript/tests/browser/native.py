@@ -66,7 +66,7 @@ LINE_CALLS = {
 
 
 def taken(data, line):
-    """What the calls of a line answer in turn, and the places before and behind each."""
+    """What the calls of a line answer in turn, and the offsets before and after each."""
     start, found = mds.LineStart(data, line["at"], line["end"]), []
     for call in line["taken"]:
         before = start.place

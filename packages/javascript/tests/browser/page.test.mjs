@@ -185,7 +185,7 @@ test("columns are drawn to their tab stops", async () => {
     const at = TYPED.slice(0, TYPED.indexOf(">\t\tfoo")).split("\n").length - 1;
     const drawn = (index) => rows[at + index].taken.map((it) => it.name);
     assert.deepEqual([drawn(0), rows[at].text], [[">→", "··→·"], ">→··→···foo"]);
-    assert.deepEqual([drawn(1), rows[at + 1].text], [[">→", "··", "-·"], ">→··-·a tab behind a quote"]);
+    assert.deepEqual([drawn(1), rows[at + 1].text], [[">→", "··", "-·"], ">→··-·a tab after a quote"]);
 });
 
 test("headings, definitions and references are those of the outline in C", async () => {
@@ -199,8 +199,8 @@ test("headings, definitions and references are those of the outline in C", async
     const definitions = labels.filter((it) => it.parts[0] === "definition").map((it) => it.parts[1].replace(" → ", ": "));
     assert.deepEqual(definitions, said.filter((it) => /^\d+: \[.*\]: /.test(it)).map((it) => it.replace(/^\d+: /, "")));
     const missing = labels.filter((it) => it.parts[0] === "reference" && it.parts[1].endsWith("leads nowhere"));
-    const wanted = said.filter((it) => it.endsWith("has no definition")).map((it) => /\[.*\]/.exec(it)[0]);
-    assert.deepEqual(missing.map((it) => /\[.*\]/.exec(it.parts[1])[0]), wanted);
+    const expected = said.filter((it) => it.endsWith("has no definition")).map((it) => /\[.*\]/.exec(it)[0]);
+    assert.deepEqual(missing.map((it) => /\[.*\]/.exec(it.parts[1])[0]), expected);
     hold("drawn_outline", headings.length + definitions.length + missing.length);
 });
 
@@ -299,9 +299,9 @@ test("safe HTML is rendered, and what is pointed at has its source marked", asyn
     assert.equal(sandbox, "allow-same-origin");
     assert.match(html, /^<h1>🍔 <em>é<\/em> b<\/h1>\n&lt;script&gt;/);
     assert.match(html, /<li><input checked="" disabled="" type="checkbox"> <del>c<\/del><\/li>/);
-    for (const [name, wanted] of [["em", "*é*"], ["h1", "# 🍔 *é* b"], ["del", "~~c~~"], ["a", "[d](https://e.f)"], ["td", "h"]]) {
+    for (const [name, expected] of [["em", "*é*"], ["h1", "# 🍔 *é* b"], ["del", "~~c~~"], ["a", "[d](https://e.f)"], ["td", "h"]]) {
         const found = await pointAt(name);
-        assert.deepEqual([found.pointed, found.marks], [[name], wanted]);
+        assert.deepEqual([found.pointed, found.marks], [[name], expected]);
     }
     const at = { ...(await browser.ask(middleOf, "a")), button: "left", clickCount: 1 };
     for (const kind of ["mousePressed", "mouseReleased"]) await browser.send("Input.dispatchMouseEvent", { type: kind, ...at });
@@ -389,9 +389,9 @@ test("of a line of 1 MB the page is sent what it draws", async () => {
     }
     await fill(`# ${"a".repeat(1_000_000)}\n\n[b]: /${"c".repeat(1_000_000)}\n`);
     await settled("drawn");
-    for (const [name, wanted] of [["outline", /^a{1000}…$/], ["labels", /^\[b\] → \/c{999}…$/]]) {
+    for (const [name, expected] of [["outline", /^a{1000}…$/], ["labels", /^\[b\] → \/c{999}…$/]]) {
         await choose(name);
-        assert.match(await browser.ask(() => document.querySelector("#view .what").textContent), wanted);
+        assert.match(await browser.ask(() => document.querySelector("#view .what").textContent), expected);
     }
 });
 
@@ -433,7 +433,7 @@ async function choosing(bytes) {
     }, bytes);
 }
 
-test("10 MB are read, and another text behind them", async () => {
+test("10 MB are read, and another text after them", async () => {
     await open();
     await settled("drawn");
     await fill(`${"A line of [some] words, as <b>they</b> are. ".repeat(4)}\n\n`.repeat(57_000));
@@ -466,7 +466,7 @@ test("of two modules the 64-bit one is taken where the browser runs it", async (
 });
 
 test("a policy needs `wasm-unsafe-eval`, and a URL is one from the page's on", async () => {
-    for (const [policy, wanted] of [["'self'", "BadModule"], ["'self' 'wasm-unsafe-eval'", "1"]]) {
+    for (const [policy, expected] of [["'self'", "BadModule"], ["'self' 'wasm-unsafe-eval'", "1"]]) {
         const head = `<!doctype html><meta http-equiv="Content-Security-Policy" content="script-src ${policy}">`;
         const changed = await serve(PACKAGE, (path) => {
             if (path === "/a/page.html") return Buffer.from(head);
@@ -477,7 +477,7 @@ test("a policy needs `wasm-unsafe-eval`, and a URL is one from the page's on", a
             const { load } = await import("/proved_markdown.mjs");
             return load("module.wasm").then((it) => String(it.text("# a").scanAtxHeading()), (why) => why.name);
         });
-        assert.equal(found, wanted);
+        assert.equal(found, expected);
         changed.close();
     }
 });

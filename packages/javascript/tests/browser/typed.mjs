@@ -6,7 +6,7 @@ const PAGE = readFileSync(new URL("packages/c/examples/page.md", TOP), "utf8");
 
 const TABS = `
 >\t\tfoo
->\t- a tab behind a quote
+>\t- a tab after a quote
 >\t  goes on
 -\t\tan item with tabs
 1.\tone

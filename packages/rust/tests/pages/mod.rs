@@ -22,8 +22,8 @@ fn examples() -> Vec<(String, String)> {
 fn each_example() {
     let examples = examples();
     assert_eq!(examples.len(), 652);
-    for (page, wanted) in examples {
-        assert_eq!(html(&page, Extensions::default()), wanted, "of {page:?}");
+    for (page, expected) in examples {
+        assert_eq!(html(&page, Extensions::default()), expected, "of {page:?}");
     }
 }
 
@@ -51,7 +51,7 @@ fn target(link_type: LinkType, dest_url: &'static str, title: &'static str, id: 
 fn texts() {
     let texts: Vec<_> =
         events("a\\*&amp;`b`<i>  \nc\n***\n").into_iter().map(|(it, range)| (it, range.start)).collect();
-    let wanted = [
+    let expected = [
         (Event::Start(Tag::Paragraph), 0),
         (Event::Text("a".into()), 0),
         (Event::Text("*".into()), 1),
@@ -63,7 +63,7 @@ fn texts() {
         (Event::End(TagEnd::Paragraph), 0),
         (Event::Rule, 19),
     ];
-    assert_eq!(texts, wanted);
+    assert_eq!(texts, expected);
 }
 
 #[test]

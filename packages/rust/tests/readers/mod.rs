@@ -13,7 +13,7 @@ fn block_of(it: &Block) -> (BlockKind, Range<usize>, usize, Vec<Container>, usiz
 #[test]
 fn fed_blocks() {
     let page = b"# A\r\n> - b\n> c\n\n1. d\n   - e\n\n      f\n-\n  ```\n  g\r\n===\n| a |\n|-|\n| b";
-    let wanted: Vec<_> = scan_blocks(page).map(|it| block_of(&it)).collect();
+    let expected: Vec<_> = scan_blocks(page).map(|it| block_of(&it)).collect();
     for size in 1..=page.len() {
         let (mut reader, mut found) = (BlockReader::default(), Vec::new());
         for piece in page.chunks(size) {
@@ -26,7 +26,7 @@ fn fed_blocks() {
         while let Some(block) = reader.next_block() {
             found.push(block_of(&block));
         }
-        assert_eq!(found, wanted);
+        assert_eq!(found, expected);
     }
 }
 

@@ -281,8 +281,8 @@ fn check(row: &Row) {
     }
     let answer = number(row).or_else(|| fields(row)).or_else(|| found(row));
     // a line start's columns are its own
-    let wanted = row.answer.split(" pending=").next().filter(|it| !it.starts_with("MDS_"));
-    assert_eq!(answer.as_deref(), wanted, "{title}");
+    let expected = row.answer.split(" pending=").next().filter(|it| !it.starts_with("MDS_"));
+    assert_eq!(answer.as_deref(), expected, "{title}");
 }
 
 #[test]
