@@ -1,22 +1,12 @@
-/**
- * The blocks of pages and their content, on the rows of packages/c/tests/blocks.c: examples of CommonMark 0.31.2 by their numbers.
- * What C would say is made of the leaf blocks and their containers.
- */
+/** The blocks of pages and their content, on the rows of packages/pages.tsv. What they say is made of the leaf blocks and their containers. */
 import assert from "node:assert/strict";
-import { readFileSync } from "node:fs";
 import { test } from "node:test";
 import * as mds from "../proved_markdown.mjs";
 import { MODULE } from "./module.mjs";
-import { TOP } from "./tree.mjs";
+import { pages } from "./tables.mjs";
+import { hold } from "./totals.mjs";
 
 const scanners = await mds.load(MODULE);
-const WORDS = String.raw`((?:"(?:[^"\\]|\\.)*"\s*)+)`;
-const ROW = new RegExp(String.raw`^    \{(\d+), ${WORDS},\s*${WORDS},\s*${WORDS}\},$`, "gm");
-const source = readFileSync(new URL("packages/c/tests/blocks.c", TOP), "utf8");
-
-/** The text of literals of C in a row, which have the escapes of JSON. */
-const literal = (text) => text.match(/"(?:[^"\\]|\\.)*"/g).map((it) => JSON.parse(it)).join("");
-const rows = [...source.matchAll(ROW)].map(([, number, ...words]) => [number, ...words.map(literal)]);
 
 function containerWord(it, at) {
     return it.kind === "quote" ? `quote@${it.place - at}` : `item${it.delimiter}${it.start},${it.width}@${it.place - at}`;
@@ -43,15 +33,23 @@ function described(text, at = 0, end = text.length) {
     return [said.join(" "), contents.join("")];
 }
 
-test("each row, by itself, inside of other text, as bytes and in UTF-16 units", () => {
-    assert.equal(rows.length, source.match(/^ {4}\{\d+, "/gm).length);
-    for (const [number, page, ...expected] of rows) {
-        assert.deepEqual(described(scanners.text(page)), expected, number);
-        assert.deepEqual(described(scanners.text(Buffer.from(page))), expected, number);
-        assert.deepEqual(described(scanners.text(`é🍔${page}- é`), 6, 6 + page.length), expected, number);
-        assert.deepEqual(described(scanners.text(`é🍔${page}- é`, { units: "utf-16" }), 3, 3 + page.length), expected, number);
-    }
-});
+/** What is described of a page by itself, inside of other text, as bytes and in UTF-16 units. */
+const ways = (page) => [
+    described(scanners.text(page)),
+    described(scanners.text(Buffer.from(page))),
+    described(scanners.text(`é🍔${page}- é`), 6, 6 + page.length),
+    described(scanners.text(`é🍔${page}- é`, { units: "utf-16" }), 3, 3 + page.length),
+];
+
+for (const [which, call] of ["scan_blocks", "block_content"].entries()) {
+    test(`each row of ${call}`, () => {
+        const rows = pages(call);
+        for (const { page, answer, where } of rows) {
+            for (const found of ways(page)) assert.equal(found[which], answer, where);
+        }
+        hold(call, rows.length);
+    });
+}
 
 test("the fields of blocks", () => {
     const [first, second, third] = scanners.text("> é\n\n1) ```` é\n", { units: "utf-16" }).scanBlocks();

@@ -11,7 +11,7 @@ export const NONE = 2n ** 64n - 1n;
 export const scanners = await mds.load(MODULE);
 
 const BEFORE = Buffer.from("<!>\xff", "latin1");
-const AFTER = Buffer.from("-->]");
+export const AFTER = Buffer.from("-->]");
 const BEFORE_UNITS = "é🍔\n";
 const STATUSES = [
     [mds.NotUtf8, c.NOT_UTF8],
@@ -202,54 +202,56 @@ function labelKey(label) {
     return { status, taken: label.length, text: bytesOf(found).toString("hex") };
 }
 
+/** A label by itself, without where it starts. */
+function labelText(d, inTable) {
+    const { start: _, ...found } = label(d, [], inTable);
+    return found;
+}
+
+/** The calls of packages/rows.tsv, by their names without `mds_`; each takes a text in one of its ways, and the bytes of C. */
 export const CALLS = {
-    mds_scan_ch: ends("scanCh"),
-    mds_scan_ch_repeat: ends("scanChRepeat"),
-    mds_scan_while: ends("scanWhile"),
-    mds_scan_rev_while: (d, accepted) => d.place(d.end) - d.place(d.text.scanRevWhile(accepted, d.at, d.end)),
-    mds_scan_whitespace_in_line: ends("scanWhitespaceInLine"),
-    mds_scan_eol: ends("scanEol"),
-    mds_scan_line: ends("scanLine"),
-    mds_scan_nextline: ends("scanNextline"),
-    mds_scan_blank_line: ends("scanBlankLine"),
-    mds_scan_blockquote_start: ends("scanBlockquoteStart"),
-    mds_scan_closing_code_fence: ends("scanClosingCodeFence"),
-    mds_scan_closing_metadata_block: ends("scanClosingMetadataBlock"),
-    mds_scan_html_type_7: ends("scanHtmlType7"),
-    mds_scan_html_tag: ends("scanHtmlTag"),
-    mds_is_utf8: whole("isUtf8"),
-    mds_starts_html_block_type_6: whole("startsHtmlBlockType6"),
-    mds_interrupts_paragraph: whole("interruptsParagraph"),
-    mds_scan_code_fence: fence(whole("scanCodeFence")),
-    mds_scan_metadata_block: fence((d, yaml, pluses) => d.text.scanMetadataBlock(d.at, d.end, { yaml: Boolean(yaml), pluses: Boolean(pluses) })),
-    mds_scan_link_dest: part((d, start, maxNext) => d.text.scanLinkDest(start, d.end, { maxNext })),
-    mds_scan_link_title: part((d, start) => d.text.scanLinkTitle(start, d.end)),
-    mds_scan_autolink: part((d, start) => d.text.scanAutolink(start, d.end)),
-    mds_scan_email_autolink: part((d, start) => d.text.scanEmailAutolink(start, d.end)),
-    mds_scan_code_span: part((d, start) => d.text.scanCodeSpan(start, d.end)),
-    mds_scan_reference_definition: definition,
-    mds_scan_delimiter_run: delimiterRun,
-    mds_scan_wikilink_pipe: part((d, start, count) => {
+    scan_ch: ends("scanCh"),
+    scan_ch_repeat: ends("scanChRepeat"),
+    scan_while: ends("scanWhile"),
+    scan_rev_while: (d, accepted) => d.place(d.end) - d.place(d.text.scanRevWhile(accepted, d.at, d.end)),
+    scan_whitespace_in_line: ends("scanWhitespaceInLine"),
+    scan_eol: ends("scanEol"),
+    scan_line: ends("scanLine"),
+    scan_nextline: ends("scanNextline"),
+    scan_blank_line: ends("scanBlankLine"),
+    scan_blockquote_start: ends("scanBlockquoteStart"),
+    scan_closing_code_fence: ends("scanClosingCodeFence"),
+    scan_closing_metadata_block: ends("scanClosingMetadataBlock"),
+    scan_html_type_7: ends("scanHtmlType7"),
+    scan_html_tag: ends("scanHtmlTag"),
+    is_utf8: whole("isUtf8"),
+    starts_html_block_type_6: whole("startsHtmlBlockType6"),
+    interrupts_paragraph: whole("interruptsParagraph"),
+    scan_code_fence: fence(whole("scanCodeFence")),
+    scan_metadata_block: fence((d, yaml, pluses) => d.text.scanMetadataBlock(d.at, d.end, { yaml: Boolean(yaml), pluses: Boolean(pluses) })),
+    scan_link_dest: part((d, start, maxNext) => d.text.scanLinkDest(start, d.end, { maxNext })),
+    scan_link_title: part((d, start) => d.text.scanLinkTitle(start, d.end)),
+    scan_autolink: part((d, start) => d.text.scanAutolink(start, d.end)),
+    scan_email_autolink: part((d, start) => d.text.scanEmailAutolink(start, d.end)),
+    scan_code_span: part((d, start) => d.text.scanCodeSpan(start, d.end)),
+    scan_reference_definition: definition,
+    scan_delimiter_run: delimiterRun,
+    scan_wikilink_pipe: part((d, start, count) => {
         const stop = d.placeIn(BigInt(d.place(start)) + BigInt(count));
         return d.text.scanWikilinkPipe(start, stop < d.end ? stop : d.end);
     }),
-    mds_scan_atx_heading: (d) => d.text.scanAtxHeading(d.at, d.end) ?? 0,
-    mds_scan_listitem: listItem,
-    mds_calc_indent: indent,
-    mds_scan_hrule: hrule,
-    mds_scan_setext_heading: underline,
-    mds_scan_html_block_start: (d) => d.text.scanHtmlBlockStart(d.at, d.end) ?? 0,
-    mds_ends_html_block: htmlEnd,
-};
-
-/** The calls of packages/rows.tsv, by their names without `mds_`; each takes a text in one of its ways, and the bytes of C. */
-export const TABLE_CALLS = {
-    ...Object.fromEntries(Object.entries(CALLS).map(([name, call]) => [name.replace("mds_", ""), call])),
+    scan_atx_heading: (d) => d.text.scanAtxHeading(d.at, d.end) ?? 0,
+    scan_listitem: listItem,
+    calc_indent: indent,
+    scan_hrule: hrule,
+    scan_setext_heading: underline,
+    scan_html_block_start: (d) => d.text.scanHtmlBlockStart(d.at, d.end) ?? 0,
+    ends_html_block: htmlEnd,
     scan_table_head: text((d) => d.text.scanTableHead(d.at, d.end), alignments),
     scan_entity: text((d) => d.text.scanEntity(d.at, d.end)),
     scan_inline_html: firstEnd,
     unescape: (d, inTable) => text(() => d.text.unescape(d.at, d.end, { inTable }), bytesOf)(d),
-    scan_link_label: (d, inTable) => label(d, [], inTable),
+    scan_link_label: labelText,
     labels_match: (d, other) => labelsMatch(bytesOf(d.text.slice(d.at, d.end)), other),
     label_key: (d) => labelKey(bytesOf(d.text.slice(d.at, d.end))),
 };

@@ -1,32 +1,16 @@
-/** The events of pages, on the rows of packages/c/tests/events.c; and by `html` each example of CommonMark 0.31.2. */
+/** The events of pages, on the rows of packages/pages.tsv; and by `html` each example of CommonMark 0.31.2. */
 import assert from "node:assert/strict";
 import { readFileSync } from "node:fs";
 import { test } from "node:test";
 import * as mds from "../proved_markdown.mjs";
 import { MODULE } from "./module.mjs";
+import { extensionsOf, pages } from "./tables.mjs";
 import { hold } from "./totals.mjs";
 import { TOP } from "./tree.mjs";
 
 const scanners = await mds.load(MODULE);
-const WORD = /"(?:[^"\\]|\\.)*"/g;
-const EVERY = ["table", "strikethrough", "tasklist", "wikilinks"];
 const FENCE = "`".repeat(32);
-const source = readFileSync(new URL("packages/c/tests/events.c", TOP), "utf8");
 const NAMES = { quote: "block quote", wiki: "wikilink", wikiPiped: "piped wikilink" };
-
-/** What adjacent strings of C say, whose bytes are UTF-8. */
-function said(words) {
-    const units = Array.from(words.match(WORD), (it) => JSON.parse(it.replace(/\\x([0-9a-f]{2})/g, "\\u00$1"))).join("");
-    return Buffer.from(units, "latin1").toString();
-}
-
-/** The rows of a table of C: of each the page, and the lines of its events. */
-function rowsOf(name) {
-    const table = source.split(`static const struct row ${name}[] = {\n`)[1].split("\n};")[0];
-    const rows = Array.from(table.matchAll(/^ {4}\{("(?:[^"\\]|\\.)*"),\s*(.*?)\},$/gms), ([, page, lines]) => [said(page), said(lines)]);
-    assert.equal(rows.length, table.match(/^ {4}\{/gm).length);
-    return rows;
-}
 
 const words = (name) => NAMES[name] ?? name.replace(/[A-Z]/g, (it) => ` ${it.toLowerCase()}`);
 const text = (it) => (typeof it === "string" ? it : Buffer.from(it).toString());
@@ -57,17 +41,16 @@ function linesOf(events, byteOf = (place) => place) {
 }
 
 test("each row", () => {
-    let tried = 0;
-    for (const [name, extensions] of [["rows", []], ["extended", EVERY]]) {
-        for (const [page, expected] of rowsOf(name)) {
-            tried += 1;
-            const inBytes = (place) => Buffer.byteLength(page.slice(0, place));
-            assert.equal(linesOf(scanners.events(page, { extensions }), inBytes), expected);
-            assert.equal(linesOf(scanners.text(page).events({ extensions })), expected);
-            assert.equal(linesOf(scanners.events(new TextEncoder().encode(page), { extensions })), expected);
-        }
+    const rows = pages("events");
+    for (const row of rows) {
+        const { page, answer, where } = row;
+        const extensions = extensionsOf(row);
+        const inBytes = (place) => Buffer.byteLength(page.slice(0, place));
+        assert.equal(linesOf(scanners.events(page, { extensions }), inBytes), answer, where);
+        assert.equal(linesOf(scanners.text(page).events({ extensions })), answer, where);
+        assert.equal(linesOf(scanners.events(new TextEncoder().encode(page), { extensions })), answer, where);
     }
-    hold("events.c", tried);
+    hold("events", rows.length);
 });
 
 test("each example of the specification", () => {

@@ -1,42 +1,36 @@
-/** The HTML of pages, on the rows of packages/c/tests/html.c: examples of CommonMark 0.31.2 and of GitHub Flavored Markdown 0.29. */
+/** The HTML of pages, on the rows of packages/pages.tsv. */
 import assert from "node:assert/strict";
-import { readFileSync } from "node:fs";
 import { test } from "node:test";
 import * as mds from "../proved_markdown.mjs";
 import { MODULE } from "./module.mjs";
-import { TOP } from "./tree.mjs";
+import { extensionsOf, pages } from "./tables.mjs";
+import { hold } from "./totals.mjs";
 
 const scanners = await mds.load(MODULE);
-const WORD = /"(?:[^"\\]|\\.)*"/g;
-const GITHUB = ["table", "strikethrough", "tasklist"];
-const source = readFileSync(new URL("packages/c/tests/html.c", TOP), "utf8");
 
-/** What adjacent strings of C say. */
-const said = (words) => Array.from(words.match(WORD), (it) => JSON.parse(it)).join("");
-
-/** The rows of a table of C, of each the page and its HTML; SAFE is a macro that stands between strings. */
-function rowsOf(name) {
-    const table = source.split(`static const struct row ${name}[] = {\n`)[1].split("\n};")[0];
-    const plain = table.replace(/SAFE\("([^"]*)"\)/g, String.raw`"href=\"$1\" rel=\"nofollow noopener\""`);
-    const rows = Array.from(plain.matchAll(/^ {4}\{\d+, ("(?:[^"\\]|\\.)*"),\s*(.*?)\},$/gms), ([, page, html]) => [said(page), said(html)]);
-    assert.equal(rows.length, table.match(/^ {4}\{\d/gm).length);
-    return rows;
-}
-
-function areRows(name, options) {
-    for (const [page, expected] of rowsOf(name)) {
-        assert.equal(scanners.html(page, options), expected);
-        assert.equal(scanners.text(page, { units: "utf-16" }).html(options), expected);
-        assert.equal(Buffer.from(scanners.html(new TextEncoder().encode(page), options)).toString(), expected);
+function areRows(rows, asked) {
+    for (const row of rows) {
+        const { page, answer, where } = row;
+        const options = { ...asked, extensions: extensionsOf(row) };
+        assert.equal(scanners.html(page, options), answer, where);
+        assert.equal(scanners.text(page, { units: "utf-16" }).html(options), answer, where);
+        assert.equal(Buffer.from(scanners.html(new TextEncoder().encode(page), options)).toString(), answer, where);
     }
 }
 
-test("each row", () => {
-    areRows("rows", { safe: false });
-    areRows("extended", { safe: false, extensions: GITHUB });
-    areRows("extended", { extensions: GITHUB });
-    areRows("safe");
-    areRows("safe", { safe: true, extensions: [...GITHUB, "wikilinks"] });
+test("each row of html", () => {
+    const rows = pages("html");
+    areRows(rows, { safe: false });
+    hold("html", rows.length);
+});
+
+test("each row of safe_html, but for those that name a scheme, as no call of the package does", () => {
+    const [ofSchemes, others] = [[], []];
+    for (const row of pages("safe_html")) (row.words.some((it) => it.startsWith("scheme=")) ? ofSchemes : others).push(row);
+    areRows(others, {});
+    areRows(others, { safe: true });
+    hold("safe_html", others.length);
+    hold("safe_html_left_out", ofSchemes.length);
 });
 
 test("safe is the default", () => {

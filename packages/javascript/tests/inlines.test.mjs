@@ -1,23 +1,12 @@
-/**
- * The inlines of texts, on the rows of packages/c/tests/inlines.c: examples of CommonMark 0.31.2 by their numbers, of which cmark
- * makes what stands beside them.
- */
+/** The inlines of texts, on the rows of packages/pages.tsv. */
 import assert from "node:assert/strict";
-import { readFileSync } from "node:fs";
 import { test } from "node:test";
 import * as mds from "../proved_markdown.mjs";
 import { MODULE } from "./module.mjs";
-import { TOP } from "./tree.mjs";
+import { asked, pages } from "./tables.mjs";
+import { hold } from "./totals.mjs";
 
 const scanners = await mds.load(MODULE);
-const WORD = String.raw`("(?:[^"\\]|\\.)*")`;
-const DEFINITION = String.raw`\{${WORD}, ${WORD}, ${WORD}\}`;
-const ROW = new RegExp(String.raw`^    \{(\d+), ${WORD},\s*(?:\{((?:${DEFINITION}(?:, )?)+)\},\s*)?${WORD}\},$`, "gm");
-const source = readFileSync(new URL("packages/c/tests/inlines.c", TOP), "utf8");
-const rows = [...source.matchAll(ROW)].map(([, number, text, definitions, , , , expected]) => {
-    const found = [...(definitions ?? "").matchAll(new RegExp(DEFINITION, "g"))];
-    return [number, JSON.parse(text), found.map((it) => it.slice(1).map(JSON.parse)), JSON.parse(expected)];
-});
 const MARKS = {
     softBreak: "\n",
     hardBreak: "<br>",
@@ -25,11 +14,13 @@ const MARKS = {
     emphasisEnd: "</em>",
     strong: "<strong>",
     strongEnd: "</strong>",
+    strikethrough: "<del>",
+    strikethroughEnd: "</del>",
     linkEnd: "</>",
 };
 
-/** What is said of the inlines between two places of a text. */
-function described(text, definitions, at = 0, end = text.length) {
+/** What is said of the inlines between two places of a text, where these extensions are asked for. */
+function described(text, { extensions, definitions }, at = 0, end = text.length) {
     const part = ({ start, stop }) => Buffer.from(text.slice(start, stop)).toString();
     const meaning = (word) => scanners.text(word).unescape();
     const target = (link) => {
@@ -40,24 +31,28 @@ function described(text, definitions, at = 0, end = text.length) {
     };
     const said = (it) => {
         if (it.kind in MARKS) return MARKS[it.kind];
+        if (it.link?.target === "wiki") return `<${it.kind === "image" ? "img" : "a"} ${part(it.link.destination)}|>`;
         if (it.link) return `<${it.kind === "image" ? "img" : "a"} ${target(it.link).map(meaning).join("|")}>`;
         if (it.kind === "code") return `<code>${part(it.content).replace(/\n/g, " ").replace(/^ (.*[^ ].*) $/, "$1")}</code>`;
         if (it.content) return `<a ${it.kind === "email" ? "mailto:" : ""}${part(it.content)}|>${part(it.content)}</>`;
         if (it.kind === "html") return `<html>${part(it)}</html>`;
         return it.kind === "text" ? part(it) : meaning(part(it));
     };
-    return Array.from(text.scanInlines(at, end, { labels: definitions.map(([it]) => it) }), said).join("");
+    const options = Object.fromEntries(extensions.map((it) => [it, true]));
+    return Array.from(text.scanInlines(at, end, { labels: definitions.map(([it]) => it), ...options }), said).join("");
 }
 
 test("each row, by itself, inside of other text, as bytes and in UTF-16 units", () => {
-    assert.equal(rows.length, source.match(/^ {4}\{\d+, "/gm).length);
-    for (const [number, text, definitions, expected] of rows) {
-        const [bytes, inside] = [Buffer.from(text), `é🍔[${text}]*é`];
-        assert.equal(described(scanners.text(text), definitions), expected, number);
-        assert.equal(described(scanners.text(bytes), definitions), expected, number);
-        assert.equal(described(scanners.text(inside), definitions, 7, 7 + bytes.length), expected, number);
-        assert.equal(described(scanners.text(inside, { units: "utf-16" }), definitions, 4, 4 + text.length), expected, number);
+    const rows = pages("scan_inlines");
+    for (const row of rows) {
+        const { page: text, answer, where } = row;
+        const [bytes, inside, options] = [Buffer.from(text), `é🍔[${text}]*é`, asked(row)];
+        assert.equal(described(scanners.text(text), options), answer, where);
+        assert.equal(described(scanners.text(bytes), options), answer, where);
+        assert.equal(described(scanners.text(inside), options, 7, 7 + bytes.length), answer, where);
+        assert.equal(described(scanners.text(inside, { units: "utf-16" }), options, 4, 4 + text.length), answer, where);
     }
+    hold("scan_inlines", rows.length);
 });
 
 test("the fields of inlines", () => {

@@ -1,15 +1,11 @@
-/** Pages that come piece by piece have the blocks of the whole page, on the pages of packages/c/tests/blocks.c. */
+/** Pages that come piece by piece have the blocks of the whole page, on the pages of packages/pages.tsv. */
 import assert from "node:assert/strict";
-import { readFileSync } from "node:fs";
 import { test } from "node:test";
 import * as mds from "../proved_markdown.mjs";
 import { MODULE } from "./module.mjs";
-import { TOP } from "./tree.mjs";
+import { pages } from "./tables.mjs";
 
 const scanners = await mds.load(MODULE);
-const source = readFileSync(new URL("packages/c/tests/blocks.c", TOP), "utf8");
-const pages = [...source.matchAll(/^ {4}\{\d+, ((?:"(?:[^"\\]|\\.)*"\s*)+),/gm)]
-    .map(([, words]) => words.match(/"(?:[^"\\]|\\.)*"/g).map((it) => JSON.parse(it)).join(""));
 
 /** What a block is, and where it stands. */
 function returned(block) {
@@ -26,7 +22,7 @@ function fed(page, size) {
 }
 
 test("each page that has no definitions, in pieces of each size", () => {
-    const plain = pages.map((it) => Buffer.from(it)).filter((it) => !it.includes("]:"));
+    const plain = pages("scan_blocks").map((it) => Buffer.from(it.page)).filter((it) => !it.includes("]:"));
     assert.ok(plain.length > 25);
     for (const page of plain) {
         const expected = [...scanners.text(page).scanBlocks()].map(returned);
