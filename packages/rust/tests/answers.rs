@@ -6,9 +6,13 @@ use std::panic::catch_unwind;
 
 use proved_markdown::*;
 
+mod lines;
+mod overs;
+mod page_rows;
 mod pages;
 mod readers;
 mod table;
+mod tables;
 
 #[test]
 fn nothing() {

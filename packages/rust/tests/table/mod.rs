@@ -1,10 +1,10 @@
 //! The rows of packages/rows.tsv, one call on one text each, which the tests of all packages share.
 
-use std::fs;
-
 use proved_markdown::*;
 
-const FILE: &str = concat!(env!("CARGO_MANIFEST_DIR"), "/../rows.tsv");
+use crate::lines::line_answer;
+use crate::tables::*;
+
 const KINDS: [HtmlBlockKind; 7] = [
     HtmlBlockKind::RawText,
     HtmlBlockKind::Comment,
@@ -13,14 +13,6 @@ const KINDS: [HtmlBlockKind; 7] = [
     HtmlBlockKind::Cdata,
     HtmlBlockKind::BlockName,
     HtmlBlockKind::TagAlone,
-];
-
-const ALERTS: [BlockQuoteKind; 5] = [
-    BlockQuoteKind::Note,
-    BlockQuoteKind::Tip,
-    BlockQuoteKind::Important,
-    BlockQuoteKind::Warning,
-    BlockQuoteKind::Caution,
 ];
 const ALIGNMENTS: [Alignment; 4] = [Alignment::None, Alignment::Left, Alignment::Center, Alignment::Right];
 
@@ -34,49 +26,15 @@ struct Row {
     answer: String,
 }
 
-/// The bytes of a text as the file has it.
-fn read_text(text: &str) -> Vec<u8> {
-    let mut bytes = vec![];
-    let mut rest = text.bytes();
-    while let Some(byte) = rest.next() {
-        bytes.push(match (byte, byte == b'\\') {
-            (byte, false) => byte,
-            _ => match rest.next() {
-                Some(b'n') => b'\n',
-                Some(b'r') => b'\r',
-                Some(b't') => b'\t',
-                Some(b'\\') => b'\\',
-                Some(b'x') => {
-                    let digits = [rest.next().unwrap(), rest.next().unwrap()];
-                    u8::from_str_radix(std::str::from_utf8(&digits).unwrap(), 16).unwrap()
-                }
-                kind => panic!("no escape: {kind:?} in {text}"),
-            },
-        });
-    }
-    bytes
-}
-
-fn read_number(word: &str) -> usize {
-    match word {
-        "max" => usize::MAX,
-        "true" => 1,
-        "false" => 0,
-        _ => word.parse().unwrap(),
-    }
-}
-
-fn read_row(line: &str) -> Row {
-    let columns: Vec<&str> = line.split('\t').collect();
-    let [call, text, arguments, answer] = columns[..] else { panic!("not four columns: {line}") };
+fn read_row([call, text, arguments, answer]: [&str; 4]) -> Row {
     let mut row =
         Row { call: call.into(), text: read_text(text), one: 0, two: 0, other: vec![], answer: answer.into() };
     if matches!(call, "scan_while" | "scan_rev_while" | "labels_match") {
         row.other = read_text(if arguments == "-" { "" } else { arguments });
         return row;
     }
-    let numbers: Vec<usize> = arguments.split_whitespace().map(read_number).collect();
-    assert!(numbers.len() <= 2, "too many arguments: {line}");
+    let numbers = numbers(arguments, ' ');
+    assert!(numbers.len() <= 2, "too many arguments: {call} {arguments}");
     row.one = numbers.first().copied().unwrap_or(0);
     row.two = numbers.get(1).copied().unwrap_or(0);
     row
@@ -186,20 +144,8 @@ fn found(row: &Row) -> Option<String> {
 /// A call at the front of a line, and how many bytes it has passed.
 fn at_front(row: &Row) -> Option<String> {
     let mut start = LineStart::new(&row.text);
-    let fields = match &row.call[..] {
-        "line_list" => start
-            .scan_list_marker_with_indent(row.one)
-            .map(|(byte, number, indent)| format!("delimiter={byte} start={number} indent={indent}")),
-        "line_definition" => {
-            let columns = start.scan_definition_list_definition_marker_with_indent(row.one);
-            columns.map(|columns| format!("columns={columns}"))
-        }
-        "line_task" => start.scan_task_list_marker().map(|checked| format!("checked={}", usize::from(checked))),
-        _ => start
-            .scan_blockquote_tag()
-            .map(|kind| format!("kind={}", 1 + ALERTS.iter().position(|it| *it == kind).unwrap())),
-    };
-    fields.map(|fields| format!("{fields} place={}", start.bytes_scanned()))
+    let fields = line_answer(&mut start, &row.call, row.one)?;
+    Some(format!("{fields} place={}", start.bytes_scanned()))
 }
 
 fn definition(data: &[u8], start: usize, max_next: usize) -> Option<String> {
@@ -242,12 +188,6 @@ fn made(row: &Row) -> Option<Option<(usize, Vec<u8>)>> {
     })
 }
 
-/// The text of an answer, and how many bytes are taken; `None` where it is refused.
-fn wanted_text(answer: &str) -> Option<(usize, Vec<u8>)> {
-    let (taken, text) = answer.strip_prefix("taken=")?.split_once(" text=").unwrap();
-    Some((taken.parse().unwrap(), read_text(text)))
-}
-
 /// The calls whose answer is a status.
 fn status(row: &Row) -> Option<&'static str> {
     let status = |is_so| if is_so { "MDS_OK" } else { "MDS_NOTHING" };
@@ -277,7 +217,7 @@ fn check(row: &Row) {
         return assert_eq!(status, row.answer, "{title}");
     }
     if let Some(made) = made(row) {
-        return assert_eq!(made, wanted_text(&row.answer), "{title}");
+        return assert_eq!(made, text_of(&row.answer).map(|(taken, _, text)| (taken, text)), "{title}");
     }
     let answer = number(row).or_else(|| fields(row)).or_else(|| found(row));
     // a line start's columns are its own
@@ -287,9 +227,12 @@ fn check(row: &Row) {
 
 #[test]
 fn rows_of_the_table() {
-    let file = fs::read_to_string(FILE).unwrap();
-    let rows: Vec<Row> = file.lines().filter(|line| !line.starts_with('#')).map(read_row).collect();
-    assert!(rows.len() > 400);
-    assert!(rows.iter().filter(|row| is_left_out(row)).count() < 20);
-    rows.iter().filter(|row| !is_left_out(row)).for_each(check);
+    each_row("rows.tsv", |_, columns| {
+        let row = read_row(columns);
+        let is_in = !is_left_out(&row);
+        if is_in {
+            check(&row);
+        }
+        is_in
+    });
 }
