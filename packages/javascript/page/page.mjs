@@ -262,7 +262,7 @@ function movedTab(event) {
 }
 
 worker.onmessage = heard;
-worker.onerror = (event) => say(`The scanners can't be had: ${event.message ?? "the worker has stopped"}`, true);
+worker.onerror = (event) => say(`The parser can't be had: ${event.message ?? "the worker has stopped"}`, true);
 file.addEventListener("change", open);
 text.addEventListener("scroll", follow);
 text.addEventListener("input", () => {

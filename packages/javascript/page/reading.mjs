@@ -1,5 +1,5 @@
 /**
- * What the scanners see of a page, block by block and line by line: what each container takes of a line, what the block has there,
+ * What the parser sees of a page, block by block and line by line: what each container takes of a line, what the block has there,
  * and what stands in paragraphs, headings and cells. It is no whole parser: what makes links of brackets is left to the reader.
  */
 import { Line } from "./containers.mjs";

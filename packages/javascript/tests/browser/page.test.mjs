@@ -310,7 +310,7 @@ test("safe HTML is rendered, and what is pointed at has its source marked", asyn
     await type("*again*");
     assert.deepEqual((await browser.ask(inFrame)).html, "<p><em>again</em></p>\n");
     assert.equal((await pointAt("em")).marks, "*again*");
-    assert.equal(await browser.ask(() => document.title), "What the scanners see");
+    assert.equal(await browser.ask(() => document.title), "What the parser sees");
     assert.deepEqual(faults, []);
 });
 
