@@ -1,0 +1,250 @@
+//! Blocks, lists, inlines and HTML of pages as Rust has them. The values are worked out by hand from CommonMark 0.31.2 and GitHub
+//! Flavored Markdown 0.29.
+
+use proved_markdown::*;
+
+/// The kinds of the leaf blocks, with their first lines, how many containers they go on with, and how many they stand in.
+fn returned(page: &[u8]) -> Vec<(BlockKind, usize, usize, usize)> {
+    scan_blocks(page).map(|it| (it.kind, it.lines.start, it.kept, it.containers().len())).collect()
+}
+
+fn contents(page: &str) -> Vec<String> {
+    scan_blocks(page.as_bytes()).map(|it| String::from_utf8(it.content()).unwrap()).collect()
+}
+
+/// Examples of CommonMark 0.31.2 by their numbers, and of tables.
+#[test]
+fn blocks() {
+    use BlockKind::*;
+    use HeadingLevel::*;
+    assert_eq!(returned(b""), []);
+    assert_eq!(returned(b"***\n"), [(Break, 0, 0, 0)]);
+    assert_eq!(returned(b"## foo ##\n\nbar\n---"), [(Heading(H2), 0, 0, 0), (Blank, 1, 0, 0), (Setext(H2), 2, 0, 0)]);
+    assert_eq!(returned(b"````\n```\n"), [(Fenced(4, b'`'), 0, 0, 0)]); // as 124
+    assert_eq!(returned(b"<!-- a -->\n"), [(Html(HtmlBlockKind::Comment), 0, 0, 0)]);
+    assert_eq!(returned(b"| a |\n| - |\n| b |"), [(Table(1), 0, 0, 0)]);
+    let expected = [(Definition, 0, 0, 0), (Setext(H1), 1, 0, 0), (Paragraph, 3, 0, 0)];
+    assert_eq!(returned(b"[foo]: /url\nbar\n===\n[foo]\n"), expected); // 215
+    assert_eq!(returned(b"> bar\nbaz\n> foo\n"), [(Paragraph, 0, 0, 1)]); // 233
+    let expected = [(Paragraph, 0, 0, 1), (Blank, 1, 1, 1), (Indented, 2, 1, 1)];
+    assert_eq!(returned(b"- foo\n\n\t\tbar\n"), expected); // 5
+    let expected = [(Blank, 0, 0, 1), (Blank, 1, 0, 0), (Paragraph, 2, 0, 0)];
+    assert_eq!(returned(b"-\n\n  foo\n"), expected); // 280
+    assert_eq!(contents("- foo\n\n\t\tbar\n"), ["foo", "", "  bar\n"]);
+    assert_eq!(contents("> bar\nbaz\n> foo\n"), ["bar\nbaz\nfoo"]);
+    assert_eq!(contents(" ```\n aaa\naaa\n```\n"), ["aaa\naaa\n"]); // 131
+}
+
+#[test]
+fn places_of_blocks() {
+    let page = b"> - a\n\n   b\n 12) c";
+    let blocks: Vec<_> = scan_blocks(page).collect();
+    let quote = Container::Quote { place: 0 };
+    let bullet = Container::Item { place: 2, delimiter: b'-', start: 0, width: 2 };
+    assert_eq!(blocks[0].containers(), [quote, bullet]);
+    assert_eq!((blocks[0].range.clone(), blocks[0].place, blocks[0].indent), (0..6, 4, 0));
+    assert_eq!((blocks[2].range.clone(), blocks[2].place, blocks[2].indent), (7..18, 10, 3));
+    assert_eq!((blocks.len(), blocks[2].lines.clone()), (3, 2..4)); // the number of an item that ends a paragraph is 1
+    let other: Vec<_> = scan_blocks(b" 12) c").collect();
+    assert_eq!(other[0].containers(), [Container::Item { place: 1, delimiter: b')', start: 12, width: 5 }]);
+}
+
+/// More blocks and containers than the room that is tried first.
+#[test]
+fn many_blocks() {
+    let page = [">".repeat(1000), "a\n".into(), "\n- ".repeat(500)].concat();
+    let blocks: Vec<_> = scan_blocks(page.as_bytes()).collect();
+    assert_eq!((blocks[0].containers().len(), blocks[0].content()), (1000, b"a".to_vec()));
+    assert_eq!(blocks.iter().map(|it| it.range.len()).sum::<usize>(), page.len());
+    let code = [b" ```\n".to_vec(), b"\ta\n".repeat(100)].concat(); // of each tab one column is indent (4.5)
+    assert_eq!(scan_blocks(&code).next().unwrap().content(), b"   a\n".repeat(100));
+}
+
+/// Examples of CommonMark 0.31.2, and many lists.
+#[test]
+fn lists() {
+    type Returned = (u8, u32, bool, usize, usize, usize);
+    let rows: [(&str, &[Returned]); 5] = [
+        ("a\n", &[]),
+        ("- foo\n- bar\n+ baz\n", &[(b'-', 0, false, 0, 0, 2), (b'+', 0, false, 0, 2, 3)]), // 301
+        ("- a\n- ```\n  b\n\n\n  ```\n- c\n", &[(b'-', 0, false, 0, 0, 7)]),                // 318
+        ("- a\n  - b\n\n    c\n- d\n", &[(b'-', 0, true, 1, 1, 4), (b'-', 0, false, 0, 0, 5)]), // 319
+        ("123456789. ok\n", &[(b'.', 123_456_789, false, 0, 0, 1)]),                        // 265
+    ];
+    for (page, expected) in rows {
+        let found = scan_lists(page.as_bytes());
+        let returned =
+            found.iter().map(|it| (it.delimiter, it.start, it.is_loose, it.depth, it.lines.start, it.lines.end));
+        assert_eq!(returned.collect::<Vec<_>>(), expected);
+    }
+    assert_eq!(scan_lists("- a\n+ a\n".repeat(1000).as_bytes()).len(), 2000);
+}
+
+fn kinds_of(text: &str, labels: &[&str]) -> Vec<InlineKind> {
+    scan_inlines(text, labels, InlineExtensions::default()).map(|it| it.kind).collect()
+}
+
+/// A text with elements for its emphasis and its links, of which each has its destination or its label.
+fn marked(text: &str, labels: &[&str], extensions: InlineExtensions) -> String {
+    let element = |kind: &str, link: Link| match link.target {
+        LinkTarget::Inline { destination, .. } => format!("<{kind} {}>", &text[destination]),
+        LinkTarget::Full(label) | LinkTarget::Collapsed(label) | LinkTarget::Shortcut(label) => {
+            format!("<{kind} [{}]>", &text[label])
+        }
+        LinkTarget::Wiki(target) => format!("<{kind} [[{}]]>", &text[target]),
+    };
+    let marked = |it: Inline| match it.kind {
+        InlineKind::StartEmphasis => "<em>".into(),
+        InlineKind::EndEmphasis => "</em>".into(),
+        InlineKind::StartStrong => "<strong>".into(),
+        InlineKind::EndStrong => "</strong>".into(),
+        InlineKind::StartStrikethrough => "<del>".into(),
+        InlineKind::EndStrikethrough => "</del>".into(),
+        InlineKind::Code(content) => format!("<code>{}</code>", &text[content]),
+        InlineKind::StartLink(link) => element("a", link),
+        InlineKind::StartImage(link) => element("img", link),
+        InlineKind::EndLink => "</>".into(),
+        InlineKind::SoftBreak => "\n".into(),
+        InlineKind::HardBreak => "<br>".into(),
+        _ => text[it.range].into(),
+    };
+    scan_inlines(text, labels, extensions).map(marked).collect()
+}
+
+/// Examples of CommonMark 0.31.2 by their numbers.
+#[test]
+fn inlines() {
+    let rows: [(&str, &[&str], &str); 13] = [
+        ("foo\\\nbar", &[], "foo<br>bar"),                                           // 16
+        ("`` foo ` bar ``", &[], "<code> foo ` bar </code>"),                        // 329, its spaces too
+        ("foo***bar***baz", &[], "foo<em><strong>bar</strong></em>baz"),             // 416
+        ("*foo [*bar*](/url)*", &[], "<em>foo <a /url><em>bar</em></></em>"),        // 419
+        ("[link](foo(and(bar)))", &[], "<a foo(and(bar))>link</>"),                  // 496
+        ("[foo *bar](baz*)", &[], "<a baz*>foo *bar</>"),                            // 522
+        ("[foo [bar](/uri)][ref]", &["ref"], "[foo <a /uri>bar</>]<a [ref]>ref</>"), // 532
+        ("[foo][BaR]", &["bar"], "<a [BaR]>foo</>"),                                 // 539
+        ("[*foo* bar][]", &["*foo* bar"], "<a [*foo* bar]><em>foo</em> bar</>"),     // 554
+        ("[foo](not a link)", &["foo"], "<a [foo]>foo</>(not a link)"),              // 568
+        ("[foo][bar][baz]", &["baz", "foo"], "[foo]<a [baz]>bar</>"),                // 571
+        ("![foo ![bar](/url)](/url2)", &[], "<img /url2>foo <img /url>bar</></>"),   // 574
+        ("foo \n baz", &[], "foo\nbaz"),                                             // 649
+    ];
+    for (text, labels, expected) in rows {
+        let none = InlineExtensions::default();
+        assert_eq!(marked(text, labels, none), expected);
+        assert_eq!(scan_inlines(text, labels, none).map(|it| &text[it.range]).collect::<String>(), text);
+    }
+}
+
+/// Examples of GitHub Flavored Markdown 0.29 by their numbers, and what CommonMark alone makes of one.
+#[test]
+fn strikethrough() {
+    let extensions = InlineExtensions { strikethrough: true, ..InlineExtensions::default() };
+    let text = "~~Hi~~ Hello, ~there~ world!"; // 491
+    assert_eq!(marked(text, &[], extensions), "<del>Hi</del> Hello, <del>there</del> world!");
+    assert_eq!(marked(text, &[], InlineExtensions::default()), text);
+    for text in ["This ~~has a", "new paragraph~~."] {
+        assert_eq!(marked(text, &[], extensions), text); // 492
+    }
+}
+
+/// Two brackets, a target, and perhaps a pipe and a text; and what CommonMark alone makes of one.
+#[test]
+fn wikilinks() {
+    let extensions = InlineExtensions { wikilinks: true, ..InlineExtensions::default() };
+    let both = InlineExtensions { strikethrough: true, ..extensions };
+    assert_eq!(marked("[[a]] ![[b|*c*]]", &[], extensions), "<a [[a]]></> <img [[b]]><em>c</em></>");
+    assert_eq!(marked("~[[a]]~", &[], both), "<del><a [[a]]></></del>");
+    assert_eq!(marked("~[[a]]~", &[], extensions), "~<a [[a]]></>~");
+    assert_eq!(marked("[[a]]", &["a"], InlineExtensions::default()), "[<a [a]>a</>]");
+    for text in ["[[]]", "[[a]", "[[a\nb]]", "[[a|b](c)"] {
+        assert_eq!(marked(text, &[], extensions), text);
+    }
+}
+
+#[test]
+fn parts_of_inlines() {
+    use InlineKind::*;
+    assert_eq!(kinds_of("", &["a"]), []);
+    assert_eq!(kinds_of("\\*&amp;<a>", &[]), [Escape, Reference, Html]);
+    assert_eq!(kinds_of("``a``<bb:c><d@e>", &[]), [Code(2..3), Uri(6..10), Email(12..15)]);
+    let target = |text, labels: &[&str]| match kinds_of(text, labels).swap_remove(0) {
+        StartLink(link) | StartImage(link) => (link.target, link.end),
+        kind => panic!("{kind:?}"),
+    };
+    assert_eq!(target("![a](<b> 'c')", &[]), (LinkTarget::Inline { destination: 6..7, title: Some(10..11) }, 13));
+    assert_eq!(target("[a]()", &[]), (LinkTarget::Inline { destination: 4..4, title: None }, 5));
+    assert_eq!(target("[a](b '')", &[]), (LinkTarget::Inline { destination: 4..5, title: Some(7..7) }, 9));
+    assert_eq!(target("[a][B]", &["b"]), (LinkTarget::Full(4..5), 6));
+    assert_eq!(target("[ä][]", &["", "Ä"]), (LinkTarget::Collapsed(1..3), 6));
+    assert_eq!(target("[a]", &["a", "a"]), (LinkTarget::Shortcut(1..2), 3));
+}
+
+/// More inlines than the room that is tried first, and more labels than a few.
+#[test]
+fn many_inlines() {
+    let text = ["*a ".repeat(1000), "b*".repeat(1000), "[999]".into()].concat();
+    let numbers: Vec<_> = (0..1000).map(|it| it.to_string()).collect();
+    let labels: Vec<_> = numbers.iter().map(String::as_str).collect();
+    let inlines = scan_inlines(&text, &labels, InlineExtensions::default());
+    assert_eq!(inlines.len(), inlines.clone().count());
+    assert_eq!(inlines.filter(|it| it.kind == InlineKind::EndEmphasis).count(), 1000);
+    assert_eq!(kinds_of(&text, &labels).last(), Some(&InlineKind::EndLink));
+}
+
+/// Examples of CommonMark 0.31.2 and of GitHub Flavored Markdown 0.29, by their numbers.
+#[test]
+fn html_of_pages() {
+    let none = Extensions::default();
+    let every = Extensions { tables: true, strikethrough: true, tasks: true, wikilinks: true };
+    assert_eq!(html("", none), "");
+    assert_eq!(html("> # Foo\n> bar\n> baz\n", none), "<blockquote>\n<h1>Foo</h1>\n<p>bar\nbaz</p>\n</blockquote>\n"); // 228
+    assert_eq!(html("</div>\n*foo*\n", none), "</div>\n*foo*\n"); // 151
+    let table = "<table>\n<thead>\n<tr>\n<th>abc</th>\n<th>def</th>\n</tr>\n</thead>\n</table>\n";
+    assert_eq!(html("| abc | def |\n| --- | --- |\n", every), table); // 205
+    assert_eq!(safe_html("| abc | def |\n| --- | --- |\n", every), table);
+    assert_eq!(html("| a |\n| - |\n", none), "<p>| a |\n| - |</p>\n");
+    let struck = "<p><del>Hi</del> Hello, <del>there</del> world!</p>\n";
+    assert_eq!(html("~~Hi~~ Hello, ~there~ world!\n", every), struck); // 491
+    let tasks = "<ul>\n<li><input disabled=\"\" type=\"checkbox\"> foo</li>\n</ul>\n";
+    assert_eq!(html("- [ ] foo\n", every), tasks); // 279
+    assert_eq!(html("[[a|b]]", every), "<p><a href=\"a\">b</a></p>\n");
+}
+
+/// Each extension is its own.
+#[test]
+fn html_by_one_extension() {
+    let pages = ["|a|\n|-|\n", "~a~", "- [x] a", "[[a]]"];
+    for asked in 0..4 {
+        let only = |which| asked == which;
+        let (tables, strikethrough, tasks, wikilinks) = (only(0), only(1), only(2), only(3));
+        let extensions = Extensions { tables, strikethrough, tasks, wikilinks };
+        for (number, page) in pages.iter().enumerate() {
+            let is_read = html(page, extensions) != html(page, Extensions::default());
+            assert_eq!(is_read, number == asked, "{page} with the extension {asked}");
+        }
+    }
+}
+
+#[test]
+fn safe_html_of_pages() {
+    let none = Extensions::default();
+    let link =
+        |address: &str, text: &str| format!("<p><a href=\"{address}\" rel=\"nofollow noopener\">{text}</a></p>\n");
+    assert_eq!(safe_html("a <b c=\"d\">&amp;", none), "<p>a &lt;b c=&quot;d&quot;&gt;&amp;</p>\n");
+    assert_eq!(safe_html("<HTTP://b>", none), link("HTTP://b", "HTTP://b"));
+    assert_eq!(safe_html("[a](java&Tab;script:b)", none), link("", "a"));
+    assert_eq!(safe_html_with_schemes("<https://a>", none, &["ftp", "HTTPS"]), link("https://a", "https://a"));
+    assert_eq!(safe_html_with_schemes("<https://a>", none, &["ftp"]), link("", "https://a"));
+    assert_eq!(safe_html_with_schemes("<https://a>", none, &[]), link("", "https://a"));
+    assert_eq!(safe_html_with_schemes("[a](b)", none, &[]), link("b", "a"));
+}
+
+/// An address is written as often as it is referred to.
+#[test]
+fn long_html() {
+    let address = format!("/{}", "b".repeat(5000));
+    let page = format!("{}\n[a]: {address}\n", "[a]\n".repeat(100));
+    let links = vec![format!("<a href=\"{address}\">a</a>"); 100];
+    assert_eq!(html(&page, Extensions::default()), format!("<p>{}</p>\n", links.join("\n")));
+}
