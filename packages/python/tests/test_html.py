@@ -1,9 +1,14 @@
 """The HTML of pages, on the rows of packages/pages.tsv."""
+import sys
 import unittest
+from pathlib import Path
 
 import proved_markdown as mds
 import tables
 from test_rows import hold
+
+sys.path.append(str(Path(__file__).resolve().parents[3] / "tests/html"))
+import spec
 
 EXTENSIONS = {"tables": "table", "strikethrough": "strikethrough", "tasks": "tasklist", "wikilinks": "wikilinks"}
 
@@ -36,6 +41,19 @@ class Html(unittest.TestCase):
         self.are_rows(others, safe=True)
         hold(self, "safe_html", len(others))
         hold(self, "safe_html_left_out", len(of_schemes))
+
+    def test_numbers_of_rows(self):
+        """A row with a number is of that example of CommonMark 0.31.2, and its HTML the one that stands there."""
+        examples = {str(it.number): it for it in spec.examples(spec.COMMONMARK)}
+        rows = [it for call in tables.PAGE_CALLS for it in tables.pages(call) if it.example in examples]
+        for row in rows:
+            example = examples[row.example]
+            self.assertIn(row.text, example.page, row.where)
+            if row.call != "scan_inlines":
+                self.assertEqual(row.text, example.page, row.where)
+            if row.call == "html":
+                self.assertEqual(row.answer, example.html, row.where)
+        hold(self, "numbered_rows", len(rows))
 
     def test_safe_is_the_default(self):
         self.assertEqual(mds.html("<script>"), "&lt;script&gt;\n")
