@@ -104,17 +104,8 @@ def of_packages():
 
 
 def of_sources():
-    vectors = "crates/cmark_vectors/src"
-    hostile = [
-        number(f"{vectors}/inline_html/hostile.rt", r'\(b"<!--", (\d+),'),
-        number(f"{vectors}/line.rt", r'long_text\(rt\.alloc\(\), b"", b"- ", ([\d_]+),'),
-        number(f"{vectors}/linklabel.rt", r'"\\\\\[\\n"\.repeat\(alloc, ([\d_]+)\)'),
-        number(f"{vectors}/scanners/html_tag.rt", r'b"<a", b"\\n> b", ([\d_]+),'),
-    ]
-    places = "such as {} openers, {} bullets, a label among {} escaped brackets, and tags over {} lines"
     return [
         ("README.md", "whose logic `rt version` names `{}`", [source("tests/mutations/rt_internals.py", r'KIT = ".* logic (\w+)"')]),
-        ("README.md", places, hostile),
         ("docs/DECISIONS.md", "a perfect hash of {} seeds", [number("crates/html_entities/generate.py", r"(?m)^SEED_COUNT = (\d+)")]),
         ("tests/mutations/README.md", "tries up to {} in one check", [number("tests/mutations/edit_groups.py", r"(?m)^MOST = (\d+)")]),
     ]
