@@ -1,8 +1,8 @@
 #!/usr/bin/env python3
 """Prints how many megabytes of Markdown a second become HTML, by this package and by those of others that are installed: of each the
-best of RUNS runs over the file.
+best of RUNS runs over the file, or over its first BYTES bytes, since commonmark takes a time that grows with the square of some pages.
 
-    packages/python/tests/html_speed.py [--runs RUNS] FILE.md"""
+    packages/python/tests/html_speed.py [--runs RUNS] [--bytes BYTES] [--without NAME] FILE.md"""
 import argparse
 import os
 import sys
@@ -42,9 +42,11 @@ def main():
     parser = argparse.ArgumentParser(description=__doc__, formatter_class=argparse.RawDescriptionHelpFormatter)
     parser.add_argument("file", type=Path, metavar="FILE.md")
     parser.add_argument("--runs", type=int, default=5)
+    parser.add_argument("--bytes", type=int, help="how many bytes of the file are read; else all")
+    parser.add_argument("--without", choices=MAKERS, action="append", default=[], metavar="NAME", help="leaves this one out")
     asked = parser.parse_args()
-    page = asked.file.read_text(encoding="utf-8")
-    for name, make in MAKERS.items():
+    page = asked.file.read_bytes()[: asked.bytes].decode(errors="ignore")
+    for name, make in [it for it in MAKERS.items() if it[0] not in asked.without]:
         try:
             call = make()
         except ImportError:
