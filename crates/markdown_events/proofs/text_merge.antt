@@ -1,2 +1,3 @@
+pub mod KeptLaws
 pub mod MergeLaws
 pub mod MergeLemmas

@@ -71,6 +71,14 @@ pub record GivesMergedWith (more : Targets) (m : MergeLeft) (events : List Range
   pub are_later : GivesWith more m.left rest
   pub given : events ≡ merged (read_ahead m ++ rest)
 
+-- this holds of whatever merged events are given from here
+abbrev pub GivesOnlyMerged : (List RangedEvent → Type 0) → MergeLeft → Type 0
+GivesOnlyMerged Holds m = (events : List RangedEvent) → GivesMerged m events → Holds events
+
+-- also where labels that the page does not define lead as these say
+abbrev pub GivesOnlyMergedWith : Targets → (List RangedEvent → Type 0) → MergeLeft → Type 0
+GivesOnlyMergedWith more Holds m = (events : List RangedEvent) → GivesMergedWith more m events → Holds events
+
 -- a number that the events lower that are not joined so far
 abbrev pub unread : PageLeft → Option RangedEvent → ℕ
 unread left after = events_left left + length (option_to_list after)

@@ -1,10 +1,12 @@
 //! The events of a page with each run of texts as one text.
-ghost use Rattle.std.specs.Prelude.{◌≡◌, ◌≤◌, ◌<◌, ◌∷◌, [], List, None, Some, OnOk, option_map, IfErr, IfOk, IfSome, IfNone, IsOk, true, false};
+ghost use Rattle.std.specs.Prelude.{◌≡◌, ◌≤◌, ◌<◌, ◌∷◌, [], List, ℕ, None, Some, OnOk, option_map, IfErr, IfOk, IfSome, IfNone, IsOk, true, false};
+ghost use Rattle.markdown_events.specs.EventLaws.{AreAtBoundaries, AreBalanced, AreWithin};
 ghost use Rattle.markdown_events.specs.InlineEvents.{RangedEvent, seen_event};
+ghost use Rattle.markdown_events.specs.Nesting.{AreNested, without_ranges};
 ghost use Rattle.markdown_events.specs.Targets.{Targets};
-ghost use Rattle.markdown_events.specs.TextMerge.{AreParted, GivesMerged, GivesMergedWith, IsMergeDone, RangedText, Takes};
+ghost use Rattle.markdown_events.specs.TextMerge.{AreParted, GivesMerged, GivesMergedWith, GivesOnlyMergedWith, IsMergeDone, RangedText, Takes};
 ghost use Rattle.markdown_events.specs.TextMerge.{items, merged, merged_left, reads_text, text_event, unread, with_text};
-ghost use Rattle.markdown_events.specs.page.Given.{GivesWith, IsDone};
+ghost use Rattle.markdown_events.specs.page.Given.{GivesOnlyWith, GivesWith, IsDone};
 
 use crate::definitions::{Definitions, NoBrokenLinks, PageDefinitions};
 use crate::event_reader::EventReader;
@@ -51,6 +53,19 @@ impl<'a> TextMergeReader<'a> {
         ensures same { (more : Targets) → (events : List RangedEvent)
             → GivesMergedWith more result events → (all : List RangedEvent)
             × GivesWith more reader.entry all × (items events ≡ items all) }
+
+        // What holds of the events that the reader has left, holds of them merged.
+        ensures balanced { (more : Targets) → GivesOnlyWith more AreBalanced reader.entry
+            → GivesOnlyMergedWith more AreBalanced result }
+        ensures nested { (more : Targets)
+            → GivesOnlyWith more (λ events. AreNested (without_ranges events)) reader.entry
+            → GivesOnlyMergedWith more (λ events. AreNested (without_ranges events)) result }
+        ensures within { (more : Targets) → (page : List ℕ)
+            → GivesOnlyWith more (AreWithin page) reader.entry
+            → GivesOnlyMergedWith more (AreWithin page) result }
+        ensures boundaries { (more : Targets) → (page : List ℕ)
+            → GivesOnlyWith more (AreAtBoundaries page) reader.entry
+            → GivesOnlyMergedWith more (AreAtBoundaries page) result }
         ensures definitions { result.left.known ≡ reader.entry.known }
     {
         TextMergeReader {

@@ -1,10 +1,12 @@
 //! The events of a page with each run of texts as one text, as iterators.
-ghost use Rattle.std.specs.Prelude.{◌≡◌, List};
+ghost use Rattle.std.specs.Prelude.{◌≡◌, List, ℕ};
 ghost use Rattle.std.specs.Iterator.{at_most};
+ghost use Rattle.markdown_events.specs.EventLaws.{AreAtBoundaries, AreBalanced, AreWithin};
 ghost use Rattle.markdown_events.specs.InlineEvents.{RangedEvent};
-ghost use Rattle.markdown_events.specs.TextMerge.{AreParted, GivesMerged, items, merged};
+ghost use Rattle.markdown_events.specs.Nesting.{AreNested, without_ranges};
+ghost use Rattle.markdown_events.specs.TextMerge.{AreParted, GivesMerged, GivesOnlyMerged, items, merged};
 ghost use Rattle.markdown_events.specs.TextMerge.{GivesNextMerged, GivesNextMergedEvent, MergeIterated, merged_items_left};
-ghost use Rattle.markdown_events.specs.page.Given.{Gives};
+ghost use Rattle.markdown_events.specs.page.Given.{Gives, GivesOnly};
 
 use crate::definitions::PageDefinitions;
 use crate::parser::{OffsetIter, Parser};
@@ -51,6 +53,16 @@ impl<'a> TextMergeStream<'a> {
             → AreParted events }
         ensures same { (events : List RangedEvent) → GivesMerged result.left events
             → (all : List RangedEvent) × Gives parser.entry.left all × (items events ≡ items all) }
+
+        // What holds of the events that the parser has left, holds of them merged.
+        ensures balanced { GivesOnly AreBalanced parser.entry.left
+            → GivesOnlyMerged AreBalanced result.left }
+        ensures nested { GivesOnly (λ all. AreNested (without_ranges all)) parser.entry.left
+            → GivesOnlyMerged (λ all. AreNested (without_ranges all)) result.left }
+        ensures within { (page : List ℕ) → GivesOnly (AreWithin page) parser.entry.left
+            → GivesOnlyMerged (AreWithin page) result.left }
+        ensures boundaries { (page : List ℕ) → GivesOnly (AreAtBoundaries page) parser.entry.left
+            → GivesOnlyMerged (AreAtBoundaries page) result.left }
         ensures definitions { result.left.left.known ≡ parser.entry.left.known }
         ensures stopped { result.is_stopped ≡ parser.entry.is_stopped }
     {
@@ -83,6 +95,16 @@ impl<'a> TextMergeWithOffset<'a> {
             → AreParted given }
         ensures same { (given : List RangedEvent) → GivesMerged result.left given
             → (all : List RangedEvent) × Gives events.entry.left all × (items given ≡ items all) }
+
+        // What holds of the events that the iterator has left, holds of them merged.
+        ensures balanced { GivesOnly AreBalanced events.entry.left
+            → GivesOnlyMerged AreBalanced result.left }
+        ensures nested { GivesOnly (λ all. AreNested (without_ranges all)) events.entry.left
+            → GivesOnlyMerged (λ all. AreNested (without_ranges all)) result.left }
+        ensures within { (page : List ℕ) → GivesOnly (AreWithin page) events.entry.left
+            → GivesOnlyMerged (AreWithin page) result.left }
+        ensures boundaries { (page : List ℕ) → GivesOnly (AreAtBoundaries page) events.entry.left
+            → GivesOnlyMerged (AreAtBoundaries page) result.left }
         ensures definitions { result.left.left.known ≡ events.entry.left.known }
         ensures stopped { result.is_stopped ≡ events.entry.is_stopped }
     {

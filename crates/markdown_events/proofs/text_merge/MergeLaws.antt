@@ -1,5 +1,5 @@
 -- What holds of merged events.
-use Rattle.std.proofs.Common.{ℕ, Bool, true, false, List, [], ◌∷◌, ◌++◌, ◌≡◌, append_assoc, ap, map, refl, sym, ◌∙◌}
+use Rattle.std.proofs.Common.{ℕ, true, false, List, [], ◌∷◌, ◌++◌, ◌≡◌, append_assoc, ap, map, refl, sym, ◌∙◌}
 use Rattle.std.proofs.lemmas.List.{map-append}
 use Rattle.std.specs.declared.ops.Range.{Range}
 use Rattle.markdown_values.specs.values.Events.{text}

@@ -1,5 +1,5 @@
 -- Merged events, as they are given one after another.
-use Rattle.std.proofs.Common.{ℕ, ◌+◌, ◌<◌, ◌≤◌, Bool, true, false, List, [], ◌∷◌, ◌++◌, Option, Some, None, ◌≡◌, append_assoc, arith, ap, length, map, refl, subst, sym, ◌∙◌}
+use Rattle.std.proofs.Common.{ℕ, ◌+◌, ◌<◌, ◌≤◌, true, false, List, [], ◌∷◌, ◌++◌, Option, Some, None, ◌≡◌, append_assoc, arith, ap, length, map, refl, subst, sym, ◌∙◌}
 use Rattle.std.proofs.Common.{append-nil}
 use Rattle.std.specs.Prelude.{IfNone, IfSome, is_some}
 use Rattle.std.specs.Option.{option_map, option_to_list}
@@ -9,9 +9,10 @@ use Rattle.markdown_values.specs.values.Events.{text}
 use Rattle.markdown_blocks.specs.events.Events.{Event}
 use Rattle.markdown_events.specs.InlineEvents.{RangedEvent, seen_event}
 use Rattle.markdown_events.specs.Targets.{Targets, nowhere}
-use Rattle.markdown_events.specs.TextMerge.{GivesMerged, GivesMergedWith, IsMergeDone, MergeLeft, RangedText, Takes, is_text, joined, merged}
+use Rattle.markdown_events.specs.TextMerge.{GivesMerged, GivesMergedWith, GivesOnlyMerged, GivesOnlyMergedWith, IsMergeDone, MergeLeft, RangedText}
+use Rattle.markdown_events.specs.TextMerge.{Takes, joined, merged}
 use Rattle.markdown_events.specs.TextMerge.{merged_left, read_ahead, reads_text, text_event, unread, with_text}
-use Rattle.markdown_events.specs.page.Given.{AreEventsFrom, Gives, GivesWith, IsDone, PageLeft, events_left, setting_with}
+use Rattle.markdown_events.specs.page.Given.{AreEventsFrom, GivesOnly, GivesOnlyWith, GivesWith, IsDone, PageLeft, events_left, setting_with}
 use Rattle.markdown_events.proofs.page.ParserLemmas.{given_with, given_without}
 use Rattle.markdown_events.proofs.text_merge.MergeLaws.{joined_before, joined_other, joined_texts}
 
@@ -20,6 +21,11 @@ merged_without m events g = record { rest = g.rest; are_later = given_without m.
 
 pub merged_with : (m : MergeLeft) (events : List RangedEvent) → GivesMerged m events → GivesMergedWith nowhere m events
 merged_with m events g = record { rest = g.rest; are_later = given_with m.left g.rest g.are_later; given = g.given }
+
+-- what holds of all merged events with no other labels, holds of them
+pub only_without : (Holds : List RangedEvent → Type 0) (left : PageLeft) (m : MergeLeft)
+    → (GivesOnlyWith nowhere Holds left → GivesOnlyMergedWith nowhere Holds m) → GivesOnly Holds left → GivesOnlyMerged Holds m
+only_without Holds left m merges only events g = merges (λ all given. only all (given_without left all given)) events (merged_with m events g)
 
 -- ---- where no event is left
 
