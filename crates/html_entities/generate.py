@@ -46,7 +46,7 @@ def find_places():
 
 
 def starts_of(texts):
-    """Where each text begins once they are written one behind another in UTF-8, and where the last ends."""
+    """Where each text begins once they are written one after another in UTF-8, and where the last ends."""
     starts = [0]
     for text in texts:
         starts.append(starts[-1] + len(text.encode()))
@@ -88,13 +88,13 @@ def escaped(text):
 
 def name_text_file():
     return "\n".join([f"//! The names of the rows. {HEAD}\n",
-                      text_static("NAMES", "The names, one behind another.", NAMES),
+                      text_static("NAMES", "The names, one after another.", NAMES),
                       numbers_static("NAME_STARTS", "u16", "Where each name begins, and where the last ends.", starts_of(NAMES))])
 
 
 def meaning_text_file():
     return "\n".join([f"//! The meanings of the rows. {HEAD}\n",
-                      text_static("MEANINGS", "The meanings, one behind another.", map(escaped, MEANINGS)),
+                      text_static("MEANINGS", "The meanings, one after another.", map(escaped, MEANINGS)),
                       numbers_static("MEANING_STARTS", "u16", "Where each meaning begins, and where the last ends.", starts_of(MEANINGS))])
 
 
