@@ -5,11 +5,11 @@ use Rattle.std.proofs.lemmas.Bool.{cond-true, cond-false, false_from_ne_true, an
 use Rattle.std.specs.Result.{OkIff, result_ok}
 use Rattle.std.specs.Str.{all_ascii_digits}
 use Rattle.std.specs.Str.Parse.{digits_value, ParsesUnsigned}
-use Rattle.std.proofs.lemmas.Str.Parse.{parse_plain, numerals_by_value, prints_all_ascii_digits, IsNumeralModel}
+use Rattle.std.proofs.lemmas.Str.Parse.{parse_plain, numerals_by_value, tells_all_ascii_digits, IsNumeralModel}
 use Rattle.cmark_scan.specs.words.Words.{number_of}
 
 own : IsNumeralModel (λ ds. all_ascii_digits ds ≡ true) (digits_value 10)
-own = numerals_by_value _ prints_all_ascii_digits
+own = numerals_by_value _ tells_all_ascii_digits
 
 -- a result that is `Ok` exactly where three tests pass
 by_tests : {E : Type 0} (a : Bool) (n m top v : ℕ) (r : Result ℕ E) → OkIff r ((a ≡ true) × (n < m) × (v < top)) v
