@@ -1,4 +1,6 @@
+mod DefinitionLemmas
 mod LawLemmas
 mod LinkLemmas
 mod OffsetLemmas
 mod PositionLemmas
+mod TextLemmas
