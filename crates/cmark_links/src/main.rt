@@ -1,12 +1,11 @@
 //! Prints the links of pages of Markdown.
 #![tactic(auto)]
 
-use page_links::checks::FindsFiles;
 use page_links::program::run_program;
 use page_programs::files::OpensFiles;
 use program_faults::{Reason, StepWriter, complain, reason_of};
 use std::env;
-use std::fs::{self, File};
+use std::fs::File;
 use std::io::{self, ErrorKind};
 use std::process::ExitCode;
 
@@ -26,20 +25,6 @@ impl OpensFiles for SystemFiles<'_> {
         match File::open(self.0, name) {
             Ok(file) => Ok(file),
             Err(error) => Err(reason_of(error.kind())),
-        }
-    }
-}
-
-impl FindsFiles for SystemFiles<'_> {
-    ghost use Rattle.std.specs.Prelude.{⊤};
-
-    // No clause says what is there.
-    ghost finds = { λ _ _ _. ⊤ };
-
-    fn is_there(&self, path: &str) -> bool {
-        match fs::exists(self.0, path) {
-            Ok(is_there) => is_there,
-            Err(_) => false,
         }
     }
 }
@@ -79,7 +64,6 @@ fn main(rt: HostRuntime) -> ExitCode {
     ExitCode::from(run_program(
         rt.alloc(),
         &words,
-        &SystemFiles(&rt),
         &mut rt.stdin(),
         &mut SystemFiles(&rt),
         &mut rt.stdout(),

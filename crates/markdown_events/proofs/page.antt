@@ -1,5 +1,4 @@
 pub mod FrontLists
-pub mod InPageLemmas
 pub mod IteratedLemmas
 pub mod LevelLemmas
 pub mod NestLemmas

@@ -1,5 +1,4 @@
 pub mod Given
-pub mod InPage
 pub mod Iterated
 pub mod LeafContent
 pub mod LeafEvents

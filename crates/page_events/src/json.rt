@@ -6,7 +6,7 @@ ghost use Rattle.markdown_events.specs.InlineEvents.{seen_event};
 ghost use Rattle.page_blocks.specs.json.Json.{truth};
 ghost use Rattle.page_events.specs.json.Json.{event_json, event_kind, event_members, member};
 
-pub mod elements;
+mod elements;
 mod values;
 
 use crate::json::elements::{push_element, push_start};

@@ -3,7 +3,7 @@
 
 pub mod elements;
 pub mod help;
-pub mod json;
+mod json;
 pub mod page;
 mod printing;
 pub mod program;

@@ -1,6 +1,4 @@
-mod DefinitionLemmas
 mod LawLemmas
 mod LinkLemmas
 mod OffsetLemmas
 mod PositionLemmas
-mod TextLemmas

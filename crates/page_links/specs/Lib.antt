@@ -1,11 +1,5 @@
-pub mod anchors
-pub mod checks
-pub mod definitions
-pub mod labels
 pub mod links
 pub mod page
 pub mod positions
 pub mod printing
-pub mod reports
-pub mod targets
 pub mod words

@@ -54,8 +54,8 @@ pub fn links_of_page<'a>(
     Ok(links)
 }
 
-/// Adds the link that an event starts, if it starts one.
-pub(crate) fn push_link<'a>(
+// Adds the link that an event starts, if it starts one.
+fn push_link<'a>(
     links: &mut Vec<PageLink<'a>>,
     event: (Event<'a>, Range<usize>),
 ) -> Result<(), AllocError>

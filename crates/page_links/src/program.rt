@@ -1,5 +1,5 @@
 //! What the program does with its words, its input and its output.
-ghost use Rattle.std.specs.Prelude.{◌≡◌, ◌≢◌, ◌⊎◌, ◌↔◌, [], true, false, ℕ, List, IfSome, IsSome, Some, None, codes};
+ghost use Rattle.std.specs.Prelude.{◌≡◌, ◌≢◌, ◌⊎◌, ℕ, List, IfSome, IsSome, Some, None, codes};
 ghost use Rattle.std.specs.Io.KnownBytes.{Appends};
 ghost use Rattle.program_faults.specs.Steps.{HasRefused, AreGiven};
 ghost use Rattle.program_faults.specs.declared.reasons.Reason.{Reason};
@@ -9,13 +9,12 @@ ghost use Rattle.page_programs.specs.Words.{pages_of, request_of, unknown_of};
 ghost use Rattle.page_programs.specs.declared.stops.Stop.{Stop};
 ghost use Rattle.page_programs.specs.declared.words.Request.TheVariants.{Pages, Help, Version};
 ghost use Rattle.page_events.specs.page.Printed.{is_unwritten};
-ghost use Rattle.page_links.specs.page.Printed.{IsCheckedTo, IsPrintedTo, by_name};
-ghost use Rattle.page_links.specs.words.Words.{checks, form_of, own_options, setting_of};
+ghost use Rattle.page_links.specs.page.Printed.{IsPrintedTo, by_name};
+ghost use Rattle.page_links.specs.words.Words.{own_options, setting_of};
 
-use crate::checks::FindsFiles;
 use crate::help::{HELP, USAGE, VERSION};
-use crate::page::{LinkForm, check_of_page, list_of_page};
-use crate::words::{checks, form_of, setting_of};
+use crate::page::list_of_page;
+use crate::words::setting_of;
 use markdown_events::event_reader::PageSetting;
 use page_programs::files::OpensFiles;
 use page_programs::pages::PrintsPages;
@@ -24,25 +23,23 @@ use page_programs::reading::read_page;
 use page_programs::says::Says;
 use page_programs::stops::Stop;
 use page_programs::writing::write_text;
-use program_faults::{Reason, StepReader, StepWriter, complain};
+use program_faults::{Reason, StepReader, StepWriter};
 use std::alloc::{AllocError, Global};
-use std::str::from_utf8;
 
 /// Runs the program on its words, without its name, and answers its status.
 ///
-/// 0: done. 1: with `--check`, and something is reported. 2: an option that is not known, and nothing is read. 3: a page that can't be opened or
+/// 0: done. 2: an option that is not known, and nothing is read. 3: a page that can't be opened or
 /// read, memory that is refused, or output that can't be written; there it stops. Each page is read
 /// whole before its lines are written.
-pub fn run_program<L: FindsFiles, R: StepReader, F: OpensFiles, W: StepWriter, V: StepWriter>(
+pub fn run_program<R: StepReader, F: OpensFiles, W: StepWriter, V: StepWriter>(
     alloc: Global,
     words: &[&str],
-    finder: &L,
     input: &mut R,
     files: &mut F,
     output: &mut W,
     faults: &mut V,
 ) -> u8
-    ensures status { (result ≡ 0) ⊎ ((result ≡ 1) ⊎ ((result ≡ 2) ⊎ (result ≡ 3))) }
+    ensures status { (result ≡ 0) ⊎ ((result ≡ 2) ⊎ (result ≡ 3)) }
 
     // An option that is not known.
     ensures only_unknown { result ≡ 2 → IsSome (unknown_of own_options words.now) }
@@ -61,121 +58,51 @@ pub fn run_program<L: FindsFiles, R: StepReader, F: OpensFiles, W: StepWriter, V
         (input.new ≡ input.old) × (files.new ≡ files.old) }
 
     // Pages: all of their links and images, and no others.
-    ensures printed { result ≡ 0 → request_of words.now ≡ Pages → checks words.now ≡ false →
-        PrintsAll by_name (IsPrintedTo (form_of words.now) (setting_of words.now)) is_unwritten
+    ensures printed { result ≡ 0 → request_of words.now ≡ Pages →
+        PrintsAll by_name (IsPrintedTo (setting_of words.now)) is_unwritten
         R.remaining R.reads F.opens F.File.remaining F.File.reads
         (pages_of words.now)
         input.old files.old (W.contents output.old)
         input.new files.new (W.contents output.new) None }
 
-    // Pages that are checked: what is reported of all of them is written, and the status is 1 where that
-    // is anything.
-    ensures checked { (result ≡ 0) ⊎ (result ≡ 1) → request_of words.now ≡ Pages → checks words.now ≡ true →
-        (text : List ℕ) × PrintsAll by_name
-        (IsCheckedTo (L.finds finder.now) (form_of words.now) (setting_of words.now)) is_unwritten
-        R.remaining R.reads F.opens F.File.remaining F.File.reads
-        (pages_of words.now)
-        input.old files.old (Some [])
-        input.new files.new (Some text) None
-        × Appends (W.contents output.old) (W.contents output.new) text
-        × ((result ≡ 1) ↔ (text ≢ [])) }
-    ensures only_checked { result ≡ 1 → (request_of words.now ≡ Pages) × (checks words.now ≡ true) }
-
     // At status 0 nothing is written to the faults; at 3 the reason is, as far as they take it.
-    ensures done { (result ≡ 0) ⊎ (result ≡ 1) → faults.new ≡ faults.old }
+    ensures done { result ≡ 0 → faults.new ≡ faults.old }
     ensures stopped { result ≡ 3 → (name : List ℕ) × (stop : Stop)
         × AreGiven V.writes faults.old (stop_parts (codes "cmark_links") name stop) faults.new
         × IfWrite stop (λ why. why ≢ Reason.Interrupted → HasRefused W.writes why output.new)
         × ((request_of words.now ≡ Help) ⊎ (request_of words.now ≡ Version) → IsWrite stop)
-        × (request_of words.now ≡ Pages → checks words.now ≡ false →
-        PrintsAll by_name (IsPrintedTo (form_of words.now) (setting_of words.now)) is_unwritten
+        × (request_of words.now ≡ Pages →
+        PrintsAll by_name (IsPrintedTo (setting_of words.now)) is_unwritten
         R.remaining R.reads F.opens F.File.remaining F.File.reads
         (pages_of words.now)
         input.old files.old (W.contents output.old)
         input.new files.new (W.contents output.new) (Some (name, stop))) }
 {
-    if checks(words) {
-        return check_pages(alloc, words, finder, input, files, output, faults);
-    }
-    let links = Links {
-        form: form_of(words),
-        setting: setting_of(words),
-    };
-    let says = says();
-    program::run_program(
-        alloc, &says, OPTIONS, &links, words, input, files, output, faults,
-    )
-}
-
-// The options that the program has of its own.
-const OPTIONS: &[&str] = &["--json", "--check", "--gfm", "--wikilinks"];
-
-// What the program says of itself.
-fn says() -> Says {
-    Says {
+    let says = Says {
         name: "cmark_links",
         usage: USAGE,
         help: HELP,
         version: VERSION,
-    }
-}
-
-// Checks pages: what is reported of all of them is written at the end, and is the reason for status 1.
-fn check_pages<L: FindsFiles, R: StepReader, F: OpensFiles, W: StepWriter, V: StepWriter>(
-    alloc: Global,
-    words: &[&str],
-    finder: &L,
-    input: &mut R,
-    files: &mut F,
-    output: &mut W,
-    faults: &mut V,
-) -> u8 {
-    let checks = Checks {
-        finder,
-        form: form_of(words),
+    };
+    let links = Links {
         setting: setting_of(words),
     };
-    let says = says();
-    let mut lines: Vec<u8> = Vec::new(alloc);
-    let status = program::run_program(
-        alloc, &says, OPTIONS, &checks, words, input, files, &mut lines, faults,
-    );
-    if status != 0 || lines.is_empty() {
-        return status;
-    }
-    write_lines(&lines, output, faults)
+    program::run_program(
+        alloc,
+        &says,
+        &["--gfm", "--wikilinks"],
+        &links,
+        words,
+        input,
+        files,
+        output,
+        faults,
+    )
 }
 
-// Writes what is reported, and answers the status.
-fn write_lines<W: StepWriter, V: StepWriter>(lines: &[u8], output: &mut W, faults: &mut V) -> u8 {
-    let Ok(text) = from_utf8(lines) else {
-        return 1;
-    };
-    match write_text(output, text) {
-        Ok(()) => 1,
-        Err(Stop::Write(reason)) => {
-            report_write(faults, reason);
-            3
-        }
-        Err(_) => 3,
-    }
-}
-
-// Says why the output can't be written, unless its reader has left.
-fn report_write<V: StepWriter>(faults: &mut V, reason: Reason) {
-    match reason {
-        Reason::NotRead => {}
-        _ => {
-            complain(faults, "cmark_links: write error");
-            complain(faults, reason.line());
-        }
-    }
-}
-
-// What prints the links of pages in this form, which are read in this way.
+// What prints the links of pages, which are read in this way.
 #[derive(Drop)]
 struct Links {
-    form: LinkForm,
     setting: PageSetting,
 }
 
@@ -185,7 +112,7 @@ impl PrintsPages for Links {
 
     ghost titles = { λ _ _. by_name };
 
-    ghost prints = { λ it. IsPrintedTo it.form it.setting };
+    ghost prints = { λ it. IsPrintedTo it.setting };
 
     ghost begins = { λ _ _ _ _ old new. new ≡ old };
 
@@ -201,42 +128,7 @@ impl PrintsPages for Links {
         output: &mut W,
     ) -> Result<(), Stop> {
         let page = read_page(alloc, input)?;
-        let text = list_of_page(alloc, title, &page, self.setting, self.form)?;
-        write_text(output, text.as_str())
-    }
-}
-
-// What prints what is reported of pages that are checked.
-#[derive(Drop)]
-struct Checks<'l, L> {
-    finder: &'l L,
-    form: LinkForm,
-    setting: PageSetting,
-}
-
-impl<'l, L: FindsFiles> PrintsPages for Checks<'l, L> {
-    ghost use Rattle.std.specs.Prelude.{◌≡◌};
-    ghost use Rattle.page_links.specs.page.Printed.{IsCheckedTo, by_name};
-
-    ghost titles = { λ _ _. by_name };
-
-    ghost prints = { λ it. IsCheckedTo (L.finds it.finder.now) it.form it.setting };
-
-    ghost begins = { λ _ _ _ _ old new. new ≡ old };
-
-    fn make_title(&self, alloc: Global, _pages: usize, name: &str) -> Result<String, AllocError> {
-        String::from_str(alloc, name)
-    }
-
-    fn print_page<R: StepReader, W: StepWriter>(
-        &self,
-        alloc: Global,
-        title: &str,
-        input: &mut R,
-        output: &mut W,
-    ) -> Result<(), Stop> {
-        let page = read_page(alloc, input)?;
-        let text = check_of_page(alloc, self.finder, title, &page, self.setting, self.form)?;
+        let text = list_of_page(alloc, title, &page, self.setting)?;
         write_text(output, text.as_str())
     }
 }

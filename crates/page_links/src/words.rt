@@ -1,8 +1,7 @@
 //! The words of the command line.
 ghost use Rattle.std.specs.Prelude.{◌≡◌};
-ghost use Rattle.page_links.specs.words.Words.{checks, form_of, setting_of};
+ghost use Rattle.page_links.specs.words.Words.{setting_of};
 
-use crate::printing::LinkForm;
 use markdown_events::event_reader::PageSetting;
 use markdown_inlines::extensions::InlineExtensions;
 use page_programs::words::has_option;
@@ -20,24 +19,4 @@ pub(crate) fn setting_of(words: &[&str]) -> PageSetting
             wikilinks: has_option(words, "--wikilinks"),
         },
     }
-}
-
-/// The form that they ask for.
-pub(crate) fn form_of(words: &[&str]) -> LinkForm
-    ensures { result ≡ form_of words.now }
-{
-    if has_option(words, "--json") {
-        return LinkForm::Json;
-    }
-    LinkForm::Words
-}
-
-/// Whether pages are checked: the words ask for that, and not for the help or the version.
-pub(crate) fn checks(words: &[&str]) -> bool
-    ensures { result ≡ checks words.now }
-{
-    has_option(words, "--check")
-        && !has_option(words, "-h")
-        && !has_option(words, "--help")
-        && !has_option(words, "--version")
 }

@@ -1,5 +1,3 @@
 mod FilledLemmas
-mod LookLemmas
 mod MarkLemmas
-mod RunLemmas
 mod SettledLemmas

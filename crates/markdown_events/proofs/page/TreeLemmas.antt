@@ -226,7 +226,7 @@ leaf_goes_on page setting block later more tail s here rest events leaf_is both_
 one_less : (outer : List Container) (container : Container) → length (outer ++ container ∷ []) - 1 ≡ length outer
 one_less outer container = rw (length-append outer (container ∷ [])) (omega arith)
 
-pub front_of : (outer : List Container) (container : Container) → take (length (outer ++ container ∷ []) - 1) (outer ++ container ∷ []) ≡ outer
+front_of : (outer : List Container) (container : Container) → take (length (outer ++ container ∷ []) - 1) (outer ++ container ∷ []) ≡ outer
 front_of outer container =
     ap (λ n. take n (outer ++ container ∷ [])) (one_less outer container) ∙ take-append_seam outer (container ∷ [])
 

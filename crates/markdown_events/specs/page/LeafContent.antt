@@ -11,7 +11,8 @@ use Rattle.markdown_events.specs.page.Spans.{block_end}
 abbrev pub line_event : Bool → List ℕ → EventView (List ℕ)
 line_event is_html = if is_html then html else text
 
--- Each byte of a content has a place, and with so many bytes of the page before the block one in the page, after which is another.
+-- Each byte of a content has an offset in its block, which begins after so many bytes of the page; there a byte's offset and the one
+-- after it are numbers too.
 pub record CanPlace (before : ℕ) (content : Placed) : Type 0 where
   pub each : length content.places ≡ length content.text
   pub fits : (offset : ℕ) → offset < length content.text → before + slice_index content.places offset + 1 < 2 ^ 64

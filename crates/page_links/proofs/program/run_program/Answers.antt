@@ -1,7 +1,7 @@
 use Rattle.page_links.proofs.program.run_program.Goals as goal
 
 pub returns-clause-printed : goal.returns-clause-printed
-returns-clause-printed g c = rw (← c.form_of.ensures) (rw (← c.setting_of.ensures) c.run_program.ensures.printed)
+returns-clause-printed g c = rw (← c.setting_of.ensures) c.run_program.ensures.printed
 
 pub returns-clause-stopped : goal.returns-clause-stopped
-returns-clause-stopped g c = rw (← c.form_of.ensures) (rw (← c.setting_of.ensures) c.run_program.ensures.stopped)
+returns-clause-stopped g c = rw (← c.setting_of.ensures) c.run_program.ensures.stopped
