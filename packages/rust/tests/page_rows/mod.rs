@@ -4,17 +4,7 @@ use std::ops::Range;
 
 use proved_markdown::*;
 
-use crate::tables::{each_page, PageRow};
-
-const HTML_KINDS: [HtmlBlockKind; 7] = [
-    HtmlBlockKind::RawText,
-    HtmlBlockKind::Comment,
-    HtmlBlockKind::Processing,
-    HtmlBlockKind::Declaration,
-    HtmlBlockKind::Cdata,
-    HtmlBlockKind::BlockName,
-    HtmlBlockKind::TagAlone,
-];
+use crate::tables::{each_page, PageRow, HTML_KINDS};
 
 fn container_word(container: &Container) -> String {
     match container {

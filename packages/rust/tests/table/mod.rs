@@ -5,15 +5,6 @@ use proved_markdown::*;
 use crate::lines::line_answer;
 use crate::tables::*;
 
-const KINDS: [HtmlBlockKind; 7] = [
-    HtmlBlockKind::RawText,
-    HtmlBlockKind::Comment,
-    HtmlBlockKind::Processing,
-    HtmlBlockKind::Declaration,
-    HtmlBlockKind::Cdata,
-    HtmlBlockKind::BlockName,
-    HtmlBlockKind::TagAlone,
-];
 const ALIGNMENTS: [Alignment; 4] = [Alignment::None, Alignment::Left, Alignment::Center, Alignment::Right];
 
 /// A row: its call, its text, and of its other arguments up to two numbers or a second text.
@@ -81,7 +72,7 @@ fn number(row: &Row) -> Option<String> {
         "scan_html_tag" => length(scan_html_tag(data)),
         "scan_html_block_start" => {
             let kind = scan_html_block_start(data);
-            kind.map_or(0, |kind| 1 + KINDS.iter().position(|it| *it == kind).unwrap()).to_string()
+            kind.map_or(0, |kind| 1 + HTML_KINDS.iter().position(|it| *it == kind).unwrap()).to_string()
         }
         _ => return None,
     })
@@ -193,7 +184,7 @@ fn status(row: &Row) -> Option<&'static str> {
     let status = |is_so| if is_so { "MDS_OK" } else { "MDS_NOTHING" };
     match &row.call[..] {
         "ends_html_block" => {
-            let kind = row.one.checked_sub(1).and_then(|it| KINDS.get(it));
+            let kind = row.one.checked_sub(1).and_then(|it| HTML_KINDS.get(it));
             Some(kind.map_or("MDS_BAD_KIND", |kind| status(ends_html_block(&row.text, *kind))))
         }
         "labels_match" => {

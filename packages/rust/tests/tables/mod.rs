@@ -1,5 +1,17 @@
 //! Reads the tables of packages, files *.tsv, which the tests of all packages share. What it can't read is a panic.
 
+use proved_markdown::HtmlBlockKind;
+
+/// The kinds of HTML blocks in the order of their conditions, of which the tables have the numbers.
+pub const HTML_KINDS: [HtmlBlockKind; 7] = [
+    HtmlBlockKind::RawText,
+    HtmlBlockKind::Comment,
+    HtmlBlockKind::Processing,
+    HtmlBlockKind::Declaration,
+    HtmlBlockKind::Cdata,
+    HtmlBlockKind::BlockName,
+    HtmlBlockKind::TagAlone,
+];
 const FOLDER: &str = concat!(env!("CARGO_MANIFEST_DIR"), "/..");
 const PAGE_CALLS: [&str; 7] =
     ["scan_blocks", "block_content", "scan_lists", "scan_inlines", "html", "safe_html", "events"];
