@@ -11,3 +11,4 @@ pub use Rattle.markdown_events.proofs.page.PageBalance.{page_events_balance, pag
 pub use Rattle.markdown_events.proofs.page.PageCuts.{page_events_at_boundaries, page_events_with_at_boundaries}
 pub use Rattle.markdown_events.proofs.page.PageRanges.{page_events_with_within, page_events_within}
 pub use Rattle.markdown_events.proofs.page.task_events.TaskLaws.{block_events_balance, one_list_of_block_events}
+pub use Rattle.markdown_events.proofs.text_merge.KeptLaws.{merged_at_boundaries, merged_balance, merged_nest, merged_within}

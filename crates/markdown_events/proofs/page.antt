@@ -1,4 +1,5 @@
 pub mod FrontLists
+pub mod InPageLemmas
 pub mod IteratedLemmas
 pub mod LevelLemmas
 pub mod NestLemmas

@@ -1,4 +1,5 @@
 pub mod Given
+pub mod InPage
 pub mod Iterated
 pub mod LeafContent
 pub mod LeafEvents

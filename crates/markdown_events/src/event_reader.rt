@@ -3,7 +3,7 @@ ghost use Rattle.std.specs.Prelude.{◌≡◌, ◌∷◌, ◌<◌, ◌≤◌, �
 ghost use Rattle.markdown_events.specs.EventLaws.{AreAtBoundaries, AreBalanced, AreWithin};
 ghost use Rattle.markdown_events.specs.InlineEvents.{RangedEvent, seen_event};
 ghost use Rattle.markdown_events.specs.Nesting.{AreNested, without_ranges};
-ghost use Rattle.markdown_blocks.specs.events.Events.{seen_event as seen_block, seen_leaf};
+ghost use Rattle.markdown_blocks.specs.events.Events.{ends, leaf, seen_event as seen_block, seen_leaf, starts};
 ghost use Rattle.markdown_events.specs.page.Given.{AlwaysGivesOnly, Gives, GivesOnly, GivesOnlyWith, GivesWith, IsDone, events_left, left_with, setting_with};
 ghost use Rattle.markdown_events.specs.page.OpenElements.{begun, end_events, ended, next_span, passed, place_in, start_events};
 ghost use Rattle.markdown_events.specs.page.PageEvents.{AreDefinitionsOf, ArePageEvents, ArePageEventsWith, commonmark};
@@ -13,7 +13,7 @@ ghost use Rattle.markdown_events.specs.page.TaskEvents.{AreBlockEvents, task_her
 
 use crate::definitions::{Definitions, NoBrokenLinks, PageDefinitions};
 use crate::elements::InlineMemory;
-use crate::page::blocks_of::read_page;
+use crate::page::blocks_of::{drop_next, read_page};
 use crate::page::definitions::WithBrokenLinks;
 use crate::page::leaf_events::leaf_events;
 use crate::page::open_elements::{Edge, OpenElements, event_of};
@@ -95,6 +95,7 @@ impl<'a> Model for EventReader<'a> {
     ghost use Rattle.markdown_blocks.specs.events.Events.{seen_event as seen_block};
     ghost use Rattle.markdown_events.specs.InlineEvents.{seen_event};
     ghost use Rattle.markdown_events.specs.page.Given.{PageLeft};
+    ghost use Rattle.markdown_events.specs.page.InPage.{AreInPage};
     ghost use Rattle.markdown_events.specs.page.OpenElements.{edge_event};
 
     ghost Value = { PageLeft };
@@ -109,6 +110,9 @@ impl<'a> Model for EventReader<'a> {
       elements = p.elements;
       blocks = map seen_block (reverse p.blocks.items);
     } };
+
+    ghost invariant = { λ p. AreInPage p.page.now p.elements.containers p.elements.kept
+        p.elements.waiting (map seen_block (reverse p.blocks.items)) };
 }
 
 impl<'a> EventReader<'a> {
@@ -353,6 +357,7 @@ impl<'a> EventReader<'a> {
     // Reads the start of a container, which is the next block event.
     fn read_start(&mut self, container: Container, place: usize) -> Result<(), AllocError>
         requires waiting { self.old.ready ≡ [] }
+        requires next { self.old.blocks ≡ starts container place ∷ drop 1 self.old.blocks }
         ensures read { OnOk result (self.new ≡ left_with self.old
             (start_events container place (next_span self.old.elements.spans)
             self.old.elements.elements)
@@ -362,7 +367,7 @@ impl<'a> EventReader<'a> {
         let (list, start) = self.elements.begin(container, place)?;
         self.first = list;
         self.second = Some(start);
-        self.blocks.pop();
+        drop_next(&mut self.blocks);
         Ok(())
     }
 
@@ -373,6 +378,7 @@ impl<'a> EventReader<'a> {
         broken: &B,
     ) -> Result<(), AllocError>
         requires waiting { self.old.ready ≡ [] }
+        requires next { self.old.blocks ≡ leaf (seen_leaf block) ∷ drop 1 self.old.blocks }
         ensures read { OnOk result ((here : List RangedEvent)
             × AreBlockEvents self.old.page (setting_with (B.targets broken.now) self.old)
             (place_in self.old.elements) self.old.elements.waiting (seen_leaf block.entry) here
@@ -392,6 +398,7 @@ impl<'a> EventReader<'a> {
         block: Leaf<'a>,
         broken: &B,
     ) -> Result<Vec<(Event<'a>, Range<usize>)>, AllocError>
+        requires next { self.old.blocks ≡ leaf (seen_leaf block) ∷ drop 1 self.old.blocks }
         ensures events { IfOk result (λ events. AreBlockEvents self.old.page
             (setting_with (B.targets broken.now) self.old) (place_in self.old.elements)
             self.old.elements.waiting (seen_leaf block.entry) (map seen_event events.items)) }
@@ -445,25 +452,27 @@ impl<'a> EventReader<'a> {
     // Makes the events of the leaf block that comes next ready, and passes it.
     fn make_ready(&mut self, block: Leaf, events: Vec<(Event<'a>, Range<usize>)>)
         requires waiting { self.old.ready ≡ [] }
+        requires next { self.old.blocks ≡ leaf (seen_leaf block) ∷ drop 1 self.old.blocks }
         ensures ready { self.new ≡ left_with self.old (map seen_event events.entry.items)
             (passed (seen_leaf block.entry) self.old.elements) (drop 1 self.old.blocks) }
         ensures few { length self.new.ready < 2 ^ 64 }
     {
         self.leaf = events.into_iter();
         self.elements.pass(block);
-        self.blocks.pop();
+        drop_next(&mut self.blocks);
     }
 
     // Reads the end of a container, which is the next block event.
     fn read_end(&mut self)
         requires waiting { self.old.ready ≡ [] }
+        requires next { self.old.blocks ≡ ends ∷ drop 1 self.old.blocks }
         ensures read { self.new ≡ left_with self.old (end_events self.old.elements.elements)
             (ended self.old.elements) (drop 1 self.old.blocks) }
     {
         let (end, list) = self.elements.end();
         self.first = end;
         self.second = list;
-        self.blocks.pop();
+        drop_next(&mut self.blocks);
     }
 
     /// The first of the events that are ready.

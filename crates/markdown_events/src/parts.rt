@@ -1,6 +1,6 @@
 //! Parts of a text, and what is meant by them.
 ghost use Rattle.std.specs.Prelude.{◌≡◌, slice_range, IfOk};
-ghost use Rattle.std.specs.Str.{IsCharBoundary};
+ghost use Rattle.std.specs.Str.{IsCharBoundary, IsUtf8};
 ghost use Rattle.markdown_values.specs.strings.Text.{cow_text};
 ghost use Rattle.markdown_events.specs.Meanings.{IsMeaning};
 
@@ -30,16 +30,12 @@ pub(crate) fn meaning_of<'a>(alloc: Global, text: CowStr<'a>) -> Result<CowStr<'
 }
 
 /// The text that bytes of a page are.
-///
-/// # Errors
-///
-/// `AllocError` where they are not UTF-8.
-pub(crate) fn text_of(bytes: &[u8]) -> Result<&str, AllocError>
-    ensures { IfOk result (λ text. text.now ≡ bytes.now) }
+pub(crate) fn text_of(bytes: &[u8]) -> &str
+    requires { IsUtf8 bytes.now }
+    ensures { result.now ≡ bytes.now }
 {
     match from_utf8(bytes) {
-        Ok(text) => Ok(text),
-        // Not reached: the page is UTF-8, and content is cut at ASCII bytes.
-        Err(_) => Err(AllocError),
+        Ok(text) => text,
+        Err(_) => unreachable!(),
     }
 }

@@ -4,6 +4,7 @@ ghost use Rattle.std.specs.Str.{bytes_eq};
 ghost use Rattle.markdown_values.specs.strings.Text.{cow_text};
 ghost use Rattle.markdown_blocks.specs.link_definitions.LinkDefinitions.{Target};
 
+mod event_lines;
 mod known;
 mod leaves;
 mod memory;
@@ -12,9 +13,9 @@ mod tasks;
 
 use crate::definitions::{Definitions, Target};
 use crate::inline_events::inline_events;
+use crate::tests::event_lines::push_line;
 use markdown_inlines::extensions::InlineExtensions;
 use markdown_values::strings::CowStr;
-use markdown_values::values::{Event, LinkType, Tag, TagEnd};
 use std::alloc::{AllocError, Global};
 use std::process::Abort;
 
@@ -189,85 +190,8 @@ fn shown(alloc: Global, text: &str, page: &Page) -> Result<String, AllocError> {
         wikilinks: true,
     };
     let mut out = String::new(alloc);
-    for (event, range) in &inline_events(alloc, text, page, asked)? {
-        write!(out, "{}..{} ", range.start, range.end)?;
-        push_event(&mut out, event)?;
-        out.push('\n')?;
+    for event in &inline_events(alloc, text, page, asked)? {
+        push_line(&mut out, event)?;
     }
     Ok(out)
-}
-
-pub(crate) fn push_event(out: &mut String, event: &Event) -> Result<(), AllocError> {
-    match event {
-        Event::Start(tag) => push_start(out, tag),
-        Event::End(end) => push_words(out, "end ", end_name(*end)),
-        Event::Text(text) => push_words(out, "text ", text.as_str()),
-        Event::Code(text) => push_words(out, "code ", text.as_str()),
-        Event::InlineHtml(text) => push_words(out, "html ", text.as_str()),
-        Event::SoftBreak => out.push_str("soft break"),
-        Event::HardBreak => out.push_str("hard break"),
-        _ => out.push_str("?"),
-    }
-}
-
-fn push_words(out: &mut String, name: &str, words: &str) -> Result<(), AllocError> {
-    out.push_str(name)?;
-    out.push_str(words)
-}
-
-fn push_start(out: &mut String, tag: &Tag) -> Result<(), AllocError> {
-    push_words(out, "start ", end_name(tag.to_end()))?;
-    match tag {
-        Tag::Link {
-            link_type,
-            dest_url,
-            title,
-            id,
-        } => push_link(out, *link_type, dest_url, title, id),
-        Tag::Image {
-            link_type,
-            dest_url,
-            title,
-            id,
-        } => push_link(out, *link_type, dest_url, title, id),
-        _ => Ok(()),
-    }
-}
-
-fn push_link(
-    out: &mut String,
-    link_type: LinkType,
-    dest_url: &CowStr,
-    title: &CowStr,
-    id: &CowStr,
-) -> Result<(), AllocError> {
-    push_words(out, " ", type_name(link_type))?;
-    push_words(out, " ", dest_url.as_str())?;
-    push_words(out, "|", title.as_str())?;
-    push_words(out, "|", id.as_str())
-}
-
-fn type_name(link_type: LinkType) -> &'static str {
-    match link_type {
-        LinkType::Inline => "inline",
-        LinkType::Reference => "reference",
-        LinkType::Collapsed => "collapsed",
-        LinkType::Shortcut => "shortcut",
-        LinkType::Autolink => "uri",
-        LinkType::Email => "email",
-        LinkType::WikiLink { has_pothole: true } => "piped wiki",
-        LinkType::WikiLink { has_pothole: false } => "wiki",
-        _ => "?",
-    }
-}
-
-fn end_name(end: TagEnd) -> &'static str {
-    match end {
-        TagEnd::Emphasis => "emphasis",
-        TagEnd::Strong => "strong",
-        TagEnd::Strikethrough => "strikethrough",
-        TagEnd::Link => "link",
-        TagEnd::Image => "image",
-        _ => "?",
-    }
 }

@@ -137,13 +137,13 @@ list_ended one place span elements false = refl
 abbrev kept_after : Nodes → OpenElements → ℕ
 kept_after nothing s = s.kept
 kept_after (leaf_then block later) s = length s.containers
-kept_after (container_then container place inner later) s = length s.containers
+kept_after (container_then container before inner later) s = length s.containers
 
 -- the container that waits for its first block after nodes, where this one does before them
 abbrev waiting_after : Nodes → Option Container → Option Container
 waiting_after nothing waiting = waiting
 waiting_after (leaf_then block later) waiting = waiting_after later (waiting_behind waiting (leaf block))
-waiting_after (container_then container place inner later) waiting = waiting_after later None
+waiting_after (container_then container before inner later) waiting = waiting_after later None
 
 abbrev after : Nodes → List Span → OpenElements → OpenElements
 after nodes more s = record {
@@ -226,13 +226,13 @@ leaf_goes_on page setting block later more tail s here rest events leaf_is both_
 one_less : (outer : List Container) (container : Container) → length (outer ++ container ∷ []) - 1 ≡ length outer
 one_less outer container = rw (length-append outer (container ∷ [])) (omega arith)
 
-front_of : (outer : List Container) (container : Container) → take (length (outer ++ container ∷ []) - 1) (outer ++ container ∷ []) ≡ outer
+pub front_of : (outer : List Container) (container : Container) → take (length (outer ++ container ∷ []) - 1) (outer ++ container ∷ []) ≡ outer
 front_of outer container =
     ap (λ n. take n (outer ++ container ∷ [])) (one_less outer container) ∙ take-append_seam outer (container ∷ [])
 
 -- where these elements are open after a container
-abbrev behind : List OpenElement → OpenElements → OpenElements
-behind elements s = record {
+abbrev past : List OpenElement → OpenElements → OpenElements
+past elements s = record {
   spans = s.spans;
   containers = s.containers;
   kept = length s.containers;
@@ -240,10 +240,10 @@ behind elements s = record {
   elements = elements;
 }
 
-kept_behind : (nodes : Nodes) (elements : List OpenElement) (s : OpenElements) → kept_after nodes (behind elements s) ≡ length s.containers
-kept_behind nothing elements s = refl
-kept_behind (leaf_then block later) elements s = refl
-kept_behind (container_then container place inner later) elements s = refl
+kept_past : (nodes : Nodes) (elements : List OpenElement) (s : OpenElements) → kept_after nodes (past elements s) ≡ length s.containers
+kept_past nothing elements s = refl
+kept_past (leaf_then block later) elements s = refl
+kept_past (container_then container before inner later) elements s = refl
 
 abbrev inside_of : Container → List OpenElement → OpenElements → OpenElements
 inside_of container elements s = record {
@@ -273,9 +273,9 @@ item_joined : (page : List ℕ) (setting : BlockSetting) (one : ListItem) (place
     let lists = with_list one place span s.elements in
     events ≡ start_events (Item one) place span s.elements ++ rest
     → AreBoth page setting inner (spans later ++ more) (ends ∷ (flatten later ++ tail)) (inside_of (Item one) (opened (Item one) place span s.elements) s) rest
-    → ((rest2 : List RangedEvent) → AreEventsFrom page setting (with_spans (spans later ++ more) (behind (lists_after span.is_last lists)
+    → ((rest2 : List RangedEvent) → AreEventsFrom page setting (with_spans (spans later ++ more) (past (lists_after span.is_last lists)
     s)) (flatten later ++ tail) rest2
-    → AreBoth page setting later more tail (behind (lists_after span.is_last lists) s) rest2)
+    → AreBoth page setting later more tail (past (lists_after span.is_last lists) s) rest2)
     → AreBoth page setting (container_then (Item one) place inner later) more tail s events
 item_joined page setting one place inner later more tail s events rest parted given held follow =
     let span = span_of (Item one) inner later in
@@ -315,11 +315,11 @@ item_joined page setting one place inner later more tail s events rest parted gi
         kept = kept;
         waiting = waiting_after later None;
         elements = without_list s.elements;
-      }) tail next.rest) (kept_behind later (lists_after span.is_last lists) s)
+      }) tail next.rest) (kept_past later (lists_after span.is_last lists) s)
           (subst (λ around. AreEventsFrom page setting (record {
             spans = more;
             containers = s.containers;
-            kept = kept_after later (behind (lists_after span.is_last lists) s);
+            kept = kept_after later (past (lists_after span.is_last lists) s);
             waiting = waiting_after later None;
             elements = around;
           }) tail next.rest) (around_list one place span s.elements span.is_last parted) next.of_tail);
@@ -364,8 +364,8 @@ other_joined : (page : List ℕ) (setting : BlockSetting) (container : Container
     innermost_list open_now ≡ None → is_tight_in (without_list open_now) ≡ false → without_list open_now ≡ open_now
     → events ≡ starting (container_tag container) place (container_end inner) ++ rest
     → AreBoth page setting inner (spans later ++ more) (ends ∷ (flatten later ++ tail)) (inside_of container open_now s) rest
-    → ((rest2 : List RangedEvent) → AreEventsFrom page setting (with_spans (spans later ++ more) (behind s.elements s)) (flatten later ++ tail) rest2
-    → AreBoth page setting later more tail (behind s.elements s) rest2)
+    → ((rest2 : List RangedEvent) → AreEventsFrom page setting (with_spans (spans later ++ more) (past s.elements s)) (flatten later ++ tail) rest2
+    → AreBoth page setting later more tail (past s.elements s) rest2)
     → AreOther page setting container place inner later more tail s events
 other_joined page setting container place inner later more tail s events rest none no_list not_tight same given held follow =
     let tag = container_tag container in
@@ -408,7 +408,7 @@ other_joined page setting container place inner later more tail s events rest no
         kept = kept;
         waiting = waiting_after later None;
         elements = without_list s.elements;
-      }) tail next.rest) (kept_behind later s.elements s) next.of_tail;
+      }) tail next.rest) (kept_past later s.elements s) next.of_tail;
       both = given ∙ (ap (λ es. starting tag place to ++ es)
           (held.both ∙ ap (λ es. held.here ++ es) (after_it.2 ∙ (ap (λ es. es ++ rest2) (append-nil (ending (element_of tag place to)))
           ∙ ap (λ es. ending (element_of tag place to) ++ es) next.both)))
@@ -448,7 +448,7 @@ flat_tree page setting (container_then (Item one) place inner later) more tail s
     item_joined page setting one place inner later more tail s events are.0 parted are.2
     (flat_tree page setting inner (spans later ++ more) (ends ∷ (flatten later ++ tail)) (inside_of (Item one) elements s) are.0 refl tt
     (split_events page setting inner later more tail (inside_of (Item one) elements s) are.0 are.1))
-    (λ rest2 are2. flat_tree page setting later more tail (behind after_it s) rest2
+    (λ rest2 are2. flat_tree page setting later more tail (past after_it s) rest2
     (ap innermost_list (around_list one place span s.elements span.is_last parted) ∙ parted)
     (subst (λ current. GoesOn current later) (sym (after_list one place span s.elements span.is_last parted))
     (goes_on_by (is_alike one (front_list later)) (list_in (innermost_list s.elements) one place span) later one refl)) are2)
@@ -458,7 +458,7 @@ flat_tree page setting (container_then Quote place inner later) more tail s even
     (flat_tree page setting inner (spans later ++ more) (ends ∷ (flatten later ++ tail))
     (inside_of Quote (other_element Quote place (container_end inner) ∷ s.elements) s) are.0 refl tt
     (split_events page setting inner later more tail (inside_of Quote (other_element Quote place (container_end inner) ∷ s.elements) s) are.0 are.1))
-    (λ rest2 are2. flat_tree page setting later more tail (behind s.elements s) rest2 parted
+    (λ rest2 are2. flat_tree page setting later more tail (past s.elements s) rest2 parted
     (subst (λ current. GoesOn current later) (sym none) tt) are2) in
     record { here = other.here; rest = other.rest; of_nodes = other.of_nodes; of_tail = other.of_tail; both = other.both }
 flat_tree page setting (container_then Footnote place inner later) more tail s events parted goes are =
@@ -467,7 +467,7 @@ flat_tree page setting (container_then Footnote place inner later) more tail s e
     (flat_tree page setting inner (spans later ++ more) (ends ∷ (flatten later ++ tail))
     (inside_of Footnote (other_element Footnote place (container_end inner) ∷ s.elements) s) are.0 refl tt
     (split_events page setting inner later more tail (inside_of Footnote (other_element Footnote place (container_end inner) ∷ s.elements) s) are.0 are.1))
-    (λ rest2 are2. flat_tree page setting later more tail (behind s.elements s) rest2 parted
+    (λ rest2 are2. flat_tree page setting later more tail (past s.elements s) rest2 parted
     (subst (λ current. GoesOn current later) (sym none) tt) are2) in
     record { here = other.here; rest = other.rest; of_nodes = other.of_nodes; of_tail = other.of_tail; both = other.both }
 flat_tree page setting (container_then (TermDefinition one) place inner later) more tail s events parted goes are =
@@ -477,7 +477,7 @@ flat_tree page setting (container_then (TermDefinition one) place inner later) m
     (inside_of (TermDefinition one) (other_element (TermDefinition one) place (container_end inner) ∷ s.elements) s) are.0 refl tt
     (split_events page setting inner later more tail (inside_of (TermDefinition one) (other_element (TermDefinition one) place
     (container_end inner) ∷ s.elements) s) are.0 are.1))
-    (λ rest2 are2. flat_tree page setting later more tail (behind s.elements s) rest2 parted
+    (λ rest2 are2. flat_tree page setting later more tail (past s.elements s) rest2 parted
     (subst (λ current. GoesOn current later) (sym none) tt) are2) in
     record { here = other.here; rest = other.rest; of_nodes = other.of_nodes; of_tail = other.of_tail; both = other.both }
 

@@ -1,5 +1,6 @@
 -- The events of a table. (GitHub Flavored Markdown 0.29, section 4.10, tables)
 use Rattle.std.specs.Prelude.{ℕ, zero, suc, Bool, true, false, ◌+◌, ◌≤◌, ◌≡◌, List, [], ◌∷◌, ◌++◌, length, map, ⊤}
+use Rattle.std.specs.Str.{IsUtf8}
 use Rattle.markdown_values.specs.declared.values.Alignment.{Alignment}
 use Rattle.markdown_values.specs.values.Tags.{TagView, table, table_head, table_row, table_cell}
 use Rattle.markdown_scanners_tree.specs.Bytes.{line_head}
@@ -63,3 +64,8 @@ pub record AreTableEvents (page : List ℕ) (setting : EventSetting) (here : Pla
 abbrev pub RowsEndBy : ℕ → ℕ → List TextAt → Type 0
 RowsEndBy before to [] = ⊤
 RowsEndBy before to (row ∷ later) = (before + row.place + length row.text ≤ to) × RowsEndBy before to later
+
+-- each row is UTF-8
+abbrev pub AreUtf8 : List TextAt → Type 0
+AreUtf8 [] = ⊤
+AreUtf8 (row ∷ later) = IsUtf8 row.text × AreUtf8 later

@@ -7,11 +7,12 @@ ghost use Rattle.markdown_events.specs.Meanings.{IsTargetMeaning};
 ghost use Rattle.markdown_events.specs.Targets.{or_else, seen_target};
 
 use crate::definitions::{Definitions, Target};
-use crate::parts::{meaning_of, text_of};
+use crate::parts::meaning_of;
 use markdown_blocks::link_definitions::{KnownDefinitions, LinkDefinition, LinkDefinitions};
 use markdown_values::strings::CowStr;
 use std::alloc::{AllocError, Global};
 use std::marker::Model;
+use std::str::from_utf8;
 
 /// The link reference definitions of a page, by their labels: of each label the first. What of them
 /// is a run of the page is lent from it. `find` answers where a label leads as it is written, and
@@ -136,11 +137,11 @@ fn target_of<'a>(alloc: Global, definition: &LinkDefinition<'a>) -> Result<Targe
     ensures { IfOk result (λ target. seen_target target ≡ definition.now) }
 {
     let destination = match definition.lent_destination() {
-        Some(lent) => CowStr::from(text_of(lent)?),
+        Some(lent) => CowStr::from(text_in(lent)?),
         None => copy_of(alloc, definition.destination())?,
     };
     let title = match (definition.lent_title(), definition.title()) {
-        (Some(lent), _) => Some(CowStr::from(text_of(lent)?)),
+        (Some(lent), _) => Some(CowStr::from(text_in(lent)?)),
         (None, Some(title)) => Some(copy_of(alloc, title)?),
         (None, None) => None,
     };
@@ -151,5 +152,16 @@ fn target_of<'a>(alloc: Global, definition: &LinkDefinition<'a>) -> Result<Targe
 fn copy_of(alloc: Global, bytes: &[u8]) -> Result<CowStr<'static>, AllocError>
     ensures { IfOk result (λ copy. cow_text copy ≡ bytes.now) }
 {
-    CowStr::from(text_of(bytes)?).into_static(alloc)
+    CowStr::from(text_in(bytes)?).into_static(alloc)
+}
+
+// The text that bytes of a definition are.
+fn text_in(bytes: &[u8]) -> Result<&str, AllocError>
+    ensures { IfOk result (λ text. text.now ≡ bytes.now) }
+{
+    match from_utf8(bytes) {
+        Ok(text) => Ok(text),
+        // Not reached: the page is UTF-8, and definitions are cut at ASCII bytes.
+        Err(_) => Err(AllocError),
+    }
 }

@@ -5,6 +5,7 @@ ghost use Rattle.markdown_values.specs.values.Events.{event_view};
 ghost use Rattle.markdown_scanners_tree.specs.scanners.TextLines.{lines_of};
 ghost use Rattle.markdown_blocks.specs.content.Content.{IsContent, StandsFrom};
 ghost use Rattle.markdown_blocks.specs.events.Events.{seen_leaf};
+ghost use Rattle.markdown_blocks.specs.laws.Characters.{IsCutOut};
 ghost use Rattle.markdown_events.specs.InlineEvents.{seen_event};
 ghost use Rattle.markdown_events.specs.page.LeafEvents.{AreLineEvents, AreTextEvents, line_events, lines_in_page, page_range, placed};
 ghost use Rattle.markdown_events.specs.page.LeafContent.{CanPlace, EndWithin, LieInBlock, line_event};
@@ -35,6 +36,7 @@ pub(crate) fn text_events<'a, D: Definitions<'a>>(
     kept: usize,
     leaf: Leaf,
 ) -> Result<Vec<(Event<'a>, Range<usize>)>, AllocError>
+    requires cut_out { IsCutOut page.now (seen_leaf leaf) }
     ensures events { IfOk result (λ events. (is_tight : Bool) → AreTextEvents page.now
         (record { asked = extensions; targets = D.targets definitions.now })
         (record { containers = containers.now; kept = kept; is_tight = is_tight })
@@ -43,7 +45,7 @@ pub(crate) fn text_events<'a, D: Definitions<'a>>(
         LieInBlock (seen_leaf leaf.entry) (map seen_event events.items)) }
 {
     let content = content_in(alloc, page, containers, kept, leaf)?;
-    let source = source_in(page, leaf.start, &content)?;
+    let source = Source::of_content(page, leaf.start, &content, 0);
     let events = source_events(alloc, memory, &source, definitions, extensions)?;
     Ok(in_page(events, leaf.start, &content))
 }
@@ -58,6 +60,7 @@ pub(crate) fn code_events<'a>(
     leaf: Leaf,
     is_html: bool,
 ) -> Result<Vec<(Event<'a>, Range<usize>)>, AllocError>
+    requires cut_out { IsCutOut page.now (seen_leaf leaf) }
     ensures events { IfOk result (λ events. (is_tight : Bool) → AreLineEvents page.now
         (record { containers = containers.now; kept = kept; is_tight = is_tight })
         (seen_leaf leaf.entry) (line_event is_html) (map seen_event events.items)) }
@@ -65,7 +68,7 @@ pub(crate) fn code_events<'a>(
         LieInBlock (seen_leaf leaf.entry) (map seen_event events.items)) }
 {
     let content = content_in(alloc, page, containers, kept, leaf)?;
-    let source = source_in(page, leaf.start, &content)?;
+    let source = Source::of_content(page, leaf.start, &content, 0);
     let events = line_events(alloc, &source, is_html, leaf.lines)?;
     Ok(in_page(events, leaf.start, &content))
 }
@@ -95,26 +98,6 @@ pub(crate) fn lines_in<'a>(page: &'a [u8], leaf: Leaf) -> &'a [u8]
     let start = leaf.start.min(page.len());
     let end = (leaf.start + leaf.bytes).min(page.len());
     &page[start..end]
-}
-
-/// A content as a source, whose block begins in the page after so many bytes.
-pub(crate) fn source_in<'a: 'c, 'c>(
-    page: &'a str,
-    before: usize,
-    content: &'c Content<'_>,
-) -> Result<Source<'a, 'c>, AllocError>
-    ensures { IfOk result (λ source. source ≡ content.now.text) }
-{
-    match Source::of_content(page, before, content) {
-        Some(source) => Ok(source),
-        None => Err(not_utf8()),
-    }
-}
-
-/// What is answered where bytes of the page are no text.
-pub(crate) fn not_utf8() -> AllocError {
-    // Not reached: the page is UTF-8, and content is cut at ASCII bytes.
-    AllocError
 }
 
 // An event for each line of a source, which is of a block of so many lines. There is room for them,

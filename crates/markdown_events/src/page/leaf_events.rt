@@ -1,12 +1,15 @@
 //! The events of a leaf block. (CommonMark 0.31.2, chapter 4)
-ghost use Rattle.std.specs.Prelude.{◌≡◌, [], ◌∷◌, map, IfOk};
+ghost use Rattle.std.specs.Prelude.{◌≡◌, ◌<◌, [], ◌∷◌, map, IfOk};
+ghost use Rattle.std.specs.Str.{IsUtf8};
 ghost use Rattle.markdown_values.specs.strings.Text.{cow_text};
 ghost use Rattle.markdown_values.specs.values.Events.{rule};
 ghost use Rattle.markdown_values.specs.values.Tags.{tag_view};
 ghost use Rattle.markdown_blocks.specs.events.Events.{seen_leaf};
 ghost use Rattle.markdown_blocks.specs.info.Info.{info_of};
+ghost use Rattle.markdown_blocks.specs.laws.Characters.{IsCutOut};
 ghost use Rattle.markdown_events.specs.InlineEvents.{ranged, seen_event};
 ghost use Rattle.markdown_events.specs.Meanings.{IsMeaning};
+ghost use Rattle.markdown_events.specs.page.InPage.{HasAsciiFence};
 ghost use Rattle.markdown_events.specs.page.LeafContent.{HasPlace, LieInBlock};
 ghost use Rattle.markdown_events.specs.page.LeafEvents.{AreLeafEvents, enclosed, enclosed_lines, in_paragraph, lines_place, plain_heading};
 ghost use Rattle.markdown_events.specs.page.Spans.{block_end};
@@ -14,9 +17,9 @@ ghost use Rattle.markdown_events.specs.page.Spans.{block_end};
 use crate::definitions::Definitions;
 use crate::elements::InlineMemory;
 use crate::page::element::element;
-use crate::page::leaf_content::{code_events, not_utf8, text_events};
+use crate::page::leaf_content::{code_events, text_events};
 use crate::page::table_events::table_events;
-use crate::parts::meaning_of;
+use crate::parts::{meaning_of, text_of};
 use markdown_blocks::blocks::BlockKind;
 use markdown_blocks::containers::Container;
 use markdown_blocks::events::Leaf;
@@ -41,6 +44,8 @@ pub(crate) fn leaf_events<'a, D: Definitions<'a>>(
     is_tight: bool,
     leaf: Leaf<'a>,
 ) -> Result<Vec<(Event<'a>, Range<usize>)>, AllocError>
+    requires cut_out { IsCutOut page.now (seen_leaf leaf) }
+    requires fence { HasAsciiFence leaf.kind }
     ensures events { IfOk result (λ events. AreLeafEvents page.now
         (record { asked = extensions; targets = D.targets definitions.now })
         (record { containers = containers.now; kept = kept; is_tight = is_tight })
@@ -194,10 +199,9 @@ fn heading<'a>(alloc: Global, level: HeadingLevel) -> Tag<'a>
 
 // What is meant by the info string after a fence of this byte. (4.5)
 fn info_meaning<'a>(alloc: Global, fence: &'a [u8], byte: u8) -> Result<CowStr<'a>, AllocError>
+    requires utf8 { IsUtf8 fence.now }
+    requires ascii { byte < 128 }
     ensures { IfOk result (λ info. IsMeaning (info_of byte fence.now) (cow_text info)) }
 {
-    match std::str::from_utf8(info_of(fence, byte)) {
-        Ok(info) => meaning_of(alloc, CowStr::from(info)),
-        Err(_) => Err(not_utf8()),
-    }
+    meaning_of(alloc, CowStr::from(text_of(info_of(fence, byte))))
 }

@@ -1,5 +1,5 @@
 //! What inlines are read from: a text, or the content of a block of a page.
-ghost use Rattle.std.specs.Prelude.{◌≡◌, ◌≤◌, drop, length, slice_range, IfOk, IfSome, IfNone};
+ghost use Rattle.std.specs.Prelude.{◌≡◌, ◌≤◌, drop, length, slice_range, IfOk, IfSome};
 ghost use Rattle.std.specs.Str.{IsCharBoundary, IsUtf8};
 ghost use Rattle.markdown_values.specs.strings.Text.{cow_text};
 
@@ -42,30 +42,19 @@ impl<'a, 'c> Model for Source<'a, 'c> {
 }
 
 impl<'a: 'c, 'c> Source<'a, 'c> {
-    /// The content of a block of a page, before which so many bytes stand, if it is UTF-8.
+    /// What the content of a block of a page has after `front` bytes. Before the block stand so many bytes
+    /// of the page.
+    ///
+    /// A run of the page is compared with it, and only what is no run is checked for UTF-8.
     pub(crate) fn of_content(
         page: &'a str,
         before: usize,
         content: &'c Content<'_>,
-    ) -> Option<Source<'a, 'c>>
-        ensures text { IfSome result (λ source. source ≡ content.now.text) }
-        ensures none { IfNone result (¬ IsUtf8 content.now.text) }
-    {
-        Source::of_rest(page, before, content, 0)
-    }
-
-    /// What such a content has after `front` bytes, if that is UTF-8.
-    ///
-    /// A run of the page is compared with it, and only what is no run is checked for UTF-8.
-    pub(crate) fn of_rest(
-        page: &'a str,
-        before: usize,
-        content: &'c Content<'_>,
         front: usize,
-    ) -> Option<Source<'a, 'c>>
-        requires { front ≤ length content.now.text }
-        ensures text { IfSome result (λ source. source ≡ drop front content.now.text) }
-        ensures none { IfNone result (¬ IsUtf8 (drop front content.now.text)) }
+    ) -> Source<'a, 'c>
+        requires front { front ≤ length content.now.text }
+        requires utf8 { IsUtf8 (drop front content.now.text) }
+        ensures { result ≡ drop front content.now.text }
     {
         let rest = &content.text()[front..];
         let placed = Placed {
@@ -75,19 +64,19 @@ impl<'a: 'c, 'c> Source<'a, 'c> {
             front,
         };
         if let Some(run) = placed.find(rest, 0) {
-            return Some(Source {
+            return Source {
                 text: run,
                 run: Some(run),
                 placed: Some(placed),
-            });
+            };
         }
         match from_utf8(rest) {
-            Ok(text) => Some(Source {
+            Ok(text) => Source {
                 text,
                 run: None,
                 placed: Some(placed),
-            }),
-            Err(_) => None,
+            },
+            Err(_) => unreachable!(),
         }
     }
 }

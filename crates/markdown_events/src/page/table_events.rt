@@ -1,21 +1,24 @@
 //! The events of a table. (GitHub Flavored Markdown 0.29, section 4.10)
 ghost use Rattle.std.specs.Prelude.{◌≡◌, ◌+◌, ◌-◌, ◌^◌, ◌<◌, ◌≤◌, ◌∷◌, Bool, true, List, ℕ, suc, length, map, IfOk};
+ghost use Rattle.std.specs.Str.{IsCharBoundary, IsUtf8};
 ghost use Rattle.markdown_values.specs.strings.Text.{cow_text};
 ghost use Rattle.markdown_values.specs.values.Tags.{table_cell, tag_view};
 ghost use Rattle.markdown_blocks.specs.cells.Cells.{cells_of};
 ghost use Rattle.markdown_blocks.specs.cells.Contents.{content_of_cell};
 ghost use Rattle.markdown_blocks.specs.events.Events.{seen_leaf};
+ghost use Rattle.markdown_blocks.specs.laws.Characters.{IsCutOut};
 ghost use Rattle.markdown_events.specs.EventLaws.{LieIn};
 ghost use Rattle.markdown_events.specs.InlineEvents.{AreInlineEvents, RangedEvent, seen_event};
 ghost use Rattle.markdown_events.specs.page.LeafContent.{HasPlace, LieInBlock};
 ghost use Rattle.markdown_events.specs.page.Places.{element, placed};
-ghost use Rattle.markdown_events.specs.page.TableEvents.{AreCellEvents, AreRowEvents, AreTableEvents, RowsEndBy, row_len, row_tag, shown_cells};
+ghost use Rattle.markdown_events.specs.page.TableEvents.{AreCellEvents, AreRowEvents, AreTableEvents, AreUtf8, RowsEndBy, row_len, row_tag, shown_cells};
 
 use crate::definitions::Definitions;
 use crate::elements::InlineMemory;
 use crate::inline_events::source_events;
 use crate::page::element::{element, push_all};
-use crate::page::leaf_content::{in_page, lines_in, source_in};
+use crate::page::leaf_content::{in_page, lines_in};
+use crate::page::source::Source;
 use markdown_blocks::cells::{Cell, Cells, cells_of};
 use markdown_blocks::containers::Container;
 use markdown_blocks::content::cell_content;
@@ -43,6 +46,7 @@ pub(crate) fn table_events<'a, D: Definitions<'a>>(
     leaf: Leaf,
     columns: usize,
 ) -> Result<Vec<(Event<'a>, Range<usize>)>, AllocError>
+    requires cut_out { IsCutOut page.now (seen_leaf leaf) }
     ensures events { IfOk result (λ events. (is_tight : Bool) → AreTableEvents page.now
         (record { asked = extensions; targets = D.targets definitions.now })
         (record { containers = containers.now; kept = kept; is_tight = is_tight })
@@ -83,7 +87,8 @@ fn rows_events<'a, D: Definitions<'a>>(
     columns: usize,
     rows: Rows,
 ) -> Result<Vec<(Event<'a>, Range<usize>)>, AllocError>
-    requires { RowsEndBy before (2 ^ 64 - 1) rows }
+    requires within { RowsEndBy before (2 ^ 64 - 1) rows }
+    requires utf8 { AreUtf8 rows }
     ensures events { IfOk result (λ events. AreRowEvents
         (record { asked = extensions; targets = D.targets definitions.now })
         columns before true rows.entry (map seen_event events.items)) }
@@ -126,7 +131,8 @@ fn row_events<'a, D: Definitions<'a>>(
     text: &[u8],
     is_head: bool,
 ) -> Result<Vec<(Event<'a>, Range<usize>)>, AllocError>
-    requires { before + length text.now < 2 ^ 64 }
+    requires fits { before + length text.now < 2 ^ 64 }
+    requires utf8 { IsUtf8 text.now }
     ensures events { IfOk result (λ events. (cells : List RangedEvent)
         × AreCellEvents (record { asked = extensions; targets = D.targets definitions.now })
         before text.now (shown_cells columns (row_len text.now) (cells_of text.now)) cells
@@ -183,7 +189,8 @@ fn cells_events<'a, D: Definitions<'a>>(
     columns: usize,
     text: &[u8],
 ) -> Result<Vec<(Event<'a>, Range<usize>)>, AllocError>
-    requires { before + length text.now < 2 ^ 64 }
+    requires fits { before + length text.now < 2 ^ 64 }
+    requires utf8 { IsUtf8 text.now }
     ensures events { IfOk result (λ events. AreCellEvents
         (record { asked = extensions; targets = D.targets definitions.now })
         before text.now (shown_cells columns (row_len text.now) (cells_of text.now))
@@ -240,6 +247,9 @@ fn cell_events<'a, D: Definitions<'a>>(
     requires fits { before + length text.now < 2 ^ 64 }
     requires in_order { cell.start ≤ cell.end }
     requires within { cell.end ≤ length text.now }
+    requires utf8 { IsUtf8 text.now }
+    requires begins { IsCharBoundary text.now cell.start }
+    requires ends { IsCharBoundary text.now cell.end }
     ensures events { IfOk result (λ events. (inlines : List RangedEvent)
         × AreInlineEvents (content_of_cell text.now cell).text
         (record { asked = extensions; targets = D.targets definitions.now }) inlines
@@ -250,7 +260,7 @@ fn cell_events<'a, D: Definitions<'a>>(
         LieIn before (before + length text.now) (map seen_event events.items)) }
 {
     let content = cell_content(alloc, text, cell)?;
-    let source = source_in(page, before, &content)?;
+    let source = Source::of_content(page, before, &content, 0);
     let inlines = source_events(alloc, memory, &source, definitions, extensions)?;
     let inner = in_page(inlines, before, &content);
     element(

@@ -6,6 +6,7 @@ ghost use Rattle.markdown_scanners_tree.specs.Bytes.{is_white_space};
 ghost use Rattle.markdown_blocks.specs.events.Events.{seen_leaf};
 ghost use Rattle.markdown_events.specs.EventLaws.{LiesIn};
 ghost use Rattle.markdown_events.specs.InlineEvents.{seen_event};
+ghost use Rattle.markdown_events.specs.page.InPage.{HasMarker};
 ghost use Rattle.markdown_events.specs.page.LeafContent.{CanPlace, EndWithin, HasPlace, LieInBlock};
 ghost use Rattle.markdown_events.specs.page.LeafEvents.{page_range, placed};
 ghost use Rattle.markdown_events.specs.page.Spans.{block_end};
@@ -14,7 +15,7 @@ ghost use Rattle.markdown_events.specs.page.TaskEvents.{AreTaskEvents, after, ma
 use crate::definitions::Definitions;
 use crate::elements::InlineMemory;
 use crate::inline_events::source_events;
-use crate::page::leaf_content::{content_in, not_utf8};
+use crate::page::leaf_content::content_in;
 use crate::page::leaf_events::in_paragraph;
 use crate::page::source::Source;
 use markdown_blocks::containers::Container;
@@ -42,6 +43,7 @@ pub(crate) fn task_events<'a, D: Definitions<'a>>(
     leaf: Leaf<'a>,
     task: Task,
 ) -> Result<Vec<(Event<'a>, Range<usize>)>, AllocError>
+    requires marker { HasMarker page.now containers.now kept (seen_leaf leaf) task }
     ensures events { IfOk result (λ events. AreTaskEvents page.now
         (record { asked = extensions; targets = D.targets definitions.now })
         (record { containers = containers.now; kept = kept; is_tight = is_tight })
@@ -54,9 +56,7 @@ pub(crate) fn task_events<'a, D: Definitions<'a>>(
 {
     let content = content_in(alloc, page, containers, kept, leaf)?;
     let front = marker_end(content.text(), task.len);
-    let Some(source) = Source::of_rest(page, leaf.start, &content, front) else {
-        return Err(not_utf8());
-    };
+    let source = Source::of_content(page, leaf.start, &content, front);
     let events = source_events(alloc, memory, &source, definitions, extensions)?;
     let moved = rest_in_page(events, leaf.start, &content, front);
     let inner = with_marker(moved, task)?;
@@ -91,13 +91,11 @@ fn with_marker<'a>(
     events: Vec<(Event<'a>, Range<usize>)>,
     task: Task,
 ) -> Result<Vec<(Event<'a>, Range<usize>)>, AllocError>
+    requires fits { task.place + task.len < 2 ^ 64 }
     ensures { IfOk result (λ all. map seen_event all.items
         ≡ marker_event task ∷ map seen_event events.entry.items) }
 {
-    let Some(end) = task.place.checked_add(task.len) else {
-        // Not reached: the page has the marker.
-        return Err(AllocError);
-    };
+    let end = task.place + task.len;
     let mut events = events;
     events.insert(0, (Event::TaskListMarker(task.is_checked), task.place..end))?;
     Ok(events)

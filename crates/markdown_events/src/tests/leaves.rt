@@ -1,12 +1,6 @@
 //! The events of the leaf blocks of examples of CommonMark 0.31.2, chapters 2, 4 and 5.
-use super::{DEFINED, Page, end_name, push_event, push_words};
-use crate::elements::InlineMemory;
-use crate::page::leaf_events::leaf_events;
-use markdown_blocks::events::{BlockEvent, Blocks};
-use markdown_inlines::extensions::InlineExtensions;
-use markdown_values::values::{Alignment, CodeBlockKind, Event, HeadingLevel, Tag, TagEnd};
-use std::alloc::{AllocError, Global};
-use std::ops::Range;
+use super::event_lines::leaf_lines;
+use crate::event_reader::PageSetting;
 use std::process::Abort;
 
 // A page, and a line for each event of its leaf blocks: its range, what it is, and its texts, in
@@ -182,120 +176,20 @@ const TIGHT: &[(&str, &str)] = &[
 
 #[test]
 fn events_of_leaf_blocks(rt: HostRuntime) {
+    let asked = PageSetting {
+        tables: true,
+        ..PageSetting::commonmark()
+    };
     for (page, expected) in PAGES {
-        let shown = shown(rt.alloc(), page, false).expect(&rt, "memory");
+        let shown = leaf_lines(rt.alloc(), page, asked).expect(&rt, "memory");
         assert_eq!(rt; (*page, shown.as_str()), (*page, *expected));
     }
     for (page, expected) in TABLES {
-        let shown = shown(rt.alloc(), page, false).expect(&rt, "memory");
+        let shown = leaf_lines(rt.alloc(), page, asked).expect(&rt, "memory");
         assert_eq!(rt; (*page, shown.as_str()), (*page, *expected));
     }
     for (page, expected) in TIGHT {
-        let shown = shown(rt.alloc(), page, true).expect(&rt, "memory");
+        let shown = leaf_lines(rt.alloc(), page, asked).expect(&rt, "memory");
         assert_eq!(rt; (*page, shown.as_str()), (*page, *expected));
-    }
-}
-
-// A line for each event of the leaf blocks of a page, of up to a hundred containers and blocks.
-fn shown(alloc: Global, page: &str, is_tight: bool) -> Result<String, AllocError> {
-    let asked = InlineExtensions {
-        strikethrough: false,
-        wikilinks: false,
-    };
-    let defined = Page { rows: DEFINED };
-    let mut out = String::new(alloc);
-    let mut memory = InlineMemory::new(alloc);
-    let mut blocks = Blocks::new(alloc, page.as_bytes());
-    let mut kept = 0;
-    for _ in 0..100 {
-        let Some(event) = blocks.next(alloc)? else {
-            break;
-        };
-        let outer = blocks.containers();
-        match event {
-            BlockEvent::Start(..) => (),
-            BlockEvent::End => kept = kept.min(outer.len()),
-            BlockEvent::Block(leaf) => {
-                let events = leaf_events(
-                    alloc,
-                    &mut memory,
-                    page,
-                    asked,
-                    &defined,
-                    outer,
-                    kept,
-                    is_tight,
-                    leaf,
-                )?;
-                push_events(&mut out, &events)?;
-                kept = outer.len();
-            }
-        }
-    }
-    Ok(out)
-}
-
-fn push_events(out: &mut String, events: &[(Event, Range<usize>)]) -> Result<(), AllocError> {
-    for (event, range) in events {
-        write!(out, "{}..{} ", range.start, range.end)?;
-        push_block_event(out, event)?;
-        out.push('\n')?;
-    }
-    Ok(())
-}
-
-fn push_block_event(out: &mut String, event: &Event) -> Result<(), AllocError> {
-    match event {
-        Event::Rule => out.push_str("rule"),
-        Event::Html(line) => push_line(out, "line ", line.as_str()),
-        Event::Text(text) => push_line(out, "text ", text.as_str()),
-        Event::Start(Tag::CodeBlock(CodeBlockKind::Fenced(info))) => {
-            push_words(out, "start code block, info ", info.as_str())
-        }
-        Event::Start(Tag::Table(alignments)) => push_table(out, alignments),
-        Event::Start(tag) => match block_name(tag.to_end()) {
-            Some(name) => push_words(out, "start ", name),
-            None => push_event(out, event),
-        },
-        Event::End(end) => push_words(out, "end ", block_name(*end).unwrap_or(end_name(*end))),
-        _ => push_event(out, event),
-    }
-}
-
-// With how each column is aligned.
-fn push_table(out: &mut String, alignments: &[Alignment]) -> Result<(), AllocError> {
-    out.push_str("start table,")?;
-    for alignment in alignments {
-        out.push_str(match alignment {
-            Alignment::None => " none",
-            Alignment::Left => " left",
-            Alignment::Center => " center",
-            Alignment::Right => " right",
-        })?;
-    }
-    Ok(())
-}
-
-fn push_line(out: &mut String, name: &str, line: &str) -> Result<(), AllocError> {
-    out.push_str(name)?;
-    for c in line.chars() {
-        out.push(if c == '\n' { '$' } else { c })?;
-    }
-    Ok(())
-}
-
-fn block_name(end: TagEnd) -> Option<&'static str> {
-    match end {
-        TagEnd::Paragraph => Some("paragraph"),
-        TagEnd::Heading(HeadingLevel::H1) => Some("heading 1"),
-        TagEnd::Heading(HeadingLevel::H2) => Some("heading 2"),
-        TagEnd::Heading(_) => Some("heading 3"),
-        TagEnd::CodeBlock => Some("code block"),
-        TagEnd::HtmlBlock => Some("html block"),
-        TagEnd::Table => Some("table"),
-        TagEnd::TableHead => Some("table head"),
-        TagEnd::TableRow => Some("table row"),
-        TagEnd::TableCell => Some("table cell"),
-        _ => None,
     }
 }

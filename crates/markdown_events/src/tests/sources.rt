@@ -6,7 +6,7 @@ use crate::inline_events::source_events;
 use crate::page::blocks_of::read_page;
 use crate::page::definitions::PageDefinitions;
 use crate::page::source::Source;
-use crate::tests::push_event;
+use crate::tests::event_lines::push_line;
 use markdown_blocks::blocks::BlockKind;
 use markdown_blocks::containers::{BlockExtensions, Container};
 use markdown_blocks::content::content_of;
@@ -129,9 +129,10 @@ fn push_leaf<'a>(
     let lines = page.get(leaf.start..leaf.start.saturating_add(leaf.bytes));
     let lines = lines.unwrap_or("").as_bytes();
     let content = content_of(alloc, lines, leaf.kind, containers, kept)?;
-    let Some(source) = Source::of_content(page, leaf.start, &content) else {
+    if std::str::from_utf8(content.text()).is_err() {
         return shown.lines.push_str("not UTF-8");
-    };
+    }
+    let source = Source::of_content(page, leaf.start, &content, 0);
     let mut memory = InlineMemory::new(alloc);
     let events = source_events(
         alloc,
@@ -140,11 +141,9 @@ fn push_leaf<'a>(
         definitions,
         InlineExtensions::none(),
     )?;
-    for (event, range) in &events {
-        write!(shown.lines, "{}..{} ", range.start, range.end)?;
-        push_event(&mut shown.lines, event)?;
-        shown.lines.push('\n')?;
-        shown.own = shown.own.saturating_add(own_texts(event));
+    for event in &events {
+        push_line(&mut shown.lines, event)?;
+        shown.own = shown.own.saturating_add(own_texts(&event.0));
     }
     Ok(())
 }

@@ -1,9 +1,7 @@
 //! The events of task list items: examples 279 and 280 of GitHub Flavored Markdown 0.29, section 5.3,
 //! and pages by the words of that section.
-use super::{push_event, push_words};
-use crate::event_reader::{EventReader, PageSetting};
-use markdown_values::values::{Event, Tag, TagEnd};
-use std::alloc::{AllocError, Global};
+use super::event_lines::leaf_lines;
+use crate::event_reader::PageSetting;
 use std::process::Abort;
 
 // A page, and a line for each of its events but those of lists, items and block quotes: its range, what
@@ -84,7 +82,7 @@ fn events_of_tasks(rt: HostRuntime) {
         ..PageSetting::commonmark()
     };
     for (page, expected) in PAGES {
-        let shown = shown(rt.alloc(), page, asked).expect(&rt, "memory");
+        let shown = leaf_lines(rt.alloc(), page, asked).expect(&rt, "memory");
         assert_eq!(rt; (*page, shown.as_str()), (*page, *expected));
     }
 }
@@ -92,46 +90,11 @@ fn events_of_tasks(rt: HostRuntime) {
 // Where they aren't asked for, the marker is text.
 #[test]
 fn tasks_are_off_unless_asked_for(rt: HostRuntime) {
-    let shown = shown(rt.alloc(), "- [ ] foo", PageSetting::commonmark()).expect(&rt, "memory");
+    let shown = leaf_lines(rt.alloc(), "- [ ] foo", PageSetting::commonmark()).expect(
+        &rt, "memory",
+    );
     assert_eq!(rt;
         shown.as_str(),
         "2..3 text [\n3..4 text  \n4..5 text ]\n5..9 text  foo\n"
     );
-}
-
-// A line for each event of a page, of up to a hundred.
-fn shown(alloc: Global, page: &str, setting: PageSetting) -> Result<String, AllocError> {
-    let mut out = String::new(alloc);
-    let mut reader = EventReader::with_setting(alloc, page, setting)?;
-    for _ in 0..100 {
-        let Some((event, range)) = reader.next()? else {
-            break;
-        };
-        if is_container(&event) {
-            continue;
-        }
-        write!(out, "{}..{} ", range.start, range.end)?;
-        push_task_event(&mut out, &event)?;
-        out.push('\n')?;
-    }
-    Ok(out)
-}
-
-fn is_container(event: &Event) -> bool {
-    let tag = match event {
-        Event::Start(tag) => tag.to_end(),
-        Event::End(tag) => *tag,
-        _ => return false,
-    };
-    matches!(tag, TagEnd::List(_) | TagEnd::Item | TagEnd::BlockQuote(_))
-}
-
-fn push_task_event(out: &mut String, event: &Event) -> Result<(), AllocError> {
-    match event {
-        Event::TaskListMarker(true) => out.push_str("checked task"),
-        Event::TaskListMarker(false) => out.push_str("unchecked task"),
-        Event::Start(Tag::Paragraph) => push_words(out, "start ", "paragraph"),
-        Event::End(TagEnd::Paragraph) => push_words(out, "end ", "paragraph"),
-        _ => push_event(out, event),
-    }
 }

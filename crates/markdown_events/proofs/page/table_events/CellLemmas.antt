@@ -2,12 +2,14 @@
 use Rattle.std.proofs.Common.{ℕ, zero, suc, ◌+◌, ◌-◌, ◌^◌, ◌<◌, ◌≤◌, ◌≡◌, Bool, true, false, List, [], ◌∷◌, ◌++◌, length, map}
 use Rattle.std.proofs.Common.{ap, sym, subst, ◌∙◌, append-nil, append_assoc, arith, refl}
 use Rattle.std.specs.Prelude.{⊤}
+use Rattle.std.specs.List.{AllByRecursion}
+use Rattle.std.specs.Str.{IsCharBoundary, IsUtf8}
 use Rattle.markdown_values.specs.values.Tags.{table_cell}
 use Rattle.markdown_blocks.specs.cells.Cells.{AreBetween, cells_of}
 use Rattle.markdown_blocks.specs.content.Bytes.{AreBytesOf}
 use Rattle.markdown_blocks.specs.cells.Contents.{bytes_of_cell, content_of_cell, escapes_pipe, unescaped, unescaped_places}
 use Rattle.markdown_blocks.specs.declared.cells.Cell.{Cell}
-use Rattle.markdown_blocks.proofs.ForCallers.{DoNotFall}
+use Rattle.markdown_blocks.proofs.ForCallers.{DoNotFall, IsCellCut, cells_cut, row_cut}
 use Rattle.markdown_events.specs.InlineEvents.{AreInlineEvents, EventSetting, RangedEvent}
 use Rattle.markdown_events.specs.page.LeafContent.{CanPlace}
 use Rattle.markdown_events.specs.page.Places.{element, placed}
@@ -30,6 +32,28 @@ shown_within (suc columns) end count (cell ∷ later) low are = (are.0, are.1, s
 pub shown_between : (columns end count : ℕ) (cells : List Cell) → end ≤ count → AreBetween 0 count cells
     → StandWithin count (shown_cells columns end cells)
 shown_between columns end count cells low are = shown_within columns end count cells low (between_within 0 count cells are)
+
+-- each may be cut out of the row
+abbrev pub AreCutFrom : List ℕ → List Cell → Type 0
+AreCutFrom text [] = ⊤
+AreCutFrom text (cell ∷ later) = IsCharBoundary text cell.start × IsCharBoundary text cell.end × AreCutFrom text later
+
+cells_cut_from : (text : List ℕ) (cells : List Cell) → AllByRecursion (IsCellCut text) cells → AreCutFrom text cells
+cells_cut_from text [] all = tt
+cells_cut_from text (cell ∷ later) all = (all.0.0, all.0.1, cells_cut_from text later all.1)
+
+shown_cut : (text : List ℕ) (columns end : ℕ) (cells : List Cell) → IsCharBoundary text end → AreCutFrom text cells
+    → AreCutFrom text (shown_cells columns end cells)
+shown_cut text zero end cells cut all = tt
+shown_cut text (suc columns) end [] cut all = (cut, cut, shown_cut text columns end [] cut tt)
+shown_cut text (suc columns) end (cell ∷ later) cut all = (all.0, all.1, shown_cut text columns end later cut all.2)
+
+-- those that a row shows
+pub row_cells_cut : (text : List ℕ) (columns end : ℕ) (cells : List Cell) → IsUtf8 text → end ≡ row_len text → cells ≡ cells_of text
+    → AreCutFrom text (shown_cells columns end cells)
+row_cells_cut text columns end cells utf8 end_is are =
+    shown_cut text columns end cells (subst (IsCharBoundary text) (sym end_is) (row_cut text))
+    (subst (AreCutFrom text) (sym are) (cells_cut_from text (cells_of text) (cells_cut text utf8)))
 
 -- ---- contents
 
@@ -92,6 +116,10 @@ module _ (left end : ℕ) (old new : List Cell) (cell : Cell) (some : 0 < left)
   pub stand_more : (count : ℕ) → StandWithin count (shown_cells left end old)
       → (cell.start ≤ cell.end) × (cell.end ≤ count) × StandWithin count (shown_cells (left - 1) end new)
   stand_more count stand = subst (StandWithin count) shown stand
+
+  pub cut_more : (text : List ℕ) → AreCutFrom text (shown_cells left end old)
+      → IsCharBoundary text cell.start × IsCharBoundary text cell.end × AreCutFrom text (shown_cells (left - 1) end new)
+  cut_more text cut = subst (AreCutFrom text) shown cut
 
   -- the next
   pub cells_more : (setting : EventSetting) (before : ℕ) (text : List ℕ) (all : List Cell) (events more here inlines : List RangedEvent)

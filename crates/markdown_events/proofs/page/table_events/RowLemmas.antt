@@ -1,7 +1,8 @@
 -- The rows of a table stand in its lines.
 use Rattle.std.proofs.Common.{ℕ, ◌+◌, ◌≤◌, ◌≡◌, Bool, true, false, List, [], ◌∷◌, ◌++◌, length}
 use Rattle.std.proofs.Common.{ap, refl, sym, subst, ◌∙◌, append-nil, append_assoc, arith, length-append}
-use Rattle.std.specs.List.{concat}
+use Rattle.std.specs.List.{AllByRecursion, concat}
+use Rattle.std.specs.Str.{IsUtf8}
 use Rattle.std.proofs.lemmas.List.{length-drop}
 use Rattle.markdown_scanners_tree.specs.line.State.{LineState, after_space}
 use Rattle.markdown_scanners_tree.specs.scanners.TextLines.{lines_of}
@@ -12,12 +13,13 @@ use Rattle.markdown_blocks.specs.content.Parts.{first_place}
 use Rattle.markdown_blocks.specs.declared.blocks.BlockKind.TheVariants.{Paragraph}
 use Rattle.markdown_blocks.specs.declared.containers.Container.{Container}
 use Rattle.markdown_blocks.specs.rows.Rows.{TextAt, body_rows, later_rows, row_at, rows_of}
+use Rattle.markdown_blocks.proofs.ForCallers.{IsRowCut, rows_cut}
 use Rattle.markdown_blocks.proofs.content.ReachedLemmas.{Reached, after_some}
 use Rattle.markdown_blocks.proofs.content.ReachedPlaces.{first_reached, later_reached}
 use Rattle.markdown_events.specs.EventLaws.{LieIn}
 use Rattle.markdown_events.specs.InlineEvents.{EventSetting, RangedEvent}
 use Rattle.markdown_events.specs.page.Places.{element}
-use Rattle.markdown_events.specs.page.TableEvents.{AreCellEvents, AreRowEvents, RowsEndBy, row_len, row_tag, shown_cells}
+use Rattle.markdown_events.specs.page.TableEvents.{AreCellEvents, AreRowEvents, AreUtf8, RowsEndBy, row_len, row_tag, shown_cells}
 
 -- a row ends in its line
 pub row_ends : (before : ℕ) (line : List ℕ) (s : LineState) → Reached line s
@@ -57,6 +59,14 @@ pub rows_end : (kept : ℕ) (outer : List Container) (start to : ℕ) (text : Li
 rows_end kept outer start to text within =
     all_end kept outer start to (lines_of text) (omega (arith, within, ap length (lines_joined text)))
 
+all_utf8 : (lines : List ℕ) (rows : List TextAt) → AllByRecursion (IsRowCut lines) rows → AreUtf8 rows
+all_utf8 lines [] cut = tt
+all_utf8 lines (row ∷ later) cut = (cut.0.utf8, all_utf8 lines later cut.1)
+
+-- the rows of lines that are UTF-8
+pub rows_utf8 : (kept : ℕ) (outer : List Container) (text : List ℕ) → IsUtf8 text → AreUtf8 (rows_of kept outer (lines_of text))
+rows_utf8 kept outer text utf8 = all_utf8 text (rows_of kept outer (lines_of text)) (rows_cut kept outer text utf8)
+
 -- ---- events of rows, one after the other
 
 pub lie_wider : (outer from to outer_to : ℕ) (events : List RangedEvent) → outer ≤ from → to ≤ outer_to → LieIn from to events
@@ -70,6 +80,9 @@ lie_wider outer from to outer_to (event ∷ events) low high lie = (
 module _ (before columns : ℕ) (row : TextAt) (rows new : List TextAt) (next : rows ≡ row ∷ new) where
   pub row_first : (to : ℕ) → RowsEndBy before to rows → (before + row.place + length row.text ≤ to) × RowsEndBy before to new
   row_first to ends = subst (RowsEndBy before to) next ends
+
+  pub row_text : AreUtf8 rows → IsUtf8 row.text × AreUtf8 new
+  row_text utf8 = subst AreUtf8 next utf8
 
   -- the next
   pub rows_more : (setting : EventSetting) (is_head : Bool) (all : List TextAt) (events more here cells : List RangedEvent)

@@ -1,5 +1,5 @@
 -- The ranges of a leaf block's events begin and end at character boundaries, where it may begin with a task list marker.
-use Rattle.std.proofs.Common.{ℕ, zero, suc, ◌+◌, ◌-◌, ◌<◌, ◌≤◌, ◌≡◌, Bool, true, false, List, length, take, drop, get_or, Option, Some}
+use Rattle.std.proofs.Common.{ℕ, zero, suc, ◌+◌, ◌-◌, ◌^◌, ◌<◌, ◌≤◌, ◌≡◌, Bool, true, false, List, length, take, drop, get_or, Option, Some}
 use Rattle.std.proofs.Common.{None, inl, inr, refl, sym, ap, subst, arith}
 use Rattle.std.specs.Prelude.{slice_index}
 use Rattle.std.specs.List.{prefix_len}
@@ -10,13 +10,13 @@ use Rattle.std.proofs.lemmas.List.Sums.{prefix_len_passes}
 use Rattle.std.proofs.lemmas.Str.{IsCharBoundary-from_rest, IsUtf8-drop, IsUtf8-nil}
 use Rattle.markdown_scanners_tree.specs.Bytes.{is_space_or_tab, is_white_space}
 use Rattle.markdown_scanners_tree.proofs.ForCallers.{cut_behind_ascii}
-use Rattle.markdown_blocks.specs.content.Content.{Placed}
+use Rattle.markdown_blocks.specs.content.Content.{IsContent, Placed}
 use Rattle.markdown_blocks.specs.declared.blocks.BlockKind.{BlockKind}
 use Rattle.markdown_blocks.specs.declared.blocks.BlockKind.TheVariants.{Blank, Break, Heading, Setext, Indented, Fenced, Html, Paragraph, Definition, Table}
 use Rattle.markdown_blocks.specs.declared.containers.Container.{Container}
 use Rattle.markdown_blocks.specs.declared.containers.Container.TheVariants.{Quote, Item, Footnote, TermDefinition}
 use Rattle.markdown_blocks.specs.declared.first_blocks.Task.{Task}
-use Rattle.markdown_blocks.specs.events.Events.{LeafBlock}
+use Rattle.markdown_blocks.specs.events.Events.{LeafBlock, block_end}
 use Rattle.markdown_blocks.specs.first_blocks.Tasks.{task_in, task_of}
 use Rattle.markdown_blocks.specs.laws.Characters.{IsCutOut}
 use Rattle.markdown_blocks.specs.laws.FirstTexts.{BeginsPlain}
@@ -24,6 +24,7 @@ use Rattle.markdown_blocks.specs.laws.Order.{HoldsText}
 use Rattle.markdown_blocks.proofs.ForCallers.{content_sizes, content_utf8, task_bracket, task_within}
 use Rattle.markdown_events.specs.EventLaws.{AreAtBoundaries}
 use Rattle.markdown_events.specs.InlineEvents.{EventSetting, RangedEvent}
+use Rattle.markdown_events.specs.page.InPage.{HasMarker, IsInPage}
 use Rattle.markdown_events.specs.page.LeafEvents.{Place, lines_in_page}
 use Rattle.markdown_events.specs.page.TaskEvents.{AreBlockEvents, AreEventsWith, AreTaskEvents, BlockSetting, after, after_marker, marker_end, task_here}
 use Rattle.markdown_events.proofs.inline_events.Boundaries.{events_at_boundaries}
@@ -82,6 +83,29 @@ rest_utf8 text len utf8 some low = elim (leb_tells (marker_end len text) (length
 ]
 
 -- ---- a paragraph with a marker
+
+-- what its content has after the marker is UTF-8
+pub marked_utf8 : (page : List ℕ) (outer : List Container) (kept : ℕ) (block : LeafBlock) (task : Task) → HasMarker page outer kept block task
+    → (content : Placed) → IsContent block.kind outer kept (lines_in_page page block) content
+    → IsUtf8 (drop (marker_end task.len content.text) content.text)
+marked_utf8 page outer kept block task has content is =
+    let utf8 = content_utf8 block.kind outer kept (take block.bytes (drop block.start page)) content is has.cut_out.lines in
+    let bracket = task_bracket block task has.found in
+    let stands = task_within block task has.found in
+    let some = bracket.0 in
+    rest_utf8 content.text task.len utf8 some
+    (λ within. omega (
+      arith,
+      bracket.1,
+      has.text.front has.paragraph has.plain content is (task.len - 1) (omega (arith, within, some)) (omega (arith, stands.1, some)),
+    ))
+
+-- it ends where the page can still count
+pub marker_fits : (page : List ℕ) (outer : List Container) (kept : ℕ) (block : LeafBlock) (task : Task) → HasMarker page outer kept block task
+    → block_end block < 2 ^ 64 → task.place + task.len < 2 ^ 64
+marker_fits page outer kept block task has ends =
+    let stands = task_within block task has.found in
+    omega (arith, stands.0, stands.1, has.text.within, ends)
 
 module _ (page : List ℕ) (setting : EventSetting) (here : Place) (block : LeafBlock) (cut : IsCutOut page block)
     (holds : HoldsText page here.containers here.kept block) where
@@ -144,6 +168,18 @@ marked_here true (Some container) block task is = marked_in container block.kind
 marked_here true None block task is = absurd (cc)
 marked_here false (Some container) block task is = absurd (cc)
 marked_here false None block task is = absurd (cc)
+
+-- a block that stands in the page, and begins with a marker
+pub has_marker : (page : List ℕ) (outer : List Container) (kept : ℕ) (asked : Bool) (waiting : Option Container) (block : LeafBlock) (task : Task)
+    → IsInPage page outer kept waiting block → task_here asked waiting block ≡ Some task → HasMarker page outer kept block task
+has_marker page outer kept asked waiting block task is found =
+    let marked = marked_here asked waiting block task found in record {
+      cut_out = is.cut_out;
+      text = is.text;
+      paragraph = marked.paragraph;
+      plain = marked.plain is.plain;
+      found = marked.found;
+    }
 
 -- The events of a leaf block begin and end at character boundaries of the page.
 pub block_at : (page : List ℕ) (setting : BlockSetting) (here : Place) (block : LeafBlock) (waiting : Option Container) → IsCutOut page block

@@ -1,3 +1,4 @@
+use Rattle.std.proofs.Common.{refl}
 use Rattle.std.proofs.lemmas.Result.{on_ok_weaker}
 use Rattle.markdown_events.proofs.page.ParserLemmas.{given_start, given_leaf, given_end}
 use Rattle.markdown_events.proofs.event_reader.EventReader.read_block.Goals as goal
@@ -15,3 +16,14 @@ returns-in-Some-Block-clause-same g c =
 pub returns-in-Some-End-clause-same : goal.returns-in-Some-End-clause-same
 returns-in-Some-End-clause-same g c = λ events h.
     given_end _ _ _ events c.requires.waiting (rw (c.in-Some-End.is, c.in-Some-End.field-0-is) at c.next_block.ensures.next) (rw c.read_end.ensures.read at h)
+
+pub read_start-requires-clause-next : goal.read_start-requires-clause-next
+read_start-requires-clause-next g c = rw (c.in-Some-Start.is, c.in-Some-Start.field-0-is) at c.next_block.ensures.next
+
+pub read_leaf-requires : goal.read_leaf-requires
+read_leaf-requires g c κs =
+    let next = rw (c.in-Some-Block.is, c.in-Some-Block.field-0-is) at c.next_block.ensures.next in
+    ((refl, tt), (c.requires.waiting, next))
+
+pub read_end-requires-clause-next : goal.read_end-requires-clause-next
+read_end-requires-clause-next g c = rw (c.in-Some-End.is, c.in-Some-End.field-0-is) at c.next_block.ensures.next

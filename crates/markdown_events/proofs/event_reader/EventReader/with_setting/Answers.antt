@@ -3,12 +3,20 @@ use Rattle.markdown_blocks.specs.events.Events.{seen_event as seen_block}
 use Rattle.markdown_events.specs.InlineEvents.{seen_event}
 use Rattle.markdown_events.specs.Targets.{nowhere}
 use Rattle.markdown_events.specs.page.OpenElements.{none_open}
-use Rattle.markdown_events.specs.page.PageEvents.{ArePageEvents, ArePageEventsWith}
+use Rattle.markdown_events.specs.page.PageEvents.{ArePageEvents, ArePageEventsWith, blocks_of}
+use Rattle.markdown_events.proofs.page.InPageLemmas.{page_leaves_in}
 use Rattle.markdown_events.proofs.page.PageBalance.{page_events_balance, page_events_nest, page_events_with_balance, page_events_with_nest}
 use Rattle.markdown_events.proofs.page.PageCuts.{page_events_at_boundaries, page_events_with_at_boundaries}
 use Rattle.markdown_events.proofs.page.PageRanges.{page_events_with_within, page_events_within}
 use Rattle.markdown_events.proofs.page.ParserLemmas.{given_with, page_events, page_events_with, reverse_twice}
 use Rattle.markdown_events.proofs.event_reader.EventReader.with_setting.Goals as goal
+
+pub invariant_of-result : goal.invariant_of-result
+invariant_of-result c =
+    let all = c.in_ok-blocks.blocks.items in
+    let of_page = rw c.blocks-asked.ensures at c.in_ok-blocks.ensures.blocks in
+    rw (c.new.ensures, c.reverse.ensures.items, reverse_twice all)
+    (page_leaves_in (blocks_of c.args.setting) c.args.page.now (map seen_block all) of_page c.utf8.page)
 
 pub returns-clause-page : goal.returns-clause-page
 returns-clause-page c = λ events g.

@@ -1,8 +1,8 @@
-use Rattle.std.proofs.Common.{List, ◌+◌, ◌-◌, length, map, ap, subst, sym, arith}
+use Rattle.std.proofs.Common.{List, ◌+◌, ◌-◌, length, map, ap, refl, subst, sym, arith}
 use Rattle.markdown_events.specs.EventLaws.{LieIn}
 use Rattle.markdown_events.specs.InlineEvents.{EventSetting, RangedEvent, seen_event}
 use Rattle.markdown_events.proofs.page.leaf_events.RangeLaws.{lie_before}
-use Rattle.markdown_events.proofs.page.table_events.CellLemmas.{cells_begin, cells_end, cells_more, shown_between, stand_more}
+use Rattle.markdown_events.proofs.page.table_events.CellLemmas.{cells_begin, cells_end, cells_more, cut_more, row_cells_cut, shown_between, stand_more}
 use Rattle.markdown_events.proofs.page.table_events.cells_events.Goals as goal
 
 pub loop-left-init : goal.loop-left-init
@@ -13,8 +13,23 @@ loop-left-init g c =
           (map seen_event c.new-events.result.items) c.row_len-end.ensures.length c.cells_of-cells.ensures.cells none;
       stand = shown_between c.args.columns c.row_len-end.result (length c.args.text.now) c.cells_of-cells.result c.row_len-end.ensures.within
           c.cells_of-cells.ensures.between;
+      cut = row_cells_cut c.args.text.now c.args.columns c.row_len-end.result c.cells_of-cells.result c.requires.utf8 c.row_len-end.ensures.length
+          c.cells_of-cells.ensures.cells;
       lie = subst (λ (es : List RangedEvent). LieIn c.args.before (c.args.before + length c.args.text.now) es) (sym none) tt;
     }
+
+pub cell_events-requires : goal.cell_events-requires
+cell_events-requires g c κs =
+    let text = c.args.text.now in
+    let left = c.loop-left.left in
+    let next = c.next_cell-cell.ensures (left - 1) in
+    let stand = stand_more left c.row_len-end.result c.loop-left.cells c.next_cell-cell.new.cells c.next_cell-cell.result c.loop-left-test.true next
+    (length text) c.loop-left.invariant.stand in
+    let cut = cut_more left c.row_len-end.result c.loop-left.cells c.next_cell-cell.new.cells c.next_cell-cell.result c.loop-left-test.true next
+    text c.loop-left.invariant.cut in (
+      (refl, tt),
+      (c.requires.fits, (stand.0, (stand.1, (c.requires.utf8, (cut.0, cut.1))))),
+    )
 
 pub loop-left-preserved : goal.loop-left-preserved
 loop-left-preserved g c =
@@ -31,6 +46,8 @@ loop-left-preserved g c =
           c.loop-left.invariant.given;
       stand = (stand_more left c.row_len-end.result c.loop-left.cells c.next_cell-cell.new.cells c.next_cell-cell.result c.loop-left-test.true next
           (length text) c.loop-left.invariant.stand).2;
+      cut = (cut_more left c.row_len-end.result c.loop-left.cells c.next_cell-cell.new.cells c.next_cell-cell.result c.loop-left-test.true next
+          text c.loop-left.invariant.cut).2;
       lie = subst (λ (es : List RangedEvent). LieIn before (before + length text) es) (sym c.in_ok-push_all.ensures)
           (lie_before before (before + length text) events here c.loop-left.invariant.lie c.in_ok-cell_events.ensures.within);
     }

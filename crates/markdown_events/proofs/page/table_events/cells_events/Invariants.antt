@@ -5,7 +5,7 @@ use Rattle.markdown_blocks.specs.cells.Cells.{cells_of}
 use Rattle.markdown_events.specs.EventLaws.{LieIn}
 use Rattle.markdown_events.specs.InlineEvents.{EventSetting, RangedEvent, seen_event}
 use Rattle.markdown_events.specs.page.TableEvents.{AreCellEvents, row_len, shown_cells}
-use Rattle.markdown_events.proofs.page.table_events.CellLemmas.{StandWithin}
+use Rattle.markdown_events.proofs.page.table_events.CellLemmas.{AreCutFrom, StandWithin}
 use Rattle.markdown_events.proofs.page.table_events.cells_events.Given as goal
 
 abbrev pub invariant-loop-left : goal.invariant-loop-left
@@ -15,6 +15,7 @@ invariant-loop-left g l =
       given : (later : List RangedEvent) → AreCellEvents setting l.before l.text (shown_cells l.left l.end l.cells) later
           → AreCellEvents setting l.before l.text (shown_cells l.columns (row_len l.text) (cells_of l.text)) (map seen_event l.events.items ++ later);
       stand : StandWithin (length l.text) (shown_cells l.left l.end l.cells);
+      cut : AreCutFrom l.text (shown_cells l.left l.end l.cells);
       lie : LieIn l.before (l.before + length l.text) (map seen_event l.events.items);
     }
 

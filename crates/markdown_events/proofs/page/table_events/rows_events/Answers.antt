@@ -3,20 +3,22 @@ use Rattle.markdown_blocks.specs.rows.Rows.{seen_row}
 use Rattle.markdown_events.specs.EventLaws.{LieIn}
 use Rattle.markdown_events.specs.InlineEvents.{EventSetting, RangedEvent, seen_event}
 use Rattle.markdown_events.proofs.page.leaf_events.RangeLaws.{lie_before}
-use Rattle.markdown_events.proofs.page.table_events.RowLemmas.{all_rows, lie_wider, row_first, rows_more}
+use Rattle.markdown_events.proofs.page.table_events.RowLemmas.{all_rows, lie_wider, row_first, row_text, rows_more}
 use Rattle.markdown_events.proofs.page.table_events.rows_events.Goals as goal
 
 pub overflow_add-from : goal.overflow_add-from
 overflow_add-from g c =
     let first = row_first c.args.before c.args.columns (seen_row c.in-Some.row) c.loop-row.rows c.next.new.self c.in-Some.ensures.steps
-    (2 ^ 64 - 1) (c.loop-row.invariant.end_within (2 ^ 64 - 1) c.requires).0 in
+    (2 ^ 64 - 1) (c.loop-row.invariant.end_within (2 ^ 64 - 1) c.requires.within).0 in
     omega (arith, first.0)
 
 pub row_events-requires : goal.row_events-requires
 row_events-requires g c κs =
     let first = row_first c.args.before c.args.columns (seen_row c.in-Some.row) c.loop-row.rows c.next.new.self c.in-Some.ensures.steps
-    (2 ^ 64 - 1) (c.loop-row.invariant.end_within (2 ^ 64 - 1) c.requires).0 in
-    ((refl, tt), omega (arith, first.0))
+    (2 ^ 64 - 1) (c.loop-row.invariant.end_within (2 ^ 64 - 1) c.requires.within).0 in
+    let utf8 = row_text c.args.before c.args.columns (seen_row c.in-Some.row) c.loop-row.rows c.next.new.self c.in-Some.ensures.steps
+    c.loop-row.invariant.are_utf8 in
+    ((refl, tt), (omega (arith, first.0), utf8.0))
 
 pub loop-row-preserved : goal.loop-row-preserved
 loop-row-preserved g c =
@@ -37,6 +39,7 @@ loop-row-preserved g c =
                 (lie_wider before (before + row.place) (before + row.place + length row.text) to here (omega arith) first.0
                 c.in_ok-row_events.ensures.within)),
           );
+      are_utf8 = (row_text before c.args.columns row c.loop-row.rows c.next.new.self c.in-Some.ensures.steps c.loop-row.invariant.are_utf8).1;
     }
 
 pub returns-clause-events : goal.returns-clause-events

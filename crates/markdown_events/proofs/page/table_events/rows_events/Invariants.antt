@@ -2,7 +2,7 @@
 use Rattle.std.proofs.Common.{ℕ, List, true, ◌++◌, length, map}
 use Rattle.markdown_events.specs.EventLaws.{LieIn}
 use Rattle.markdown_events.specs.InlineEvents.{EventSetting, RangedEvent, seen_event}
-use Rattle.markdown_events.specs.page.TableEvents.{AreRowEvents, RowsEndBy}
+use Rattle.markdown_events.specs.page.TableEvents.{AreRowEvents, AreUtf8, RowsEndBy}
 use Rattle.markdown_events.proofs.page.table_events.rows_events.Given as goal
 
 abbrev pub invariant-loop-row : goal.invariant-loop-row
@@ -13,6 +13,7 @@ invariant-loop-row g l =
           → AreRowEvents setting l.columns l.before true l.fn.rows (map seen_event l.events.items ++ later);
       end_within : (to : ℕ) → RowsEndBy l.before to l.fn.rows
           → RowsEndBy l.before to l.rows × LieIn l.before to (map seen_event l.events.items);
+      are_utf8 : AreUtf8 l.rows;
     }
 
 abbrev pub decreases-loop-row : goal.decreases-loop-row
