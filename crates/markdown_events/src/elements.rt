@@ -1,12 +1,14 @@
 //! The elements of a text, which hold other inlines: where each ends that begins in it.
-ghost use Rattle.std.specs.Prelude.{◌≡◌, ◌^◌, List, reverse, slice_index, OnOk};
+ghost use Rattle.std.specs.Prelude.{◌≡◌, ◌^◌, [], List, reverse, slice_index, IfOk, OnOk};
 ghost use Rattle.std.specs.List.{All};
 ghost use Rattle.markdown_events.specs.InlineEvents.{ends_before};
 ghost use Rattle.markdown_events.specs.Passes.{EndsBelow, with_end, element_ends};
 
 use markdown_inlines::inlines::{Inline, InlineFinder};
-use markdown_values::values::TagEnd;
+use markdown_values::values::{Event, TagEnd};
 use std::alloc::{AllocError, Global};
+use std::mem;
+use std::ops::Range;
 
 /// An element that has begun and not ended.
 #[derive(Clone, Copy)]
@@ -19,10 +21,10 @@ pub(crate) struct Element {
     pub(crate) to: usize,
 }
 
-/// The memory in which the inlines of one text after another are found and written. Nothing depends
-/// on what is in it.
+/// The memory in which the inlines of one text after another are found and their events written.
+/// Nothing depends on what is in it.
 #[derive(Drop)]
-pub(crate) struct InlineMemory {
+pub(crate) struct InlineMemory<'a> {
     pub(crate) finder: InlineFinder,
     // Where the elements end that are open before an inline, the innermost at the end.
     pub(crate) inner: Vec<usize>,
@@ -30,18 +32,34 @@ pub(crate) struct InlineMemory {
     pub(crate) ends: Vec<usize>,
     // Those that have begun and not ended, the innermost at the end.
     pub(crate) elements: Vec<Element>,
+    pub(crate) events: Vec<(Event<'a>, Range<usize>)>,
 }
 
-impl InlineMemory {
+impl<'a> InlineMemory<'a> {
     /// No memory is asked for.
-    pub(crate) fn new(alloc: Global) -> InlineMemory {
+    pub(crate) fn new(alloc: Global) -> InlineMemory<'a> {
         InlineMemory {
             finder: InlineFinder::new(alloc),
             inner: Vec::new(alloc),
             ends: Vec::new(alloc),
             elements: Vec::new(alloc),
+            events: Vec::new(alloc),
         }
     }
+}
+
+/// Takes the memory of events, with room for so many.
+pub(crate) fn take_room<'a>(
+    alloc: Global,
+    memory: &mut Vec<(Event<'a>, Range<usize>)>,
+    room: usize,
+) -> Result<Vec<(Event<'a>, Range<usize>)>, AllocError>
+    ensures { IfOk result (λ events. events.items ≡ []) }
+{
+    let mut events = mem::replace(memory, Vec::new(alloc));
+    events.clear();
+    events.reserve(room)?;
+    Ok(events)
 }
 
 /// Puts in where the elements end that these inlines begin, the first at the end. Nothing depends on

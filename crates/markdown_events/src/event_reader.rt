@@ -15,8 +15,9 @@ use crate::definitions::{Definitions, NoBrokenLinks, PageDefinitions};
 use crate::elements::InlineMemory;
 use crate::page::blocks_of::{drop_next, read_page};
 use crate::page::definitions::WithBrokenLinks;
-use crate::page::leaf_events::leaf_events;
-use crate::page::open_elements::{Edge, OpenElements, event_of};
+use crate::page::leaf_events::{has_no_events, leaf_events};
+use crate::page::open_elements::OpenElements;
+use crate::page::ready::ReadyEvents;
 use crate::page::spans::spans_of;
 use crate::page::task_events::task_events;
 pub use crate::settings::NewError;
@@ -29,7 +30,6 @@ use markdown_values::values::{Event, Options};
 use std::alloc::{AllocError, Global};
 use std::marker::Model;
 use std::ops::Range;
-use std::vec::IntoIter;
 
 /// What a page is read with: whether tables and task list markers are read, and the extensions of
 /// inlines.
@@ -80,23 +80,16 @@ pub struct EventReader<'a> {
     // The block events of the page that are not read, the next at the end.
     blocks: Vec<BlockEvent<'a>>,
     elements: OpenElements,
-    // The events that are ready: at most two of containers and lists, and those of a leaf block.
-    first: Option<Edge>,
-    second: Option<Edge>,
-    leaf: IntoIter<(Event<'a>, Range<usize>)>,
-    // The memory in which the inlines of one leaf block after another are read.
-    memory: InlineMemory,
+    ready: ReadyEvents<'a>,
+    // The memory in which one leaf block after another is read.
+    memory: InlineMemory<'a>,
 }
 
 impl<'a> Model for EventReader<'a> {
-    ghost use Rattle.std.specs.Prelude.{◌++◌, map, reverse};
-    ghost use Rattle.std.specs.Option.{option_to_list};
-    ghost use Rattle.std.specs.Vec.Iter.{into_iter_items};
+    ghost use Rattle.std.specs.Prelude.{map, reverse};
     ghost use Rattle.markdown_blocks.specs.events.Events.{seen_event as seen_block};
-    ghost use Rattle.markdown_events.specs.InlineEvents.{seen_event};
     ghost use Rattle.markdown_events.specs.page.Given.{PageLeft};
     ghost use Rattle.markdown_events.specs.page.InPage.{AreInPage};
-    ghost use Rattle.markdown_events.specs.page.OpenElements.{edge_event};
 
     ghost Value = { PageLeft };
 
@@ -105,8 +98,7 @@ impl<'a> Model for EventReader<'a> {
       tasks = p.tasks;
       extensions = p.extensions;
       known = p.definitions;
-      ready = map edge_event (option_to_list p.first ++ option_to_list p.second)
-          ++ map seen_event (into_iter_items p.leaf);
+      ready = p.ready;
       elements = p.elements;
       blocks = map seen_block (reverse p.blocks.items);
     } };
@@ -214,9 +206,7 @@ impl<'a> EventReader<'a> {
             definitions,
             blocks,
             elements: OpenElements::new(alloc, spans),
-            first: None,
-            second: None,
-            leaf: Vec::new(alloc).into_iter(),
+            ready: ReadyEvents::new(alloc),
             memory: InlineMemory::new(alloc),
         })
     }
@@ -287,7 +277,6 @@ impl<'a> EventReader<'a> {
     /// # Errors
     ///
     /// `AllocError` where memory is refused, which is asked for as by `next_with`.
-    #[inline(always)]
     pub(crate) fn read_until_ready<B: Definitions<'a>>(
         &mut self,
         broken: &B,
@@ -311,10 +300,7 @@ impl<'a> EventReader<'a> {
             → (self.now.ready ≡ []) × (0 < length self.now.blocks) }
         ensures done { result ≡ false → self.now.ready ≡ [] → self.now.blocks ≡ [] }
     {
-        self.first.is_none()
-            && self.second.is_none()
-            && self.leaf.len() == 0
-            && !self.blocks.is_empty()
+        self.ready.is_empty() && !self.blocks.is_empty()
     }
 
     // Reads the next block event, so that its events are ready.
@@ -365,13 +351,13 @@ impl<'a> EventReader<'a> {
         ensures refused { IfErr result (λ _. self.new ≡ self.old) }
     {
         let (list, start) = self.elements.begin(container, place)?;
-        self.first = list;
-        self.second = Some(start);
+        self.ready.put_edges(list, Some(start));
         drop_next(&mut self.blocks);
         Ok(())
     }
 
     // Reads a leaf block, which is the next block event.
+    #[inline(always)]
     fn read_leaf<B: Definitions<'a>>(
         &mut self,
         block: Leaf<'a>,
@@ -387,6 +373,10 @@ impl<'a> EventReader<'a> {
         ensures few { OnOk result (length self.new.ready < 2 ^ 64) }
         ensures refused { IfErr result (λ _. self.new ≡ self.old) }
     {
+        if has_no_events(block.kind) {
+            self.pass(block);
+            return Ok(());
+        }
         let events = self.leaf_events(block, broken)?;
         self.make_ready(block, events);
         Ok(())
@@ -449,6 +439,16 @@ impl<'a> EventReader<'a> {
         first.task()
     }
 
+    // Passes a leaf block without events, which comes next.
+    fn pass(&mut self, block: Leaf)
+        requires next { self.old.blocks ≡ leaf (seen_leaf block) ∷ drop 1 self.old.blocks }
+        ensures { self.new ≡ left_with self.old self.old.ready
+            (passed (seen_leaf block.entry) self.old.elements) (drop 1 self.old.blocks) }
+    {
+        self.elements.pass(block);
+        drop_next(&mut self.blocks);
+    }
+
     // Makes the events of the leaf block that comes next ready, and passes it.
     fn make_ready(&mut self, block: Leaf, events: Vec<(Event<'a>, Range<usize>)>)
         requires waiting { self.old.ready ≡ [] }
@@ -457,9 +457,8 @@ impl<'a> EventReader<'a> {
             (passed (seen_leaf block.entry) self.old.elements) (drop 1 self.old.blocks) }
         ensures few { length self.new.ready < 2 ^ 64 }
     {
-        self.leaf = events.into_iter();
-        self.elements.pass(block);
-        drop_next(&mut self.blocks);
+        self.memory.events = self.ready.put_events(events);
+        self.pass(block);
     }
 
     // Reads the end of a container, which is the next block event.
@@ -470,26 +469,27 @@ impl<'a> EventReader<'a> {
             (ended self.old.elements) (drop 1 self.old.blocks) }
     {
         let (end, list) = self.elements.end();
-        self.first = end;
-        self.second = list;
+        self.ready.put_edges(end, list);
         drop_next(&mut self.blocks);
     }
 
-    /// The first of the events that are ready.
+    /// The first of the events that are ready, if it is one of a leaf block.
     #[inline(always)]
+    pub(crate) fn take_leaf_event(&mut self) -> Option<(Event<'a>, Range<usize>)>
+        ensures event { IfSome result (λ event.
+            self.old ≡ record self.new { ready = seen_event event ∷ self.new.ready }) }
+        ensures unchanged { IfNone result (self.new ≡ self.old) }
+    {
+        self.ready.take_leaf_event()
+    }
+
+    /// The first of the events that are ready.
     pub(crate) fn take_ready(&mut self) -> Option<(Event<'a>, Range<usize>)>
         ensures event { IfSome result (λ event.
             self.old ≡ record self.new { ready = seen_event event ∷ self.new.ready }) }
         ensures none { IfNone result (self.old.ready ≡ []) }
         ensures unchanged { IfNone result (self.new ≡ self.old) }
     {
-        // Most events are those of a leaf block.
-        if self.first.is_some() {
-            return self.first.take().map(|edge| event_of(edge));
-        }
-        if self.second.is_some() {
-            return self.second.take().map(|edge| event_of(edge));
-        }
-        self.leaf.next()
+        self.ready.take()
     }
 }

@@ -17,7 +17,7 @@ ghost use Rattle.markdown_events.specs.Meanings.{IsLinkTag};
 ghost use Rattle.markdown_events.specs.Passes.{IsFound, IsWritten, Leads, begun, element_ends, with_events};
 
 use crate::definitions::{Defined, Definitions};
-use crate::elements::{InlineMemory, element_ends};
+use crate::elements::{InlineMemory, element_ends, take_room};
 use crate::link_tags::{has_pipe, tag_of};
 use crate::page::source::Source;
 use crate::parts::part;
@@ -70,7 +70,7 @@ pub fn inline_events<'a, D: Definitions<'a>>(
     ensures boundaries { IfOk result (λ events.
         AreAtBoundaries text.now (map seen_event events.items)) }
 {
-    let mut memory = InlineMemory::new(alloc);
+    let mut memory: InlineMemory<'a> = InlineMemory::new(alloc);
     let source = Source::of_text(text);
     source_events(alloc, &mut memory, &source, definitions, extensions)
 }
@@ -79,7 +79,7 @@ pub fn inline_events<'a, D: Definitions<'a>>(
 /// written in this memory, whatever is in it.
 pub(crate) fn source_events<'a, D: Definitions<'a>>(
     alloc: Global,
-    memory: &mut InlineMemory,
+    memory: &mut InlineMemory<'a>,
     source: &Source<'a, '_>,
     definitions: &D,
     extensions: InlineExtensions,
@@ -98,10 +98,12 @@ pub(crate) fn source_events<'a, D: Definitions<'a>>(
         .finder
         .find(alloc, source.text(), &defined, extensions)?;
     element_ends(&mut memory.inner, &mut memory.ends, memory.finder.inlines())?;
+    // Most inlines have one event, and a block has two more.
+    let room = memory.finder.inlines().len().saturating_add(2);
+    let events = take_room(alloc, &mut memory.events, room)?;
     let ends = mem::replace(&mut memory.ends, Vec::new(alloc));
     let elements = mem::replace(&mut memory.elements, Vec::new(alloc));
-    let count = memory.finder.inlines().len();
-    let mut writer: Writer<'a> = Writer::within(alloc, elements, ends, count)?;
+    let mut writer = Writer::within(events, elements, ends);
     push_inlines(
         alloc,
         source,

@@ -6,6 +6,7 @@ pub(crate) mod leaf_content;
 pub(crate) mod leaf_events;
 pub(crate) mod levels;
 pub(crate) mod open_elements;
+pub(crate) mod ready;
 pub(crate) mod source;
 #[cfg(test)]
 mod span_tests;

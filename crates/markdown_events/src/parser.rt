@@ -5,7 +5,7 @@ ghost use Rattle.markdown_events.specs.EventLaws.{AreAtBoundaries, AreBalanced, 
 ghost use Rattle.markdown_events.specs.Nesting.{AreNested, without_ranges};
 ghost use Rattle.markdown_events.specs.Targets.{Targets};
 ghost use Rattle.markdown_events.specs.page.Given.{AlwaysGivesOnly, GivesOnly, GivesOnlyWith};
-ghost use Rattle.markdown_events.specs.page.Iterated.{GivesNext, GivesNextEvent, GivesNextEventWith, GivesNextWith, Iterated, items_left};
+ghost use Rattle.markdown_events.specs.page.Iterated.{GivesNext, GivesNextEvent, GivesNextEventWith, GivesNextWith, Iterated, items_left, without_range};
 ghost use Rattle.markdown_events.specs.page.PageEvents.{AreDefinitionsOf, ArePageEvents, ArePageEventsWith, commonmark};
 ghost use Rattle.markdown_events.specs.page.Settings.{Explains, asked_by, not_built};
 
@@ -142,10 +142,13 @@ impl<'a> Parser<'a> {
         ensures next { GivesNextEventWith (B.targets broken.now) self.old result self.new }
         ensures fewer { IfSome result (λ _. items_left self.new < items_left self.old) }
     {
-        match self.events.next_with(broken) {
-            Some(Ok((event, _))) => Some(Ok(event)),
-            Some(Err(refused)) => Some(Err(refused)),
-            None => None,
+        if self.events.is_stopped {
+            return None;
+        }
+        // Most events are those of a leaf block.
+        match self.events.reader.take_leaf_event() {
+            Some((event, _)) => Some(Ok(event)),
+            None => without_range(self.events.read_next(broken)),
         }
     }
 }
@@ -184,17 +187,49 @@ impl<'a> OffsetIter<'a> {
         if self.is_stopped {
             return None;
         }
+        // Most events are those of a leaf block.
+        match self.reader.take_leaf_event() {
+            Some(event) => Some(Ok(event)),
+            None => self.read_next(broken),
+        }
+    }
+
+    // The next event with its range, where none of a leaf block is ready.
+    //
+    // It is not inlined, so that an event that is ready costs no more than to be moved.
+    #[inline(never)]
+    fn read_next<B: Definitions<'a>>(
+        &mut self,
+        broken: &B,
+    ) -> Option<Result<(Event<'a>, Range<usize>), AllocError>>
+        requires goes { self.old.is_stopped ≡ false }
+        ensures next { GivesNextWith (B.targets broken.now) self.old result self.new }
+        ensures fewer { IfSome result (λ _. items_left self.new < items_left self.old) }
+    {
         if let Err(refused) = self.reader.read_until_ready(broken) {
             self.is_stopped = true;
             return Some(Err(refused));
         }
         match self.reader.take_ready() {
-            Some(event) => Some(Ok(event)),
+            Some(ready) => Some(Ok(ready)),
             None => {
                 self.is_stopped = true;
                 None
             }
         }
+    }
+}
+
+// An item without its range.
+fn without_range<'a>(
+    item: Option<Result<(Event<'a>, Range<usize>), AllocError>>,
+) -> Option<Result<Event<'a>, AllocError>>
+    ensures { result ≡ without_range item.entry }
+{
+    match item {
+        Some(Ok((event, _))) => Some(Ok(event)),
+        Some(Err(refused)) => Some(Err(refused)),
+        None => None,
     }
 }
 

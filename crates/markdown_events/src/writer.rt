@@ -1,5 +1,5 @@
 //! The events of a text that are written one after another.
-ghost use Rattle.std.specs.Prelude.{◌≡◌, [], reverse, map, IfOk, OnOk};
+ghost use Rattle.std.specs.Prelude.{◌≡◌, [], reverse, map, OnOk};
 ghost use Rattle.markdown_values.specs.strings.Text.{cow_text};
 ghost use Rattle.markdown_values.specs.values.Events.{event_view};
 ghost use Rattle.markdown_values.specs.values.Tags.{tag_view};
@@ -8,7 +8,7 @@ ghost use Rattle.markdown_events.specs.Passes.{with_event, begun, ended};
 
 use crate::elements::Element;
 use markdown_values::values::{Event, Tag};
-use std::alloc::{AllocError, Global};
+use std::alloc::AllocError;
 use std::marker::Model;
 use std::ops::Range;
 
@@ -36,26 +36,24 @@ impl<'a> Model for Writer<'a> {
 }
 
 impl<'a> Writer<'a> {
-    /// None is written. The elements end at these places, the first at the end, and are put into the
-    /// memory of others. There is room for the events of so many inlines, and for the start and the
-    /// end of their block.
+    /// None is written. Events are put into this memory, and elements into that of others; they end at
+    /// these places, the first at the end.
     #[inline(always)]
     pub(crate) fn within(
-        alloc: Global,
+        events: Vec<(Event<'a>, Range<usize>)>,
         elements: Vec<Element>,
         ends: Vec<usize>,
-        inlines: usize,
-    ) -> Result<Writer<'a>, AllocError>
-        ensures { IfOk result (λ writer. writer
-            ≡ record { events = []; elements = []; ends = reverse ends.items }) }
+    ) -> Writer<'a>
+        requires { events.items ≡ [] }
+        ensures { result ≡ record { events = []; elements = []; ends = reverse ends.items } }
     {
         let mut elements = elements;
         elements.clear();
-        Ok(Writer {
-            events: Vec::with_capacity(alloc, inlines.saturating_add(2))?,
+        Writer {
+            events,
             elements,
             ends,
-        })
+        }
     }
 
     /// The events that are written, and the memory of the elements and of their ends.

@@ -30,6 +30,12 @@ GivesNext old (Some (Ok event)) new =
     GoesOn old new × ((events : List RangedEvent) → Gives new.left events → Gives old.left (seen_event event ∷ events))
 GivesNext old (Some (Err refused)) new = Stops old new
 
+-- an item without its range
+abbrev pub without_range : Option (Result (Event × Range ℕ) AllocError) → Option (Result Event AllocError)
+without_range None = None
+without_range (Some (Ok event)) = Some (Ok event.0)
+without_range (Some (Err refused)) = Some (Err refused)
+
 -- the same without the range
 abbrev pub GivesNextEvent : Iterated → Option (Result Event AllocError) → Iterated → Type 0
 GivesNextEvent old None new = GivesNext old None new

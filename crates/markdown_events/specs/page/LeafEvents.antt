@@ -1,5 +1,5 @@
 -- The events of a leaf block. (CommonMark 0.31.2, chapter 4)
-use Rattle.std.specs.Prelude.{ℕ, Bool, true, false, ◌+◌, ◌≡◌, List, [], ◌∷◌, length, map, min, Some, None}
+use Rattle.std.specs.Prelude.{ℕ, Bool, true, false, ◌+◌, ◌≡◌, ◌⊎◌, List, [], ◌∷◌, length, map, min, Some, None}
 use Rattle.markdown_values.specs.values.Events.{EventView, text, html, rule}
 use Rattle.markdown_values.specs.declared.values.HeadingLevel.{HeadingLevel}
 use Rattle.markdown_values.specs.values.Tags.{TagView, paragraph, heading, code_block, html_block}
@@ -81,6 +81,10 @@ AreLeafEventsOf (Fenced count byte) page setting here block events =
 AreLeafEventsOf (Html kind) page setting here block events =
     (inner : List RangedEvent) × AreLineEvents page here block html inner × (events ≡ enclosed_lines html_block block inner)
 AreLeafEventsOf (Table columns) page setting here block events = AreTableEvents page setting here block columns events
+
+-- whether it is one of these two
+abbrev pub HasNoEvents : BlockKind → Type 0
+HasNoEvents kind = (kind ≡ Blank) ⊎ (kind ≡ Definition)
 
 abbrev pub AreLeafEvents : List ℕ → EventSetting → Place → LeafBlock → List RangedEvent → Type 0
 AreLeafEvents page setting here block events = AreLeafEventsOf block.kind page setting here block events

@@ -1,5 +1,5 @@
 //! The content of a leaf block of a page, and what it holds: lines, or inlines.
-ghost use Rattle.std.specs.Prelude.{◌≡◌, ◌≤◌, Bool, List, ℕ, length, take, drop, map, slice_index, IfOk, IfSome};
+ghost use Rattle.std.specs.Prelude.{◌≡◌, ◌≤◌, [], Bool, List, ℕ, length, take, drop, map, slice_index, IfOk, IfSome};
 ghost use Rattle.markdown_values.specs.strings.Text.{cow_text};
 ghost use Rattle.markdown_values.specs.values.Events.{event_view};
 ghost use Rattle.markdown_scanners_tree.specs.scanners.TextLines.{lines_of};
@@ -11,7 +11,7 @@ ghost use Rattle.markdown_events.specs.page.LeafEvents.{AreLineEvents, AreTextEv
 ghost use Rattle.markdown_events.specs.page.LeafContent.{CanPlace, EndWithin, LieInBlock, line_event};
 
 use crate::definitions::Definitions;
-use crate::elements::InlineMemory;
+use crate::elements::{InlineMemory, take_room};
 use crate::inline_events::source_events;
 use crate::page::source::Source;
 use markdown_blocks::containers::Container;
@@ -28,7 +28,7 @@ use std::ops::Range;
 /// with `kept` of the containers.
 pub(crate) fn text_events<'a, D: Definitions<'a>>(
     alloc: Global,
-    memory: &mut InlineMemory,
+    memory: &mut InlineMemory<'a>,
     page: &'a str,
     extensions: InlineExtensions,
     definitions: &D,
@@ -54,6 +54,7 @@ pub(crate) fn text_events<'a, D: Definitions<'a>>(
 /// goes on with `kept` of the containers.
 pub(crate) fn code_events<'a>(
     alloc: Global,
+    memory: &mut InlineMemory<'a>,
     page: &'a str,
     containers: &[Container],
     kept: usize,
@@ -69,7 +70,10 @@ pub(crate) fn code_events<'a>(
 {
     let content = content_in(alloc, page, containers, kept, leaf)?;
     let source = Source::of_content(page, leaf.start, &content, 0);
-    let events = line_events(alloc, &source, is_html, leaf.lines)?;
+    // The lines have an event each, and the block has two more.
+    let room = leaf.lines.saturating_add(2);
+    let memory = take_room(alloc, &mut memory.events, room)?;
+    let events = line_events(alloc, memory, &source, is_html)?;
     Ok(in_page(events, leaf.start, &content))
 }
 
@@ -100,21 +104,21 @@ pub(crate) fn lines_in<'a>(page: &'a [u8], leaf: Leaf) -> &'a [u8]
     &page[start..end]
 }
 
-// An event for each line of a source, which is of a block of so many lines. There is room for them,
-// and for the start and the end of the block.
+// An event for each line of a source, in this memory.
 fn line_events<'a>(
     alloc: Global,
+    memory: Vec<(Event<'a>, Range<usize>)>,
     source: &Source<'a, '_>,
     is_html: bool,
-    lines: usize,
 ) -> Result<Vec<(Event<'a>, Range<usize>)>, AllocError>
+    requires { memory.items ≡ [] }
     ensures lines { IfOk result (λ events. map seen_event events.items
         ≡ line_events (line_event is_html) 0 (lines_of source.now)) }
     ensures within { IfOk result (λ events.
         EndWithin (length source.now) (map seen_event events.items)) }
 {
     let text = source.text().as_bytes();
-    let mut events = Vec::with_capacity(alloc, lines.saturating_add(2))?;
+    let mut events = memory;
     let mut from = 0;
     while from < text.len() {
         let to = from + scan_line(&text[from..]);

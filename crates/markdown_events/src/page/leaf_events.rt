@@ -1,5 +1,5 @@
 //! The events of a leaf block. (CommonMark 0.31.2, chapter 4)
-ghost use Rattle.std.specs.Prelude.{◌≡◌, ◌<◌, [], ◌∷◌, map, IfOk};
+ghost use Rattle.std.specs.Prelude.{◌≡◌, ◌<◌, [], ◌∷◌, map, IfOk, IsTrue};
 ghost use Rattle.std.specs.Str.{IsUtf8};
 ghost use Rattle.markdown_values.specs.strings.Text.{cow_text};
 ghost use Rattle.markdown_values.specs.values.Events.{rule};
@@ -11,7 +11,7 @@ ghost use Rattle.markdown_events.specs.InlineEvents.{ranged, seen_event};
 ghost use Rattle.markdown_events.specs.Meanings.{IsMeaning};
 ghost use Rattle.markdown_events.specs.page.InPage.{HasAsciiFence};
 ghost use Rattle.markdown_events.specs.page.LeafContent.{HasPlace, LieInBlock};
-ghost use Rattle.markdown_events.specs.page.LeafEvents.{AreLeafEvents, enclosed, enclosed_lines, in_paragraph, lines_place, plain_heading};
+ghost use Rattle.markdown_events.specs.page.LeafEvents.{AreLeafEvents, HasNoEvents, enclosed, enclosed_lines, in_paragraph, lines_place, plain_heading};
 ghost use Rattle.markdown_events.specs.page.Spans.{block_end};
 
 use crate::definitions::Definitions;
@@ -35,7 +35,7 @@ use std::ops::Range;
 /// not.
 pub(crate) fn leaf_events<'a, D: Definitions<'a>>(
     alloc: Global,
-    memory: &mut InlineMemory,
+    memory: &mut InlineMemory<'a>,
     page: &'a str,
     extensions: InlineExtensions,
     definitions: &D,
@@ -85,16 +85,16 @@ pub(crate) fn leaf_events<'a, D: Definitions<'a>>(
             in_paragraph(is_tight, leaf, inner)
         }
         BlockKind::Indented => {
-            let inner = code_events(alloc, page, containers, kept, leaf, false)?;
+            let inner = code_events(alloc, memory, page, containers, kept, leaf, false)?;
             enclosed_lines(Tag::CodeBlock(CodeBlockKind::Indented), leaf, inner)
         }
         BlockKind::Fenced(_, byte) => {
-            let inner = code_events(alloc, page, containers, kept, leaf, false)?;
+            let inner = code_events(alloc, memory, page, containers, kept, leaf, false)?;
             let info = info_meaning(alloc, leaf.text, byte)?;
             enclosed_lines(Tag::CodeBlock(CodeBlockKind::Fenced(info)), leaf, inner)
         }
         BlockKind::Html(_) => {
-            let inner = code_events(alloc, page, containers, kept, leaf, true)?;
+            let inner = code_events(alloc, memory, page, containers, kept, leaf, true)?;
             enclosed_lines(Tag::HtmlBlock, leaf, inner)
         }
         BlockKind::Table(columns) => table_events(
@@ -109,6 +109,13 @@ pub(crate) fn leaf_events<'a, D: Definitions<'a>>(
             columns,
         ),
     }
+}
+
+/// Whether a leaf block of this kind has no events: a blank line, and a link reference definition.
+pub(crate) fn has_no_events(kind: BlockKind) -> bool
+    ensures { IsTrue result → HasNoEvents kind }
+{
+    matches!(kind, BlockKind::Blank | BlockKind::Definition)
 }
 
 // A thematic break. (4.1)

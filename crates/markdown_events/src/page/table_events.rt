@@ -37,7 +37,7 @@ use std::ops::Range;
 /// columns, however few its line has.
 pub(crate) fn table_events<'a, D: Definitions<'a>>(
     alloc: Global,
-    memory: &mut InlineMemory,
+    memory: &mut InlineMemory<'a>,
     page: &'a str,
     extensions: InlineExtensions,
     definitions: &D,
@@ -79,7 +79,7 @@ pub(crate) fn table_events<'a, D: Definitions<'a>>(
 // page stand.
 fn rows_events<'a, D: Definitions<'a>>(
     alloc: Global,
-    memory: &mut InlineMemory,
+    memory: &mut InlineMemory<'a>,
     page: &'a str,
     extensions: InlineExtensions,
     definitions: &D,
@@ -122,7 +122,7 @@ fn rows_events<'a, D: Definitions<'a>>(
 // The events of a row with this text, before which so many bytes of the page stand.
 fn row_events<'a, D: Definitions<'a>>(
     alloc: Global,
-    memory: &mut InlineMemory,
+    memory: &mut InlineMemory<'a>,
     page: &'a str,
     extensions: InlineExtensions,
     definitions: &D,
@@ -181,7 +181,7 @@ fn row_len(text: &[u8]) -> usize
 // The events of the cells of a row with this text, before which so many bytes of the page stand.
 fn cells_events<'a, D: Definitions<'a>>(
     alloc: Global,
-    memory: &mut InlineMemory,
+    memory: &mut InlineMemory<'a>,
     page: &'a str,
     extensions: InlineExtensions,
     definitions: &D,
@@ -236,7 +236,7 @@ fn next_cell(cells: &mut Cells, end: usize) -> Cell
 // The events of a cell of the row with this text, before which so many bytes of the page stand.
 fn cell_events<'a, D: Definitions<'a>>(
     alloc: Global,
-    memory: &mut InlineMemory,
+    memory: &mut InlineMemory<'a>,
     page: &'a str,
     extensions: InlineExtensions,
     definitions: &D,

@@ -33,7 +33,7 @@ use std::ops::Range;
 /// of which its first line goes on with `kept`, directly in an item of a tight list or not.
 pub(crate) fn task_events<'a, D: Definitions<'a>>(
     alloc: Global,
-    memory: &mut InlineMemory,
+    memory: &mut InlineMemory<'a>,
     page: &'a str,
     extensions: InlineExtensions,
     definitions: &D,

@@ -133,7 +133,7 @@ fn push_leaf<'a>(
         return shown.lines.push_str("not UTF-8");
     }
     let source = Source::of_content(page, leaf.start, &content, 0);
-    let mut memory = InlineMemory::new(alloc);
+    let mut memory: InlineMemory<'a> = InlineMemory::new(alloc);
     let events = source_events(
         alloc,
         &mut memory,

@@ -22,9 +22,9 @@ push_inlines-requires g c = λ lifetimes.
     let found = c.in_ok-find.ensures in
     let finder = c.find.new.self in
     let known = text_found c.text.result.now c.args.extensions targets finder.inlines finder.links c.text.utf8
-    found.links found.inlines c.links.result.now c.inlines-2.result.now c.links.ensures c.inlines-2.ensures in (
+    found.links found.inlines c.links.result.now c.inlines-3.result.now c.links.ensures c.inlines-3.ensures in (
       (refl, tt),
-      (subst (λ text. All (IsFound text targets c.links.result.now) c.inlines-2.result.now) c.text.ensures known, search rules),
+      (subst (λ text. All (IsFound text targets c.links.result.now) c.inlines-3.result.now) c.text.ensures known, search rules),
     )
 
 pub returns-clause-balanced : goal.returns-clause-balanced

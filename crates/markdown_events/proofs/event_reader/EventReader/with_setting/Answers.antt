@@ -1,6 +1,5 @@
 use Rattle.std.proofs.Common.{[], ◌++◌, map, reverse, refl, sym, ap, subst, ◌∙◌}
 use Rattle.markdown_blocks.specs.events.Events.{seen_event as seen_block}
-use Rattle.markdown_events.specs.InlineEvents.{seen_event}
 use Rattle.markdown_events.specs.Targets.{nowhere}
 use Rattle.markdown_events.specs.page.OpenElements.{none_open}
 use Rattle.markdown_events.specs.page.PageEvents.{ArePageEvents, ArePageEventsWith, blocks_of}
@@ -28,7 +27,7 @@ returns-clause-page c = λ events g.
     let of_page = rw c.blocks-asked.ensures at c.in_ok-blocks.ensures.blocks in
     let first = rw c.blocks-asked.ensures at c.in_ok-blocks.ensures.first in
     let are_spans = rw c.deref.ensures.value at c.in_ok-spans.ensures in
-    let none = ap (λ items. map seen_event items) (c.into_iter.ensures.rest ∙ c.new-2.ensures.items) in
+    let none = c.new-2.ensures in
     let later = rw (c.new.ensures, c.reverse.ensures.items, reverse_twice all) at g.are_later in
     let without = given_with (record {
       page = page;
@@ -71,7 +70,7 @@ returns-clause-broken c = λ more events g.
     let all = c.in_ok-blocks.blocks.items in
     let of_page = rw c.blocks-asked.ensures at c.in_ok-blocks.ensures.blocks in
     let first = rw c.blocks-asked.ensures at c.in_ok-blocks.ensures.first in
-    let none = ap (λ items. map seen_event items) (c.into_iter.ensures.rest ∙ c.new-2.ensures.items) in
+    let none = c.new-2.ensures in
     let later = rw (c.new.ensures, c.reverse.ensures.items, reverse_twice all) at g.are_later in
     subst (λ es. ArePageEventsWith page setting more es) (sym (g.given ∙ ap (λ es. es ++ g.rest) none))
     (page_events_with page setting more (map seen_block all) c.in_ok-blocks.definitions (reverse c.in_ok-spans.spans.items) g.rest of_page

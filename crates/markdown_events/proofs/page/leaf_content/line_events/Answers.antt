@@ -7,7 +7,7 @@ use Rattle.markdown_events.proofs.page.leaf_content.line_events.Goals as goal
 
 pub loop-from-init : goal.loop-from-init
 loop-from-init c =
-    rw c.in_ok-events.ensures.items (none_given c.args.is_html c.args.source.now (subst IsUtf8 c.text.ensures c.text.utf8))
+    rw c.requires (none_given c.args.is_html c.args.source.now (subst IsUtf8 c.text.ensures c.text.utf8))
 
 pub part-requires-clause-ends : goal.part-requires-clause-ends
 part-requires-clause-ends c =
