@@ -16,15 +16,15 @@ pub struct Position {
 
 /// A line of a page: its number, from 1, and the offsets at which it begins and ends.
 #[derive(Clone, Copy)]
-pub(crate) struct Line {
-    pub(crate) number: usize,
-    pub(crate) start: usize,
-    pub(crate) end: usize,
+pub struct Line {
+    pub number: usize,
+    pub start: usize,
+    pub end: usize,
 }
 
 impl Line {
     /// The first line of a page.
-    pub(crate) fn first(page: &[u8]) -> Line
+    pub fn first(page: &[u8]) -> Line
         ensures line { IsLineOf page.now result }
         ensures start { result.start ≡ 0 }
     {
@@ -78,7 +78,7 @@ impl Line {
 
 /// Where an offset is, if this is a line of the page, which becomes the one that the offset is in: of
 /// offsets that rise each line is found once.
-pub(crate) fn position_at(page: &[u8], line: &mut Line, offset: usize) -> Position
+pub fn position_at(page: &[u8], line: &mut Line, offset: usize) -> Position
     requires line { IsLineOf page.now line.old }
     ensures line { IsLineOf page.now line.new }
     ensures position { result ≡ position_of page.now offset }

@@ -28,7 +28,7 @@ impl From<AllocError> for Stop {
 }
 
 /// Tells of a stop at the page of this name.
-pub(crate) fn report_stop<V: StepWriter>(program: &str, faults: &mut V, name: &str, stop: Stop)
+pub fn report_stop<V: StepWriter>(program: &str, faults: &mut V, name: &str, stop: Stop)
     ensures { AreGiven V.writes faults.old (stop_parts program.now name.now stop) faults.new }
 {
     match stop {

@@ -17,7 +17,7 @@ pub enum Request {
 
 /// The first option before the word `--` that is neither one of these nor one that each program
 /// has.
-pub(crate) fn unknown_option<'a>(options: &[&str], words: &[&'a str]) -> Option<&'a str>
+pub fn unknown_option<'a>(options: &[&str], words: &[&'a str]) -> Option<&'a str>
     ensures { result ≡ unknown_of (texts options.now) words.now }
 {
     for word in words {
@@ -32,7 +32,7 @@ pub(crate) fn unknown_option<'a>(options: &[&str], words: &[&'a str]) -> Option<
 }
 
 /// What the words ask for.
-pub(crate) fn parse_request(words: &[&str]) -> Request
+pub fn parse_request(words: &[&str]) -> Request
     ensures { result ≡ request_of words.now }
 {
     for word in words {
@@ -65,7 +65,7 @@ pub fn has_option(words: &[&str], option: &str) -> bool
 }
 
 /// The names of the pages: standard input, where no word names one.
-pub(crate) fn name_pages<'a>(alloc: Global, words: &[&'a str]) -> Result<Vec<&'a str>, AllocError>
+pub fn name_pages<'a>(alloc: Global, words: &[&'a str]) -> Result<Vec<&'a str>, AllocError>
     ensures { IfOk result (λ names. texts names.items ≡ pages_of words.now) }
 {
     let mut names = operands(alloc, words)?;

@@ -12,7 +12,7 @@ mod writing;
 pub use reasons::{Reason, reason_of};
 use std::alloc::AllocError;
 pub use steps::{StepReader, StepWriter};
-pub use writing::write_whole;
+pub use writing::{write_bytes, write_whole};
 
 /// Why the program printed nothing, or not all of it.
 #[derive(Clone, Copy, Debug, PartialEq, Eq)]

@@ -1,4 +1,4 @@
-//! Writing a text whole.
+//! Writing bytes whole.
 ghost use Rattle.std.specs.Prelude.{◌≢◌, IfErr, OnOk};
 ghost use Rattle.std.specs.Io.KnownBytes.{Appends};
 ghost use Rattle.program_faults.specs.Faults.{AppendsPrefix};
@@ -7,15 +7,25 @@ ghost use Rattle.program_faults.specs.Steps.{HasRefused};
 use crate::reasons::Reason;
 use crate::steps::StepWriter;
 
-/// Writes a text whole, or answers why it can't; then the writer has taken a part at its front. A
-/// write that a signal interrupts is made again.
+/// Writes a text whole, as `write_bytes` does its bytes.
 pub fn write_whole<W: StepWriter>(output: &mut W, text: &str) -> Result<(), Reason>
     ensures written { OnOk result (Appends (W.contents output.old) (W.contents output.new) text.now) }
     ensures front { AppendsPrefix (W.contents output.old) (W.contents output.new) text.now }
     ensures refused { IfErr result (λ reason. reason ≢ Reason.Interrupted
         → HasRefused W.writes reason output.new) }
 {
-    let mut rest = text.as_bytes();
+    write_bytes(output, text.as_bytes())
+}
+
+/// Writes bytes whole, or answers why it can't; then the writer has taken a part at their front. A
+/// write that a signal interrupts is made again.
+pub fn write_bytes<W: StepWriter>(output: &mut W, bytes: &[u8]) -> Result<(), Reason>
+    ensures written { OnOk result (Appends (W.contents output.old) (W.contents output.new) bytes.now) }
+    ensures front { AppendsPrefix (W.contents output.old) (W.contents output.new) bytes.now }
+    ensures refused { IfErr result (λ reason. reason ≢ Reason.Interrupted
+        → HasRefused W.writes reason output.new) }
+{
+    let mut rest = bytes;
     for _ in 0..u64::MAX {
         if rest.is_empty() {
             return Ok(());
