@@ -1,33 +1,14 @@
-//! Prints pages of Markdown with their tables laid out.
+//! Lays out the tables of pages of Markdown.
 #![tactic(auto)]
 
-use page_programs::files::OpensFiles;
+mod files;
+
+use files::SystemFiles;
 use page_tables::program::run_program;
-use program_faults::{Reason, StepWriter, complain, reason_of};
+use program_faults::{StepWriter, complain};
 use std::env;
-use std::fs::File;
 use std::io::{self, ErrorKind};
 use std::process::ExitCode;
-
-// The files of the system.
-#[derive(Drop)]
-struct SystemFiles<'a>(&'a HostRuntime);
-
-impl OpensFiles for SystemFiles<'_> {
-    ghost use Rattle.std.specs.Prelude.{⊤};
-
-    type File = File;
-
-    // No clause says what a file holds.
-    ghost opens = { λ _ _ _ _. ⊤ };
-
-    fn open_named(&mut self, name: &str) -> Result<File, Reason> {
-        match File::open(self.0, name) {
-            Ok(file) => Ok(file),
-            Err(error) => Err(reason_of(error.kind())),
-        }
-    }
-}
 
 const OUT_OF_MEMORY: &str = "cmark_tables: out of memory\n";
 

@@ -1,3 +1,5 @@
 mod FilledLemmas
+mod LookLemmas
 mod MarkLemmas
+mod RunLemmas
 mod SettledLemmas

@@ -1,8 +1,10 @@
 -- What a formatter makes of a page, it leaves as it is.
-use Rattle.std.proofs.Common.{ℕ, List, ◌≡◌, ◌∙◌, ap, sym, inl, inr}
+use Rattle.std.proofs.Common.{ℕ, Bool, true, false, List, ◌≡◌, ◌∙◌, ap, sym, subst, refl, inl, inr}
+use Rattle.std.proofs.lemmas.Bool.{false≢true}
 use Rattle.std.specs.Str.{IsUtf8}
-use Rattle.page_tables.specs.Formatted.{IsFormatted, IsLaidOut, IsSettled, seen_tables}
+use Rattle.page_tables.specs.Formatted.{HaveSameTables, IsFormatted, IsLaidOut, IsSettled, seen_tables}
 use Rattle.page_tables.specs.Layout.{laid_out}
+use Rattle.page_tables.specs.Looks.{IsMade}
 use Rattle.page_tables.specs.Marks.{AreMarksOf, MarkView}
 use Rattle.page_tables.proofs.MarkLemmas.{one_list_of_marks}
 
@@ -43,3 +45,38 @@ module _ (width : List ℕ → ℕ) (page text : List ℕ) (marks others : List 
     same = record { marks = marks; others = others; are_marks = h; are_others = k; are_same = same };
     again = record { marks = others; are_marks = k; is_laid_out = sym again };
   }
+
+module _ (width : List ℕ → ℕ) (page : List ℕ) (marks : List MarkView) (h : AreMarksOf page marks) where
+  -- a page has its own tables
+  pub same_page : HaveSameTables page page
+  same_page = record { marks = marks; others = marks; are_marks = h; are_others = h; are_same = refl }
+
+  -- one that is laid out is settled
+  pub stays_settled : IsUtf8 page → laid_out width page marks ≡ page → IsMade width page marks page false
+  stays_settled utf8 stays =
+      inl (subst (λ t. IsSettled width page t) (sym stays) (settled_if width page page marks marks h h utf8 refl stays), sym stays, refl)
+
+  -- what is made of a page is what a formatter makes
+  pub made_formatted : (text : List ℕ) (left : Bool) → IsMade width page marks text left → IsFormatted width page text
+  made_formatted text left made = record {
+    laid = laid_out width page marks;
+    is_laid_out = record { marks = marks; are_marks = h; is_laid_out = refl };
+    is_one = elim made [
+      | inl settled ↦ inl (settled.0, settled.1)
+      | inr unsettled ↦ inr (unsettled.0, unsettled.1)
+    ];
+  }
+
+  -- it has the same tables
+  pub made_same : (text : List ℕ) (left : Bool) → IsMade width page marks text left → HaveSameTables page text
+  made_same text left made = elim made [
+    | inl settled ↦ subst (λ t. HaveSameTables page t) (sym settled.1) settled.0.same
+    | inr unsettled ↦ subst (λ t. HaveSameTables page t) (sym unsettled.1) same_page
+  ]
+
+  -- and if it is not left stays as it is
+  pub made_again : (text other : List ℕ) → IsMade width page marks text false → IsFormatted width text other → other ≡ text
+  made_again text other made next = elim made [
+    | inl settled ↦ settled_stays width text other (subst (λ t. IsLaidOut width t t) (sym settled.1) settled.0.again) next
+    | inr unsettled ↦ absurd (false≢true unsettled.2)
+  ]

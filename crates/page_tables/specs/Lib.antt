@@ -1,7 +1,15 @@
 pub mod Cells
+pub mod Changes
 pub mod Columns
+pub mod Files
 pub mod Formatted
+pub mod Halts
 pub mod Layout
+pub mod Looks
 pub mod Marks
+pub mod Misfits
 pub mod Printed
+pub mod Reports
+pub mod Runs
 pub mod Widths
+pub mod Words

@@ -1,5 +1,6 @@
 //! The texts of the cells of a row.
-ghost use Rattle.std.specs.Prelude.{◌≡◌, ◌<◌, ◌≤◌, ◌-◌, ◌∷◌, [], length, map, slice_range, IfSome, IfNone};
+ghost use Rattle.std.specs.Prelude.{◌≡◌, ◌↔◌, ◌<◌, ◌≤◌, ◌-◌, ◌∷◌, [], length, map, slice_range, IfSome, IfNone, IsTrue};
+ghost use Rattle.std.specs.Str.{bytes_eq};
 ghost use Rattle.markdown_blocks.specs.blocks.Tables.{cells};
 ghost use Rattle.page_tables.specs.Cells.{cell_text, cell_texts, row_text};
 
@@ -39,4 +40,12 @@ pub(crate) fn next_cell<'a>(text: &'a [u8], cells: &mut Cells) -> Option<&'a [u8
 {
     let Cell { start, end } = cells.next()?;
     Some(part(text, start, end))
+}
+
+/// Whether bytes are the same.
+pub(crate) fn are_equal(bytes: &[u8], others: &[u8]) -> bool
+    ensures equal { result ≡ bytes_eq bytes.now others.now }
+    ensures same { IsTrue result ↔ (bytes.now ≡ others.now) }
+{
+    bytes == others
 }

@@ -53,8 +53,8 @@ fn all_fit(page: &[u8], columns: usize, later: &[Mark]) -> bool
     true
 }
 
-// Whether a row with this text has a cell, and no more than so many.
-fn fits(columns: usize, text: &[u8]) -> bool
+/// Whether a row with this text has a cell, and no more than so many.
+pub(crate) fn fits(columns: usize, text: &[u8]) -> bool
     ensures { result ≡ fits columns text.now }
 {
     let count = count_cells(text);

@@ -1,9 +1,11 @@
 //! Pages as a formatter leaves them: with their tables laid out.
-ghost use Rattle.std.specs.Prelude.{◌≡◌, ◌↔◌, ℕ, List, IsTrue, IfOk, IfSome, IfNone, map, string_bytes};
-ghost use Rattle.std.specs.Str.{IsUtf8};
-ghost use Rattle.page_tables.specs.Formatted.{HaveSameTables, IsFormatted, IsLaidOut, IsSettled, columns_after, seen_from, seen_mark, seen_tables};
+ghost use Rattle.std.specs.Prelude.{◌≡◌, ◌↔◌, ℕ, List, IsTrue, IfOk, IfSome, IfNone, map, not, string_bytes};
+ghost use Rattle.std.specs.Str.{IsUtf8, bytes_eq};
+ghost use Rattle.page_tables.specs.Formatted.{HaveSameTables, IsFormatted, IsSettled};
+ghost use Rattle.page_tables.specs.Looks.{IsMade, becomes_other, is_left, made_text};
 ghost use Rattle.page_tables.specs.Marks.{AreMarksOf, mark_view};
 
+use crate::cells::are_equal;
 use crate::layout::laid_out;
 use crate::marks::{Mark, marks_of_page};
 use crate::same::are_same;
@@ -11,8 +13,19 @@ use crate::widths::CellWidths;
 use std::alloc::{AllocError, Global};
 use std::str::from_utf8;
 
-/// A page with its tables laid out, or None where it is left as it is, since its tables would not be
-/// the same then.
+/// What becomes of a page.
+#[derive(Drop)]
+pub enum Made {
+    /// It stays: its tables are laid out.
+    Stays,
+    /// It becomes this text, with the same tables, which are laid out.
+    Becomes(String),
+    /// It is left as it is, since its tables would not be the same, or not be laid out.
+    IsLeft,
+}
+
+/// A page with its tables laid out, or None where it stays as it is: they are laid out, or would not
+/// be the same then. A page without tables is read once.
 ///
 /// # Errors
 ///
@@ -33,14 +46,50 @@ pub fn formatted<W: CellWidths>(
         → other ≡ string_bytes text)) }
 {
     let marks = marks_of_page(alloc, page)?;
-    let laid = laid_out(alloc, page.as_bytes(), widths, &marks)?;
-    if !is_settled(alloc, page, widths, &marks, &laid)? {
-        return Ok(None);
+    match made_of(alloc, page, widths, &marks)? {
+        Made::Becomes(text) => Ok(Some(text)),
+        Made::Stays | Made::IsLeft => Ok(None),
+    }
+}
+
+/// What becomes of a page with these tables.
+pub(crate) fn made_of<W: CellWidths>(
+    alloc: Global,
+    page: &str,
+    widths: &W,
+    marks: &[Mark],
+) -> Result<Made, AllocError>
+    requires { AreMarksOf page.now (map mark_view marks.now) }
+    ensures made { IfOk result (λ made. IsMade (W.width widths.now) page.now
+        (map mark_view marks.now) (made_text page.now made) (is_left made)) }
+    ensures other { IfOk result (λ made.
+        becomes_other made ≡ not (bytes_eq (made_text page.now made) page.now)) }
+{
+    let laid = laid_out(alloc, page.as_bytes(), widths, marks)?;
+    if are_equal(&laid, page.as_bytes()) {
+        return Ok(Made::Stays);
+    }
+    if !is_settled(alloc, page, widths, marks, &laid)? {
+        return Ok(Made::IsLeft);
     }
     match String::from_utf8(laid) {
-        Ok(text) => Ok(Some(text)),
-        Err(_) => Ok(None),
+        Ok(text) => Ok(Made::Becomes(text)),
+        Err(_) => Ok(Made::IsLeft),
     }
+}
+
+/// Whether a page becomes another text.
+pub(crate) fn becomes_other(made: &Made) -> bool
+    ensures { result ≡ becomes_other made.now }
+{
+    matches!(made, Made::Becomes(_))
+}
+
+/// Whether a page is left as it is.
+pub(crate) fn is_left(made: &Made) -> bool
+    ensures { result ≡ is_left made.now }
+{
+    matches!(made, Made::IsLeft)
 }
 
 // Whether the text is a page with the same tables, and they are laid out.
@@ -76,11 +125,4 @@ fn as_text(bytes: &[u8]) -> Option<&str>
         Ok(text) => Some(text),
         Err(_) => None,
     }
-}
-
-// Whether bytes are the same.
-fn are_equal(bytes: &[u8], others: &[u8]) -> bool
-    ensures { IsTrue result ↔ (bytes.now ≡ others.now) }
-{
-    bytes == others
 }

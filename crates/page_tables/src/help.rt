@@ -2,7 +2,7 @@
 
 /// What is written on standard error after the name of an option that is not known.
 pub const USAGE: &str = "
-usage: cmark_tables [--] [FILE ..]
+usage: cmark_tables [--check | --write] [--] [FILE ..]
        cmark_tables -h | --help | --version
 ";
 
@@ -11,24 +11,30 @@ pub const VERSION: &str = "cmark_tables 0.1.0\n";
 
 /// What `--help` prints.
 pub const HELP: &str = "\
-usage: cmark_tables [--] [FILE ..]
+usage: cmark_tables [--check | --write] [--] [FILE ..]
        cmark_tables -h | --help | --version
 
 Prints a page of Markdown with its tables laid out: columns as wide as their widest cell, their
 contents aligned as the delimiter row says, with a pipe on each side; short rows are filled. Nothing
 else of the page is changed.
 
-A table with a row of more cells than columns, or of none, is left as it is. The tables of the page
-printed have the same cells in the same rows and columns, aligned alike, and are laid out: of a page
-of which that would not be so, and of a page that is not UTF-8, nothing is changed.
+With --check nothing is printed but FILE:LINE:COLUMN of the head of each table that is not laid out.
+With --write each file whose page changes is replaced, and nothing is printed: a new file beside it
+is written, brought to the disk and given its name and permissions; where a step is refused the file
+stands as it was. Standard input is printed then. With both options nothing is written.
+
+A table with a row of more cells than columns, or of none, is left as it is, and standard error has
+FILE:LINE:COLUMN of the row. The tables of the page printed have the same cells in the same rows and
+columns, aligned alike, and are laid out: a page of which that would not be so, and one that is not
+UTF-8, is left as it is, and standard error says so.
 
 FILE is a page; - is standard input, and so is no FILE. What is printed of the pages follows one
 another. After the word -- all words are files.
 
-A page is read whole before anything is printed of it. Where a page can't be read, memory is refused
-or the output can't be written, the program stops and says why on standard error, unless the reader
-of the output has left.
+A page is read whole before anything is done with it. Where a page can't be read, memory is refused,
+the output can't be written or a file can't be replaced, the program stops and says why on standard
+error, unless the reader of the output has left.
 
-The status is 0 where all is printed, 2 for an option that is not known, and 3 where the program
-stopped.
+The status is 0 where all is done, 1 where --check found a table that is not laid out, 2 for an
+option that is not known, and 3 where the program stopped.
 ";

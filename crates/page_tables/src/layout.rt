@@ -154,8 +154,8 @@ impl Layout {
     }
 }
 
-// Where the delimiter row stands in the page: in the line after the head, which ends here.
-fn delimiters_at(page: &[u8], head_end: usize) -> Range<usize>
+/// Where the delimiter row stands in the page: in the line after the head, which ends here.
+pub(crate) fn delimiters_at(page: &[u8], head_end: usize) -> Range<usize>
     ensures { result ≡ delimiters_at page.now head_end }
 {
     let line = head_end + scan_line(part(page, head_end, page.len()));
@@ -188,8 +188,8 @@ fn without_end(bytes: &[u8]) -> &[u8]
     &bytes[..end]
 }
 
-// Adds the delimiter row of these columns.
-fn push_delimiter_row(out: &mut Vec<u8>, columns: &[Column]) -> Result<(), AllocError>
+/// Adds the delimiter row of these columns.
+pub(crate) fn push_delimiter_row(out: &mut Vec<u8>, columns: &[Column]) -> Result<(), AllocError>
     ensures { OnOk result (out.new.items ≡ out.old.items ++ delimiter_row columns.now) }
 {
     out.push(b'|')?;
@@ -237,8 +237,8 @@ fn push_times(out: &mut Vec<u8>, byte: u8, count: usize) -> Result<(), AllocErro
     Ok(())
 }
 
-// Adds a row with this text in these columns.
-fn push_row<W: CellWidths>(
+/// Adds a row with this text in these columns.
+pub(crate) fn push_row<W: CellWidths>(
     out: &mut Vec<u8>,
     widths: &W,
     columns: &[Column],

@@ -1,14 +1,23 @@
-//! What `cmark_tables` prints: pages of Markdown with their tables laid out.
+//! What `cmark_tables` does with pages of Markdown: their tables are laid out.
 #![tactic(auto)]
 
 mod cells;
+pub mod changes;
 pub mod columns;
+pub mod files;
 pub mod formatted;
+mod halts;
+mod handling;
 pub mod help;
 mod layout;
+pub mod looks;
 pub mod marks;
-pub mod page;
+pub mod misfits;
 pub mod program;
+pub mod replacing;
+mod reports;
 mod same;
 pub mod widths;
-mod writing;
+mod words;
+
+pub use markdown_blocks::cells::{Cell, Cells, cells_of as scan_cells};

@@ -1,34 +1,34 @@
-//! What the program does with its words, its input and its output.
-ghost use Rattle.std.specs.Prelude.{◌≡◌, ◌≢◌, ◌⊎◌, ℕ, List, [], IfSome, IsSome, Some, None, codes};
+//! What the program does with its words, its input, its files and its output.
+ghost use Rattle.std.specs.Prelude.{◌≡◌, ◌≢◌, ◌⊎◌, ℕ, Bool, List, [], IfSome, IsSome, Ok, Err, codes};
 ghost use Rattle.std.specs.Io.KnownBytes.{Appends};
 ghost use Rattle.program_faults.specs.Steps.{HasRefused, AreGiven};
 ghost use Rattle.program_faults.specs.declared.reasons.Reason.{Reason};
-ghost use Rattle.page_programs.specs.Runs.{PrintsAll};
-ghost use Rattle.page_programs.specs.Stops.{IfWrite, IsWrite, stop_parts, unknown_parts};
+ghost use Rattle.page_programs.specs.Stops.{stop_parts, unknown_parts};
 ghost use Rattle.page_programs.specs.Words.{pages_of, request_of, unknown_of};
 ghost use Rattle.page_programs.specs.declared.stops.Stop.{Stop};
 ghost use Rattle.page_programs.specs.declared.words.Request.TheVariants.{Pages, Help, Version};
-ghost use Rattle.page_tables.specs.Printed.{IsPrintedTo, is_unwritten, no_title};
+ghost use Rattle.page_tables.specs.Halts.{halt_parts};
+ghost use Rattle.page_tables.specs.Runs.{AreHandled, status_of, world};
+ghost use Rattle.page_tables.specs.Words.{own_options, task_of};
+ghost use Rattle.page_tables.specs.declared.halts.Halt.{Halt};
 
+use crate::files::ReplacesFiles;
+use crate::halts::report_halt;
+use crate::handling::handle_operands;
 use crate::help::{HELP, USAGE, VERSION};
-use crate::page::text_of_page;
-use crate::writing::write_page;
-use page_programs::files::OpensFiles;
-use page_programs::pages::PrintsPages;
-use page_programs::program;
-use page_programs::reading::read_page;
-use page_programs::says::Says;
-use page_programs::stops::Stop;
-use page_programs::writing::write_text;
-use program_faults::{Reason, StepReader, StepWriter};
-use std::alloc::{AllocError, Global};
+use crate::words::task_of;
+use page_programs::stops::{Stop, report_stop};
+use page_programs::words::{Request, parse_request, unknown_option};
+use program_faults::{Reason, StepReader, StepWriter, complain, write_whole};
+use std::alloc::Global;
 
 /// Runs the program on its words, without its name, and answers its status.
 ///
-/// 0: done. 2: an option that is not known, and nothing is read. 3: a page that can't be opened or
-/// read, memory that is refused, or output that can't be written; there it stops. Each page is read
-/// whole before anything of it is written.
-pub fn run_program<R: StepReader, F: OpensFiles, W: StepWriter, V: StepWriter>(
+/// 0: done. 1: `--check`, and a table is not laid out. 2: an option that is not known, and nothing is
+/// read. 3: a page that can't be opened or read, memory that is refused, output that can't be written,
+/// or a file that can't be replaced; there it stops. Each page is read whole before anything is done
+/// with it.
+pub fn run_program<R: StepReader, F: ReplacesFiles, W: StepWriter, V: StepWriter>(
     alloc: Global,
     words: &[&str],
     input: &mut R,
@@ -36,14 +36,14 @@ pub fn run_program<R: StepReader, F: OpensFiles, W: StepWriter, V: StepWriter>(
     output: &mut W,
     faults: &mut V,
 ) -> u8
-    ensures status { (result ≡ 0) ⊎ ((result ≡ 2) ⊎ (result ≡ 3)) }
+    ensures status { (result ≡ 0) ⊎ ((result ≡ 1) ⊎ ((result ≡ 2) ⊎ (result ≡ 3))) }
 
     // An option that is not known.
-    ensures only_unknown { result ≡ 2 → IsSome (unknown_of [] words.now) }
-    ensures unknown { IfSome (unknown_of [] words.now) (λ word. (result ≡ 2)
+    ensures only_unknown { result ≡ 2 → IsSome (unknown_of own_options words.now) }
+    ensures unknown { IfSome (unknown_of own_options words.now) (λ word. (result ≡ 2)
         × AreGiven V.writes faults.old
         (unknown_parts (codes "cmark_tables") word.now USAGE.now) faults.new) }
-    ensures untouched { IsSome (unknown_of [] words.now) →
+    ensures untouched { IsSome (unknown_of own_options words.now) →
         (input.new ≡ input.old) × (files.new ≡ files.old) × (output.new ≡ output.old) }
 
     // The help, and the version.
@@ -53,76 +53,95 @@ pub fn run_program<R: StepReader, F: OpensFiles, W: StepWriter, V: StepWriter>(
         Appends (W.contents output.old) (W.contents output.new) VERSION.now }
     ensures unread { (request_of words.now ≡ Help) ⊎ (request_of words.now ≡ Version) →
         (input.new ≡ input.old) × (files.new ≡ files.old) }
+    ensures silent { result ≡ 0 → (request_of words.now ≡ Help) ⊎ (request_of words.now ≡ Version)
+        → faults.new ≡ faults.old }
+    ensures unwritten { result ≡ 3 → (request_of words.now ≡ Help) ⊎ (request_of words.now ≡ Version)
+        → (why : Reason) × AreGiven V.writes faults.old
+        (stop_parts (codes "cmark_tables") [] (Stop.Write why)) faults.new
+        × (why ≢ Reason.Interrupted → HasRefused W.writes why output.new) }
 
     // Pages.
-    ensures printed { result ≡ 0 → request_of words.now ≡ Pages →
-        PrintsAll no_title IsPrintedTo is_unwritten
-        R.remaining R.reads F.opens F.File.remaining F.File.reads
-        (pages_of words.now)
-        input.old files.old (W.contents output.old)
-        input.new files.new (W.contents output.new) None }
-
-    // At status 0 nothing is written to the faults; at 3 the reason is, as far as they take it.
-    ensures done { result ≡ 0 → faults.new ≡ faults.old }
-    ensures stopped { result ≡ 3 → (name : List ℕ) × (stop : Stop)
-        × AreGiven V.writes faults.old (stop_parts (codes "cmark_tables") name stop) faults.new
-        × IfWrite stop (λ why. why ≢ Reason.Interrupted → HasRefused W.writes why output.new)
-        × ((request_of words.now ≡ Help) ⊎ (request_of words.now ≡ Version) → IsWrite stop)
-        × (request_of words.now ≡ Pages →
-        PrintsAll no_title IsPrintedTo is_unwritten
-        R.remaining R.reads F.opens F.File.remaining F.File.reads
-        (pages_of words.now)
-        input.old files.old (W.contents output.old)
-        input.new files.new (W.contents output.new) (Some (name, stop))) }
+    ensures handled { (changed : Bool) → result ≡ status_of changed → request_of words.now ≡ Pages →
+        AreHandled R.remaining R.reads F.opens F.File.remaining F.File.reads F.holds
+        W.contents W.writes V.writes (task_of words.now) (pages_of words.now)
+        (world input.old files.old output.old faults.old)
+        (world input.new files.new output.new faults.new)
+        (Ok changed) }
+    ensures halted { result ≡ 3 → request_of words.now ≡ Pages →
+        (name : List ℕ) × (halt : Halt) × (before : V)
+        × AreGiven V.writes before (halt_parts name halt) faults.new
+        × AreHandled R.remaining R.reads F.opens F.File.remaining F.File.reads F.holds
+        W.contents W.writes V.writes (task_of words.now) (pages_of words.now)
+        (world input.old files.old output.old faults.old)
+        (world input.new files.new output.new before)
+        (Err (name, halt)) }
 {
-    let says = Says {
-        name: "cmark_tables",
-        usage: USAGE,
-        help: HELP,
-        version: VERSION,
-    };
-    program::run_program(
-        alloc,
-        &says,
-        &[],
-        &Printer,
-        words,
-        input,
-        files,
-        output,
-        faults,
-    )
+    if let Some(word) = unknown_option(&["--check", "--write"], words) {
+        complain(faults, "cmark_tables");
+        complain(faults, ": unknown option ");
+        complain(faults, word);
+        complain(faults, USAGE);
+        return 2;
+    }
+    match parse_request(words) {
+        Request::Pages => run_on_pages(alloc, words, input, files, output, faults),
+        Request::Help => print_words(output, faults, HELP),
+        Request::Version => print_words(output, faults, VERSION),
+    }
 }
 
-// What prints pages with their tables laid out.
-#[derive(Clone, Copy)]
-struct Printer;
-
-impl PrintsPages for Printer {
-    ghost use Rattle.std.specs.Prelude.{[], ◌++◌, ℕ, List};
-    ghost use Rattle.page_tables.specs.Printed.{IsPrinted};
-
-    ghost titles = { λ _ _ _. [] };
-
-    ghost prints = { λ _ title page old new.
-        (text : List ℕ) × IsPrinted page text × Appends old new (title ++ text) };
-
-    ghost begins = { λ _ _ _ _ old new. new ≡ old };
-
-    fn make_title(&self, alloc: Global, _pages: usize, _name: &str) -> Result<String, AllocError> {
-        Ok(String::new(alloc))
+// Prints a text that is no page's, and answers the status.
+fn print_words<W: StepWriter, V: StepWriter>(output: &mut W, faults: &mut V, text: &str) -> u8
+    ensures status { (result ≡ 0) ⊎ (result ≡ 3) }
+    ensures written { result ≡ 0 → Appends (W.contents output.old) (W.contents output.new) text.now }
+    ensures silent { result ≡ 0 → faults.new ≡ faults.old }
+    ensures refused { result ≡ 3 → (why : Reason) × AreGiven V.writes faults.old
+        (stop_parts (codes "cmark_tables") [] (Stop.Write why)) faults.new
+        × (why ≢ Reason.Interrupted → HasRefused W.writes why output.new) }
+{
+    match write_whole(output, text) {
+        Ok(()) => 0,
+        Err(reason) => {
+            report_stop("cmark_tables", faults, "", Stop::Write(reason));
+            3
+        }
     }
+}
 
-    fn print_page<R: StepReader, W: StepWriter>(
-        &self,
-        alloc: Global,
-        title: &str,
-        input: &mut R,
-        output: &mut W,
-    ) -> Result<(), Stop> {
-        let page = read_page(alloc, input)?;
-        let text = text_of_page(alloc, page)?;
-        write_text(output, title)?;
-        write_page(output, &text)
+// Does with the pages what the words ask for, and answers the status.
+fn run_on_pages<R: StepReader, F: ReplacesFiles, W: StepWriter, V: StepWriter>(
+    alloc: Global,
+    words: &[&str],
+    input: &mut R,
+    files: &mut F,
+    output: &mut W,
+    faults: &mut V,
+) -> u8
+    ensures status { (result ≡ 0) ⊎ ((result ≡ 1) ⊎ (result ≡ 3)) }
+    ensures handled { (changed : Bool) → result ≡ status_of changed →
+        AreHandled R.remaining R.reads F.opens F.File.remaining F.File.reads F.holds
+        W.contents W.writes V.writes (task_of words.now) (pages_of words.now)
+        (world input.old files.old output.old faults.old)
+        (world input.new files.new output.new faults.new) (Ok changed) }
+    ensures halted { result ≡ 3 → (name : List ℕ) × (halt : Halt) × (before : V)
+        × AreGiven V.writes before (halt_parts name halt) faults.new
+        × AreHandled R.remaining R.reads F.opens F.File.remaining F.File.reads F.holds
+        W.contents W.writes V.writes (task_of words.now) (pages_of words.now)
+        (world input.old files.old output.old faults.old)
+        (world input.new files.new output.new before) (Err (name, halt)) }
+{
+    match handle_operands(alloc, task_of(words), words, input, files, output, faults) {
+        Ok(changed) => status_of(changed),
+        Err((name, halt)) => {
+            report_halt(faults, name, halt);
+            3
+        }
     }
+}
+
+// The status of a run that is done: whether a page would change.
+fn status_of(changed: bool) -> u8
+    ensures { result ≡ status_of changed }
+{
+    u8::from(changed)
 }

@@ -31,8 +31,8 @@ pub(crate) fn are_same(page: &[u8], marks: &[Mark], other: &[u8], others: &[Mark
     right.is_empty()
 }
 
-// How many columns the table has whose rows come after a mark.
-fn columns_after(mark: &Mark, columns: usize) -> usize
+/// How many columns the table has whose rows come after a mark.
+pub(crate) fn columns_after(mark: &Mark, columns: usize) -> usize
     ensures { result ≡ columns_after (mark_view mark.now) columns }
 {
     match mark {

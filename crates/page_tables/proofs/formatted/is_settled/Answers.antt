@@ -23,7 +23,7 @@ returns g c =
     let k = subst (λ t. AreMarksOf t others) c.in-Some.ensures.same c.in_ok-others.ensures in
     let same = rw c.as_bytes.ensures.value at (rw c.deref.ensures.value at c.are_same.ensures) in
     let again = rw c.deref-2.ensures.value at c.in_ok-again.ensures in
-    let equal = rw c.deref-3.ensures.value at c.are_equal.ensures in (
+    let equal = rw c.deref-3.ensures.value at c.are_equal.ensures.same in (
       λ t. settled_if width page text marks others c.requires k c.in-Some.ensures.text (same.0 c.if-not-are_same.false) (sym again ∙ equal.0 t),
       λ s. equal.1 (again ∙ settled_again width page text marks others c.requires k s),
     )

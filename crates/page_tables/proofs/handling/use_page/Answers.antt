@@ -1,0 +1,52 @@
+use Rattle.std.proofs.Common.{ap, refl, string_bytes, ◌∙◌}
+use Rattle.page_tables.specs.Looks.{made_text}
+use Rattle.page_tables.specs.Words.{is_check}
+use Rattle.page_tables.proofs.handling.use_page.Goals as goal
+
+pub returns-in-Ok-write_bytes : goal.returns-in-Ok-write_bytes
+returns-in-Ok-write_bytes g c = rw c.in-Print.is (
+  made_text c.args.page.now c.in-Ok.look.made,
+  string_bytes c.in-Ok.look.lines,
+  (
+    record {
+      notes = string_bytes c.in-Ok.look.notes;
+      is_said = rw (c.is_check.ensures ∙ ap is_check c.in-Print.is) at c.in-Ok.ensures.said;
+      is_given = rw c.as_str.ensures.value at c.complain.ensures.given;
+    },
+    rw c.text.ensures at c.in-Ok-write_bytes.ensures.written,
+    refl,
+    refl,
+  ),
+)
+
+pub returns-in-Ok-write_whole : goal.returns-in-Ok-write_whole
+returns-in-Ok-write_whole g c = rw c.in-Check.is (
+  made_text c.args.page.now c.in-Ok.look.made,
+  string_bytes c.in-Ok.look.lines,
+  (
+    record {
+      notes = string_bytes c.in-Ok.look.notes;
+      is_said = rw (c.is_check.ensures ∙ ap is_check c.in-Check.is) at c.in-Ok.ensures.said;
+      is_given = rw c.as_str.ensures.value at c.complain.ensures.given;
+    },
+    rw c.as_str-in-Check.ensures.value at c.in-Ok-write_whole.ensures.written,
+    refl,
+    c.changes.ensures ∙ c.in-Ok.ensures.changes,
+  ),
+)
+
+pub returns-in-Ok-replace_with : goal.returns-in-Ok-replace_with
+returns-in-Ok-replace_with g c = rw c.in-Replace.is (
+  made_text c.args.page.now c.in-Ok.look.made,
+  string_bytes c.in-Ok.look.lines,
+  (
+    record {
+      notes = string_bytes c.in-Ok.look.notes;
+      is_said = rw (c.is_check.ensures ∙ ap is_check c.in-Replace.is) at c.in-Ok.ensures.said;
+      is_given = rw c.as_str.ensures.value at c.complain.ensures.given;
+    },
+    refl,
+    c.in-Ok-replace_with.ensures.replaced,
+    refl,
+  ),
+)

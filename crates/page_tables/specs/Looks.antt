@@ -1,0 +1,56 @@
+-- What is made and said of a page.
+use Rattle.std.specs.Prelude.{ℕ, Bool, true, false, not, ◌&&◌, ◌≡◌, ◌⊎◌, List, [], ◌++◌, string_bytes, if◌then◌else◌}
+use Rattle.std.specs.Str.{IsUtf8, bytes_eq}
+use Rattle.page_tables.specs.Changes.{changes_of}
+use Rattle.page_tables.specs.Formatted.{IsSettled}
+use Rattle.page_tables.specs.Layout.{laid_out}
+use Rattle.page_tables.specs.Marks.{AreMarksOf, MarkView}
+use Rattle.page_tables.specs.Misfits.{misfits}
+use Rattle.page_tables.specs.Reports.{change_lines, left_line, misfit_lines, not_text_line}
+use Rattle.page_tables.specs.Widths.{display_width}
+use Rattle.page_tables.specs.declared.formatted.Made.{Made}
+use Rattle.page_tables.specs.declared.formatted.Made.TheVariants.{Stays, Becomes, IsLeft}
+
+-- the text that a page becomes
+abbrev pub made_text : List ℕ → Made → List ℕ
+made_text page Stays = page
+made_text page (Becomes text) = string_bytes text
+made_text page IsLeft = page
+
+abbrev pub is_left : Made → Bool
+is_left Stays = false
+is_left (Becomes text) = false
+is_left IsLeft = true
+
+abbrev pub becomes_other : Made → Bool
+becomes_other Stays = false
+becomes_other (Becomes text) = true
+becomes_other IsLeft = false
+
+module _ (width : List ℕ → ℕ) where
+  -- The text of a page with these tables: the page with them laid out, if they are the same tables then and laid out. Else it is left.
+  abbrev pub IsMade : List ℕ → List MarkView → List ℕ → Bool → Type 0
+  IsMade page marks text left =
+      (IsSettled width page (laid_out width page marks) × (text ≡ laid_out width page marks) × (left ≡ false))
+      ⊎ ((¬ IsSettled width page (laid_out width page marks)) × (text ≡ page) × (left ≡ true))
+
+-- What becomes of the page of this name, with what is said of tables that are left as they are, and if that is asked for of those that
+-- change.
+pub record IsLook (checks : Bool) (name page text notes lines : List ℕ) : Type 0 where
+  pub is_text : IsUtf8 page
+  pub marks : List MarkView
+  pub are_marks : AreMarksOf page marks
+  pub left : Bool
+  pub is_made : IsMade display_width page marks text left
+  pub are_notes : notes ≡ misfit_lines name page (misfits page marks) ++ (if left then left_line name else [])
+  pub are_lines : lines ≡ (if checks then change_lines name page (changes_of display_width page marks text) else [])
+
+-- one that is not UTF-8 stays
+pub record IsNoText (name page text notes lines : List ℕ) : Type 0 where
+  pub no_text : ¬ IsUtf8 page
+  pub same : text ≡ page
+  pub are_notes : notes ≡ not_text_line name
+  pub no_lines : lines ≡ []
+
+abbrev pub IsSaid : Bool → List ℕ → List ℕ → List ℕ → List ℕ → List ℕ → Type 0
+IsSaid checks name page text notes lines = IsLook checks name page text notes lines ⊎ IsNoText name page text notes lines

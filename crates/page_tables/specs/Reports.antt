@@ -1,0 +1,39 @@
+-- The lines that are written of a page, as editors take them.
+use Rattle.std.specs.Prelude.{ℕ, Bool, true, false, List, [], ◌∷◌, ◌++◌, codes}
+use Rattle.std.specs.Fmt.{decimal}
+use Rattle.std.specs.List.{flat_map}
+use Rattle.markdown_scanners_tree.specs.Ascii.{line_feed}
+use Rattle.page_links.specs.declared.positions.Position.{Position}
+use Rattle.page_links.specs.positions.Positions.{position_of}
+use Rattle.page_tables.specs.declared.misfits.Misfit.{Misfit}
+
+-- a line that says something of a position in the page of this name
+abbrev pub line_at : List ℕ → Position → List ℕ → List ℕ
+line_at name position words =
+    name ++ codes ":" ++ decimal position.line ++ codes ":" ++ decimal position.column ++ codes ": " ++ words ++ line_feed ∷ []
+
+-- of a table that changes
+abbrev pub change_line : List ℕ → List ℕ → ℕ → List ℕ
+change_line name page offset = line_at name (position_of page offset) (codes "table is not laid out")
+
+abbrev pub change_lines : List ℕ → List ℕ → List ℕ → List ℕ
+change_lines name page heads = flat_map (change_line name page) heads
+
+-- why a row doesn't fit its table
+abbrev pub misfit_words : Bool → List ℕ
+misfit_words true = codes "row has more cells than its table has columns, and the table is left as it is"
+misfit_words false = codes "row has no cell, and its table is left as it is"
+
+abbrev pub misfit_line : List ℕ → List ℕ → Misfit → List ℕ
+misfit_line name page it = line_at name (position_of page it.start) (misfit_words it.has_cell)
+
+abbrev pub misfit_lines : List ℕ → List ℕ → List Misfit → List ℕ
+misfit_lines name page rows = flat_map (misfit_line name page) rows
+
+-- of a page that is left as it is
+abbrev pub left_line : List ℕ → List ℕ
+left_line name = name ++ (codes ":1:1: tables would not stay the same, and the page is left as it is" ++ line_feed ∷ [])
+
+-- of a page that is not UTF-8
+abbrev pub not_text_line : List ℕ → List ℕ
+not_text_line name = name ++ (codes ":1:1: page is not UTF-8, and is left as it is" ++ line_feed ∷ [])

@@ -1,0 +1,158 @@
+-- What becomes of the pages that the words name.
+use Rattle.std.specs.Prelude.{ℕ, Bool, true, false, not, ◌||◌, ◌≡◌, ◌≢◌, ◌⊎◌, ⊤, List, [], ◌∷◌, Option, Result, Ok, Err, IfSome}
+use Rattle.std.specs.Io.KnownBytes.{Appends, IsAtEnd}
+use Rattle.std.specs.Str.{bytes_eq}
+use Rattle.program_faults.specs.Steps.{AreReads, HasEnded, HasFailed, HasRefused, IsGiven}
+use Rattle.program_faults.specs.declared.reasons.Reason.{Reason}
+use Rattle.program_faults.specs.declared.reasons.Reason.TheVariants.{Interrupted}
+use Rattle.page_programs.specs.Words.{dash}
+use Rattle.page_programs.specs.declared.stops.Stop.{Stop}
+use Rattle.page_programs.specs.declared.stops.Stop.TheVariants.{Read, Write, Memory}
+use Rattle.page_tables.specs.Files.{AreKept, IsReplaced}
+use Rattle.page_tables.specs.Looks.{IsSaid}
+use Rattle.page_tables.specs.Words.{task_for}
+use Rattle.page_tables.specs.declared.halts.Halt.{Halt}
+use Rattle.page_tables.specs.declared.halts.Halt.TheVariants.{OfPage, OfFile}
+use Rattle.page_tables.specs.declared.words.Task.{Task}
+use Rattle.page_tables.specs.declared.words.Task.TheVariants.{Print, Check, Replace}
+
+module _ {R : Type 0} (remaining : R → Option (List ℕ)) (reads : R → Result (List ℕ) Reason → R → Type 0) where
+  -- a page was read to its end
+  pub record IsWhole (old new : R) (page : List ℕ) : Type 0 where
+    pub bytes : IfSome (remaining old) (λ all. page ≡ all)
+    pub end : IsAtEnd (remaining new)
+    pub ended : HasEnded reads new
+    pub reads_alone : (count : ℕ) × AreReads reads count old new
+
+  -- Why it was not: the last read failed, or there were as many reads as are made, or memory is refused.
+  abbrev pub CantRead : R → R → Stop → Type 0
+  CantRead old new (Read why) = HasFailed reads why new ⊎ AreReads reads 281474976710655 old new
+  CantRead old new (Write why) = ⊥
+  CantRead old new Memory = ⊤
+
+  abbrev pub IsUnread : R → R → Stop → Type 0
+  IsUnread old new stop = CantRead old new stop × (count : ℕ) × AreReads reads count old new
+
+-- what a run may change besides its input
+pub record Outside (F W V : Type 0) : Type 0 where
+  pub files : F
+  pub output : W
+  pub faults : V
+
+abbrev pub outside : {F W V : Type 0} → F → W → V → Outside F W V
+outside files output faults = record { files = files; output = output; faults = faults }
+
+-- all that it may change
+pub record World (R F W V : Type 0) : Type 0 where
+  pub input : R
+  pub rest : Outside F W V
+
+abbrev pub world : {R F W V : Type 0} → R → F → W → V → World R F W V
+world input files output faults = record { input = input; rest = outside files output faults }
+
+-- one of two changes, or why there is an end
+abbrev pub or_end : {E : Type 0} → Bool → Result Bool E → Result Bool E
+or_end changed (Ok more) = Ok (changed || more)
+or_end changed (Err why) = Err why
+
+-- Steps of names one after another, up to the first that ends, and whether one of them was a change.
+pub data AreSteps {S E : Type 0} (steps : List ℕ → S → S → Result Bool E → Type 0)
+    : List (List ℕ) → S → S → Result Bool (List ℕ × E) → Type 0 where
+  none_left : (at : S) → AreSteps steps [] at at (Ok false)
+  step : (name : List ℕ) (names : List (List ℕ)) (old middle new : S) (changed : Bool) (end : Result Bool (List ℕ × E))
+      → steps name old middle (Ok changed) → AreSteps steps names middle new end → AreSteps steps (name ∷ names) old new (or_end changed end)
+  last_step : (name : List ℕ) (names : List (List ℕ)) (old new : S) (why : E)
+      → steps name old new (Err why) → AreSteps steps (name ∷ names) old new (Err (name, why))
+
+module _ {F W V : Type 0} (contents : W → Option (List ℕ)) (writes : W → List ℕ → Result ℕ Reason → W → Type 0)
+    (fault_writes : V → List ℕ → Result ℕ Reason → V → Type 0) (holds : F → List ℕ → Option (List ℕ)) where
+  -- This is made and said of a page, and what is said of tables that are left as they are is given to the faults.
+  pub record IsNoted (checks : Bool) (name page text lines : List ℕ) (old new : Outside F W V) : Type 0 where
+    pub notes : List ℕ
+    pub is_said : IsSaid checks name page text notes lines
+    pub is_given : IsGiven fault_writes old.faults notes new.faults
+
+  -- What is done with a page of this name: its text is printed; or the lines of tables that change are; or its file is replaced.
+  abbrev pub IsDone : Task → List ℕ → List ℕ → List ℕ → List ℕ → Outside F W V → Outside F W V → Bool → Type 0
+  IsDone Print name page text lines old new changed =
+      IsNoted false name page text lines old new × Appends (contents old.output) (contents new.output) text
+      × (new.files ≡ old.files) × (changed ≡ false)
+  IsDone Check name page text lines old new changed =
+      IsNoted true name page text lines old new × Appends (contents old.output) (contents new.output) lines
+      × (new.files ≡ old.files) × (changed ≡ not (bytes_eq text page))
+  IsDone Replace name page text lines old new changed =
+      IsNoted false name page text lines old new × (new.output ≡ old.output)
+      × IsReplaced holds name page text old.files new.files × (changed ≡ false)
+
+  -- Why a page is not done: memory is refused, and nothing is changed; the output can't be written, and no file is changed; or the file
+  -- can't be replaced, and each file stands as it was.
+  abbrev pub IsHalted : Task → List ℕ → List ℕ → List ℕ → List ℕ → Outside F W V → Outside F W V → Halt → Type 0
+  IsHalted task name page text lines old new (OfPage (Read why)) = ⊥
+  IsHalted task name page text lines old new (OfPage Memory) = new ≡ old
+  IsHalted task name page text lines old new (OfPage (Write why)) =
+      (checks : Bool) × IsNoted checks name page text lines old new × (new.files ≡ old.files)
+      × (why ≢ Interrupted → HasRefused writes why new.output)
+  IsHalted task name page text lines old new (OfFile why) =
+      IsNoted false name page text lines old new × (new.output ≡ old.output) × AreKept holds old.files new.files
+
+  abbrev pub IsUsed : Task → List ℕ → List ℕ → Outside F W V → Outside F W V → Result Bool Halt → Type 0
+  IsUsed task name page old new (Ok changed) =
+      (text : List ℕ) × (lines : List ℕ) × IsDone task name page text lines old new changed
+  IsUsed task name page old new (Err why) =
+      (text : List ℕ) × (lines : List ℕ) × IsHalted task name page text lines old new why
+
+-- reading the page of a name, with what is read of a file that is opened
+module _ {R F O W V : Type 0} (remaining : R → Option (List ℕ)) (reads : R → Result (List ℕ) Reason → R → Type 0)
+    (opens : F → List ℕ → Result O Reason → F → Type 0) (file_remaining : O → Option (List ℕ))
+    (file_reads : O → Result (List ℕ) Reason → O → Type 0) (holds : F → List ℕ → Option (List ℕ)) where
+  -- neither output nor faults are changed
+  abbrev pub AreUnwritten : World R F W V → World R F W V → Type 0
+  AreUnwritten old new = (new.rest.output ≡ old.rest.output) × (new.rest.faults ≡ old.rest.faults)
+
+  -- a file was opened: what it has to be read is what it holds
+  pub record IsOpened (name : List ℕ) (old new : World R F W V) (file : O) : Type 0 where
+    pub is_named : bytes_eq name dash ≡ false
+    pub opened : opens old.rest.files name (Ok file) new.rest.files
+    pub bytes : file_remaining file ≡ holds old.rest.files name
+    pub kept : AreKept holds old.rest.files new.rest.files
+    pub input : new.input ≡ old.input
+
+  -- The page of a name: `-` is standard input, any other that of a file.
+  pub data IsFetched (name page : List ℕ) (old new : World R F W V) : Type 0 where
+    from_input : bytes_eq name dash ≡ true → IsWhole remaining reads old.input new.input page → new.rest.files ≡ old.rest.files
+        → AreUnwritten old new → IsFetched name page old new
+    from_file : (file last : O) → IsOpened name old new file → IsWhole file_remaining file_reads file last page
+        → AreUnwritten old new → IsFetched name page old new
+
+  -- why it can't be read
+  pub data IsMissed (name : List ℕ) (stop : Stop) (old new : World R F W V) : Type 0 where
+    of_input : bytes_eq name dash ≡ true → IsUnread remaining reads old.input new.input stop → new.rest.files ≡ old.rest.files
+        → AreUnwritten old new → IsMissed name stop old new
+    of_file : (file last : O) → IsOpened name old new file → IsUnread file_remaining file_reads file last stop
+        → AreUnwritten old new → IsMissed name stop old new
+    not_opened : (why : Reason) → bytes_eq name dash ≡ false → stop ≡ Read why → opens old.rest.files name (Err why) new.rest.files
+        → AreKept holds old.rest.files new.rest.files → new.input ≡ old.input → AreUnwritten old new → IsMissed name stop old new
+
+module _ {R F O W V : Type 0} (remaining : R → Option (List ℕ)) (reads : R → Result (List ℕ) Reason → R → Type 0)
+    (opens : F → List ℕ → Result O Reason → F → Type 0) (file_remaining : O → Option (List ℕ))
+    (file_reads : O → Result (List ℕ) Reason → O → Type 0) (holds : F → List ℕ → Option (List ℕ))
+    (contents : W → Option (List ℕ)) (writes : W → List ℕ → Result ℕ Reason → W → Type 0)
+    (fault_writes : V → List ℕ → Result ℕ Reason → V → Type 0) where
+  -- a page is read and used, or can't be read
+  pub data IsHandled (task : Task) (name : List ℕ) (old new : World R F W V) : Result Bool Halt → Type 0 where
+    used : (page : List ℕ) (middle : World R F W V) (end : Result Bool Halt)
+        → IsFetched remaining reads opens file_remaining file_reads holds name page old middle
+        → IsUsed contents writes fault_writes holds (task_for task name) name page middle.rest new.rest end
+        → new.input ≡ middle.input → IsHandled task name old new end
+    missed : (stop : Stop) → IsMissed remaining reads opens file_remaining file_reads holds name stop old new
+        → IsHandled task name old new (Err (OfPage stop))
+
+  -- So are the pages of these names, one after another, up to the first that is not done. Memory may be refused before them.
+  pub data AreHandled (task : Task) (names : List (List ℕ)) (old new : World R F W V) : Result Bool (List ℕ × Halt) → Type 0 where
+    in_turn : (end : Result Bool (List ℕ × Halt)) → AreSteps (IsHandled task) names old new end → AreHandled task names old new end
+    not_begun : new ≡ old → AreHandled task names old new (Err ([], OfPage Memory))
+
+-- the status of a run that is done: whether a page would change
+abbrev pub status_of : Bool → ℕ
+status_of true = 1
+status_of false = 0

@@ -1,0 +1,147 @@
+//! What is made and said of a page.
+ghost use Rattle.std.specs.Prelude.{◌≡◌, ◌++◌, [], IfOk, map, not, string_bytes, if◌then◌else◌};
+ghost use Rattle.std.specs.Str.{bytes_eq};
+ghost use Rattle.page_tables.specs.Changes.{changes_of};
+ghost use Rattle.page_tables.specs.Looks.{IsLook, IsSaid, becomes_other, is_left, made_text};
+ghost use Rattle.page_tables.specs.Marks.{mark_view};
+ghost use Rattle.page_tables.specs.Misfits.{misfits};
+ghost use Rattle.page_tables.specs.Printed.{IsPrinted};
+ghost use Rattle.page_tables.specs.Reports.{change_lines, left_line, misfit_lines, not_text_line};
+ghost use Rattle.page_tables.specs.Widths.{display_width};
+
+use crate::changes::changes_of;
+use crate::formatted::{Made, becomes_other, is_left, made_of};
+use crate::marks::{Mark, marks_of_page};
+use crate::misfits::misfits;
+use crate::reports::{push_changes, push_left, push_misfits, push_not_text};
+use crate::widths::DisplayWidths;
+use std::alloc::{AllocError, Global};
+use std::str::from_utf8;
+
+/// What is made and said of a page.
+#[derive(Drop)]
+pub struct Look {
+    /// What it becomes.
+    pub made: Made,
+    /// The lines that name what is left as it is.
+    pub notes: String,
+    /// The lines that name the tables that change, if they are asked for.
+    pub lines: String,
+}
+
+impl Look {
+    /// What becomes of the page: itself, with its tables laid out.
+    pub fn text<'a>(&'a self, page: &'a [u8]) -> &'a [u8]
+        ensures { result.now ≡ made_text page.now self.now.made }
+    {
+        match &self.made {
+            Made::Becomes(text) => text.as_bytes(),
+            Made::Stays | Made::IsLeft => page,
+        }
+    }
+
+    /// Whether the page becomes another text.
+    pub fn changes(&self) -> bool
+        ensures { result ≡ becomes_other self.now.made }
+    {
+        becomes_other(&self.made)
+    }
+}
+
+/// What is made and said of the page of this name. Where its tables change is said where that is
+/// asked for.
+///
+/// # Errors
+///
+/// `AllocError` where memory is refused.
+pub fn look_at_page(
+    alloc: Global,
+    name: &str,
+    page: &[u8],
+    checks: bool,
+) -> Result<Look, AllocError>
+    ensures said { IfOk result (λ look. IsSaid checks name.now page.now (made_text page.now look.made)
+        (string_bytes look.notes) (string_bytes look.lines)) }
+    ensures printed { IfOk result (λ look. IsPrinted page.now (made_text page.now look.made)) }
+    ensures changes { IfOk result (λ look. becomes_other look.made
+        ≡ not (bytes_eq (made_text page.now look.made) page.now)) }
+{
+    match from_utf8(page) {
+        Ok(text) => look_at_text(alloc, name, text, checks),
+        Err(_) => look_at_bytes(alloc, name),
+    }
+}
+
+// The same of a page that is a text.
+fn look_at_text(alloc: Global, name: &str, page: &str, checks: bool) -> Result<Look, AllocError>
+    ensures look { IfOk result (λ look. IsLook checks name.now page.now (made_text page.now look.made)
+        (string_bytes look.notes) (string_bytes look.lines)) }
+    ensures changes { IfOk result (λ look. becomes_other look.made
+        ≡ not (bytes_eq (made_text page.now look.made) page.now)) }
+{
+    let marks = marks_of_page(alloc, page)?;
+    let made = made_of(alloc, page, &DisplayWidths, &marks)?;
+    let notes = notes_of(alloc, name, page.as_bytes(), &marks, is_left(&made))?;
+    let lines = lines_of(alloc, name, page, &marks, &made, checks)?;
+    Ok(Look { made, notes, lines })
+}
+
+// What is said of a page with these tables that is left as it is, or of which tables are.
+fn notes_of(
+    alloc: Global,
+    name: &str,
+    page: &[u8],
+    marks: &[Mark],
+    left: bool,
+) -> Result<String, AllocError>
+    ensures { IfOk result (λ notes. string_bytes notes
+        ≡ misfit_lines name.now page.now (misfits page.now (map mark_view marks.now))
+        ++ (if left then left_line name.now else [])) }
+{
+    let rows = misfits(alloc, page, marks)?;
+    let mut notes = String::new(alloc);
+    push_misfits(&mut notes, name, page, &rows)?;
+    if left {
+        push_left(&mut notes, name)?;
+    }
+    Ok(notes)
+}
+
+// Where a page with these tables changes of which this is made, if that is asked for.
+fn lines_of(
+    alloc: Global,
+    name: &str,
+    page: &str,
+    marks: &[Mark],
+    made: &Made,
+    checks: bool,
+) -> Result<String, AllocError>
+    requires { becomes_other made.now ≡ not (bytes_eq (made_text page.now made.now) page.now) }
+    ensures { IfOk result (λ lines. string_bytes lines
+        ≡ (if checks then change_lines name.now page.now
+        (changes_of display_width page.now (map mark_view marks.now) (made_text page.now made.now))
+        else [])) }
+{
+    let mut lines = String::new(alloc);
+    if !checks {
+        return Ok(lines);
+    }
+    let heads = changes_of(alloc, page, &DisplayWidths, marks, made)?;
+    push_changes(&mut lines, name, page.as_bytes(), &heads)?;
+    Ok(lines)
+}
+
+// What is said of a page that is not UTF-8.
+fn look_at_bytes(alloc: Global, name: &str) -> Result<Look, AllocError>
+    ensures stays { IfOk result (λ look. look.made ≡ Made.Stays) }
+    ensures notes { IfOk result (λ look. string_bytes look.notes ≡ not_text_line name.now) }
+    ensures lines { IfOk result (λ look. string_bytes look.lines ≡ []) }
+{
+    let mut notes = String::new(alloc);
+    push_not_text(&mut notes, name)?;
+    Ok(Look {
+        made: Made::Stays,
+        notes,
+        lines: String::new(alloc),
+    })
+}

@@ -1,0 +1,46 @@
+//! What the words of the command line ask to do with pages.
+ghost use Rattle.std.specs.Prelude.{◌≡◌};
+ghost use Rattle.page_tables.specs.Words.{is_check, task_for, task_of};
+
+use page_programs::words::has_option;
+
+/// What is done with each page.
+#[derive(Clone, Copy)]
+pub enum Task {
+    /// It is printed with its tables laid out.
+    Print,
+    /// Where a table is not laid out is printed.
+    Check,
+    /// Its file is replaced.
+    Replace,
+}
+
+/// What the words ask for.
+pub(crate) fn task_of(words: &[&str]) -> Task
+    ensures { result ≡ task_of words.now }
+{
+    if has_option(words, "--check") {
+        return Task::Check;
+    }
+    if has_option(words, "--write") {
+        return Task::Replace;
+    }
+    Task::Print
+}
+
+/// What is done with the page of this name: standard input can't be replaced, and is printed.
+pub(crate) fn task_for(task: Task, name: &str) -> Task
+    ensures { result ≡ task_for task name.now }
+{
+    match task {
+        Task::Replace if name == "-" => Task::Print,
+        _ => task,
+    }
+}
+
+/// Whether it is said where tables change.
+pub(crate) fn is_check(task: Task) -> bool
+    ensures { result ≡ is_check task }
+{
+    matches!(task, Task::Check)
+}
