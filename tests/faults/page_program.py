@@ -63,17 +63,17 @@ def unread_of(kind):
     return [kind("help", "--help", b"", shown), kind("version", "--version", b"", b"%s " % kind.program + (TOP / "VERSION").read_bytes())]
 
 
-def named_of(kind, a_paragraph, under=lambda name, shown: shown):
-    """Words that name files, and what is then printed, said on standard error, and answered; with what is printed of `a`, and how that
-    of a page is printed under its name."""
+def named_of(kind, a_paragraph, under=lambda name, shown: shown, notes=lambda name: b""):
+    """Words that name files, and what is then printed, said on standard error, and answered; with what is printed of `a`, how that
+    of a page is printed under its name, and what is said of it."""
     folder = TOP / "crates" / kind.program.decode()
     args = folder / "args"
     words = args.read_text().split() if args.exists() else []
     file = str(folder / "stdin")
-    shown = under(file, (folder / "stdout").read_bytes())
+    shown, said = under(file, (folder / "stdout").read_bytes()), notes(file)
     return [
-        ("a file", [*words, file], shown, b"", 0),
-        ("a file between the input and itself", [*words, file, "-", "--", file], shown + a_paragraph + shown, b"", 0),
-        ("no such file", [*words, file, "none", file], shown, b"%s: none: No such file or directory\n" % kind.program, 3),
+        ("a file", [*words, file], shown, said, 0),
+        ("a file between the input and itself", [*words, file, "-", "--", file], shown + a_paragraph + shown, said + said, 0),
+        ("no such file", [*words, file, "none", file], shown, b"%s%s: none: No such file or directory\n" % (said, kind.program), 3),
         ("a folder", [*words, "/", file], b"", b"%s: /: Is a directory\n" % kind.program, 3),
     ]

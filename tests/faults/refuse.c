@@ -9,17 +9,22 @@
  *   FAULTS_ENDLESS=N       each read gives N bytes `x`
  *   FAULTS_WRITE_FAIL=N    the N-th write to descriptor 1 fails
  *   FAULTS_WRITE_SHORT=N   the N-th write takes one byte
- *   FAULTS_WRITE_SIZE=N    each write takes at most N bytes
+ *   FAULTS_WRITE_SIZE=N    each write takes at most N bytes, also one to a file
+ *   FAULTS_STEP_FAIL=N     the N-th step that replaces a file fails: opening one to be written, writing to it, giving it permissions,
+ *                          bringing it to the disk, or giving it another name
  *   FAULTS_ERROR_FAIL=N    the N-th write to descriptor 2 fails
  *   FAULTS_ERRNO=N         the errno of a read or write that fails; 0: it moves no byte, and is no error
  *   FAULTS_TELL=N          the descriptor on which it tells
  */
 #define _GNU_SOURCE
 #include <errno.h>
+#include <fcntl.h>
+#include <stdarg.h>
 #include <stddef.h>
 #include <stdio.h>
 #include <stdlib.h>
 #include <string.h>
+#include <sys/stat.h>
 #include <sys/syscall.h>
 #include <unistd.h>
 
@@ -31,10 +36,10 @@ extern void __libc_free(void *);
 
 /* what the environment asks for */
 static long refuse, refuse_from, read_fail, read_size, read_short, endless;
-static long write_fail, write_size, write_short, error_fail, fail_errno, tell;
+static long write_fail, write_size, write_short, error_fail, step_fail, fail_errno, tell;
 
 /* how many there were, blocks that were not freed among it, and how many bytes the last request was for */
-static long requests, refused, live, last_size, reads, writes, errors;
+static long requests, refused, live, last_size, reads, writes, errors, steps;
 
 /* the requests up to the line `ready`, to the first read and to the first write to descriptor 2 */
 static long at_ready = -1, at_first_read = -1, at_first_error = -1;
@@ -50,6 +55,7 @@ __attribute__((constructor)) static void begin(void) {
   read_short = asked("FAULTS_READ_SHORT"), endless = asked("FAULTS_ENDLESS");
   write_fail = asked("FAULTS_WRITE_FAIL"), write_size = asked("FAULTS_WRITE_SIZE");
   write_short = asked("FAULTS_WRITE_SHORT"), error_fail = asked("FAULTS_ERROR_FAIL");
+  step_fail = asked("FAULTS_STEP_FAIL");
   fail_errno = asked("FAULTS_ERRNO"), tell = asked("FAULTS_TELL");
   requests = refused = live = 0;
 }
@@ -57,9 +63,9 @@ __attribute__((constructor)) static void begin(void) {
 __attribute__((destructor)) static void end(void) {
   char text[400];
   int length = snprintf(text, sizeof text,
-                        "requests %ld\nrefused %ld\nlive %ld\nlast_size %ld\nreads %ld\nwrites %ld\nerrors %ld\n"
+                        "requests %ld\nrefused %ld\nlive %ld\nlast_size %ld\nreads %ld\nwrites %ld\nerrors %ld\nsteps %ld\n"
                         "at_ready %ld\nat_first_read %ld\nat_first_error %ld\n",
-                        requests, refused, live, last_size, reads, writes, errors, at_ready, at_first_read, at_first_error);
+                        requests, refused, live, last_size, reads, writes, errors, steps, at_ready, at_first_read, at_first_error);
   if (tell > 0)
     syscall(SYS_write, tell, text, (size_t)length);
 }
@@ -119,6 +125,9 @@ static ssize_t failed(void) {
   return fail_errno ? -1 : 0;
 }
 
+/* Counts a step that replaces a file, and says whether it fails. */
+static int step_fails(void) { return ++steps == step_fail; }
+
 /* How many bytes one call may move. */
 static size_t moved(long call, long short_call, long most, size_t size) {
   if (call == short_call && size > 1)
@@ -148,7 +157,7 @@ ssize_t write(int to, const void *bytes, size_t size) {
     return errors == error_fail ? failed() : syscall(SYS_write, to, bytes, size);
   }
   if (to != 1)
-    return syscall(SYS_write, to, bytes, size);
+    return step_fails() ? failed() : syscall(SYS_write, to, bytes, moved(0, -1, write_size, size));
   if (at_ready < 0 && size == 6 && !memcmp(bytes, "ready\n", 6))
     at_ready = requests;
   if (++writes == write_fail)
@@ -158,3 +167,21 @@ ssize_t write(int to, const void *bytes, size_t size) {
 
 /* the name by which the C library's own parts, and what is linked with them, write */
 ssize_t __write(int to, const void *bytes, size_t size) { return write(to, bytes, size); }
+
+int open(const char *path, int flags, ...) {
+  va_list more;
+  va_start(more, flags);
+  int mode = flags & O_CREAT ? va_arg(more, int) : 0;
+  va_end(more);
+  if ((flags & O_ACCMODE) != O_RDONLY && step_fails())
+    return (int)failed();
+  return (int)syscall(SYS_openat, AT_FDCWD, path, flags, mode);
+}
+
+int fchmod(int file, mode_t mode) { return step_fails() ? (int)failed() : (int)syscall(SYS_fchmod, file, mode); }
+
+int fsync(int file) { return step_fails() ? (int)failed() : (int)syscall(SYS_fsync, file); }
+
+int rename(const char *from, const char *to) {
+  return step_fails() ? (int)failed() : (int)syscall(SYS_renameat2, AT_FDCWD, from, AT_FDCWD, to, 0);
+}

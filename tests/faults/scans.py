@@ -2,12 +2,17 @@
 3 and a word on why. What they are run on stands in inputs.py and pages.py, and is called `inputs` here."""
 import errno
 import os
+import tempfile
+from pathlib import Path
+
+from page_program import reason
 
 # How many bytes a read of a long input gives.
 PAGE = 4_096
 HALF_GIBIBYTE = 1 << 29
 TOO_MANY = 10_000
 FAILING_READS = (errno.EIO, errno.EINTR, errno.EAGAIN)
+FAILING_STEPS = (errno.EIO, errno.ENOSPC)
 FAILING_WRITES = (errno.EPIPE, errno.ENOSPC, errno.EBADF, errno.EIO, 0)
 
 
@@ -170,6 +175,68 @@ def named_files(program, inputs, tally):
         tally.check(f"{program.name}, {name}", (run.out, run.err, run.status) == (out, err, status), run)
 
 
+class Replaced:
+    """A file alone in its folder, and what becomes of it by --write."""
+
+    def __init__(self, program, case, room):
+        self.program = program
+        self.name, self.before, self.after, notes = case
+        self.file = Path(room) / "page.md"
+        self.notes = b"".join(os.fsencode(self.file) + it for it in notes)
+
+    def run(self, **asked):
+        self.file.write_bytes(self.before)
+        self.file.chmod(0o640)
+        return self.program.run(["--write", str(self.file)], **asked)
+
+    def holds(self, held):
+        """The file holds this, has its permissions, and stands alone."""
+        is_alone = [it.name for it in self.file.parent.iterdir()] == [self.file.name]
+        return is_alone and self.file.read_bytes() == held and self.file.stat().st_mode & 0o777 == 0o640
+
+    def is_done(self, run):
+        return (run.out, run.err, run.status) == (b"", self.notes, 0) and self.holds(self.after)
+
+    def is_refused(self, run, number):
+        said = b"%s: %s: not replaced: %s\n" % (self.program.name.split(".")[0].encode(), os.fsencode(self.file), reason(number))
+        return (run.out, run.err, run.status) == (b"", self.notes + said, 3) and self.holds(self.before)
+
+    def is_without_memory(self, run):
+        """Refused before or after it is said what is left as it is."""
+        return run.out == b"" and run.status == 3 and run.err.startswith((self.notes, b"cmark_tables: ")) and self.holds(self.before)
+
+
+def failing_steps(program, case, number, tally):
+    """Each step that replaces a file fails in turn; then the file stands as it was. An interrupted one but the last is made again."""
+    with tempfile.TemporaryDirectory() as room:
+        it = Replaced(program, case, room)
+        for n in range(1, TOO_MANY):
+            run = it.run(step_fail=n, errno=number, write_size=5)
+            what = f"{program.name} {it.name}, step {n} with {errno.errorcode[number]}"
+            if run.count("steps") < n:
+                tally.check(f"{what}: fewer", run.counts and it.is_done(run), run)
+                break
+            is_again = number == errno.EINTR and it.is_done(run)
+            tally.check(what, is_again or it.is_refused(run, number), run)
+        least = 0 if it.before == it.after else 5 + len(it.after) // 5
+        tally.check(f"{program.name} {it.name}, steps that failed", n > least, why=f"{n} of {least}")
+
+
+def replaced_without_memory(program, case, tally):
+    """Each request for memory is refused in turn; then the file stands as it was."""
+    with tempfile.TemporaryDirectory() as room:
+        it = Replaced(program, case, room)
+        for how in ("refuse", "refuse_from"):
+            for n in range(1, TOO_MANY):
+                run = it.run(**{how: n})
+                if run.count("refused") < 1:
+                    tally.check(f"{program.name} {it.name}, replaced, {how}: fewer than {n}", run.counts and it.is_done(run), run)
+                    break
+                well = it.is_done(run) or it.is_without_memory(run)
+                tally.check(f"{program.name} {it.name}, replaced, {how} {n}", well and run.count("live") == 0, run)
+            tally.check(f"{program.name} {it.name}, replaced, {how}: requests that were refused", n > 1)
+
+
 def run_scans(program, inputs, tally):
     for scan in inputs.SMALL + inputs.large():
         refused_memory(program, scan, tally)
@@ -193,6 +260,10 @@ def run_scans(program, inputs, tally):
     other_words(program, inputs, tally)
     failing_errors(program, inputs, tally)
     named_files(program, inputs, tally)
+    for case in getattr(inputs, "REPLACED", []):
+        for number in (*FAILING_STEPS, errno.EINTR):
+            failing_steps(program, case, number, tally)
+        replaced_without_memory(program, case, tally)
     for scan in inputs.PLAIN:
         real_faults(program, scan, tally)
         endless_input(program, inputs, scan, tally)

@@ -1,0 +1,2 @@
+/* Stands for cmark_tables in the tests of tests/faults/run. */
+#include "cmark_blocks.c"

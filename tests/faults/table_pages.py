@@ -1,0 +1,86 @@
+"""What cmark_tables is run on: its words, its input or a file, and what it then prints, says and answers with ample memory."""
+import page_program
+from page_program import Page, complaints_of, named_of, unread_of, usage_of
+
+KNOWN, OTHER = page_program.KNOWN, page_program.OTHER
+
+# How many reads and writes a run on a long input makes at least.
+MANY = 100
+
+# Reads are made as long as there are bytes.
+READS = None
+
+
+class Tables(Page):
+    """A page whose text is written by one write, after all of it is read and what is said of its tables; before that nothing is."""
+
+    program = b"cmark_tables"
+
+    def write_fault(self, number):
+        return self.err + super().write_fault(number)
+
+
+MISFIT = b"row has more cells than its table has columns, and the table is left as it is\n"
+EMPTY = b"row has no cell, and its table is left as it is\n"
+FORMS = b"usage: cmark_tables [--check | --write] [--] [FILE ..]\n       cmark_tables -h | --help | --version\n"
+USAGE, COMPLAINTS = usage_of(Tables.program, FORMS), complaints_of(Tables.program, FORMS)
+UNREAD = unread_of(Tables)
+NAMED = named_of(Tables, b"a", notes=lambda name: b"%s:27:1: %s%s:43:1: %s" % (name.encode(), MISFIT, name.encode(), EMPTY))
+
+ROUGH, SMOOTH = b"a|b\n-|-:\n1|2\n", b"| a   |   b |\n| --- | --: |\n| 1   |   2 |\n"
+
+A_TABLE = Tables("a table", "", ROUGH, SMOOTH)
+TWO = b"# x\n\n" + ROUGH + b"\n> " + ROUGH.replace(b"\n", b"\n> ")
+A_CHECK = Tables("a check", "--check", TWO, b"-:3:1: table is not laid out\n-:7:3: table is not laid out\n", 1)
+A_MISFIT = Tables("a row of too many cells", "", b"|a|\n|-|\n|b|c|\n", b"|a|\n|-|\n|b|c|\n", err=b"-:3:1: " + MISFIT)
+
+# One of each form.
+PLAIN = [A_TABLE, A_CHECK, A_MISFIT]
+
+SMALL = [
+    *PLAIN,
+    Tables("a check of a table that is laid out", "--check", SMOOTH, b""),
+    Tables("standard input with --write", "--write", ROUGH, SMOOTH),
+    Tables("a check that writes nothing", "--write --check", ROUGH, b"-:1:1: table is not laid out\n", 1),
+    Tables("not UTF-8", "", b"\xff\n", b"\xff\n", err=b"-:1:1: page is not UTF-8, and is left as it is\n"),
+    Tables("a paragraph", "", b"a | b\n", b"a | b\n"),
+    Tables("no page", "", b"", b""),
+]
+
+# Files that --write is run on, each with what it holds before and after, and what is said of its lines.
+REPLACED = [
+    ("a table", ROUGH, SMOOTH, []),
+    ("a table that is laid out", SMOOTH, SMOOTH, []),
+    ("two tables", ROUGH + b"\n|a|\n|-|\n|\n", SMOOTH + b"\n|a|\n|-|\n|\n", [b":7:1: " + EMPTY]),
+    ("no table", b"a | b\n", b"a | b\n", []),
+    ("not UTF-8", b"\xff\n", b"\xff\n", [b":1:1: page is not UTF-8, and is left as it is\n"]),
+]
+
+
+def rows(count):
+    return Tables("rows", "", b"|a|\n|-|\n" + b"|b|\n" * count, b"| a   |\n| --- |\n" + b"| b   |\n" * count)
+
+
+def wide(size):
+    line = b"| %s |\n"
+    return Tables("a wide cell", "", b"|a|\n|-|\n|%s|\n" % (b"b" * size), b"".join(line % it for it in (b"a".ljust(size), b"-" * size, b"b" * size)))
+
+
+def open_code(count):
+    page = b"```\n" + b"\n" * count
+    return Tables("open code", "", page, page)
+
+
+def long():
+    """A page that takes more than MANY reads of 4,096 bytes."""
+    return [rows(110_000)]
+
+
+def passing():
+    """None: a page is held whole."""
+    return []
+
+
+def large():
+    """Pages that ask for memory some dozens of times, where each block would ask for its own."""
+    return [wide(1 << 20), open_code(1 << 20)]
