@@ -1,7 +1,8 @@
 -- What becomes of the pages that the words name.
-use Rattle.std.specs.Prelude.{ℕ, Bool, true, false, not, ◌||◌, ◌≡◌, ◌≢◌, ◌⊎◌, ⊤, List, [], ◌∷◌, Option, Result, Ok, Err, IfSome}
+use Rattle.std.specs.Prelude.{ℕ, Bool, true, false, not, ◌||◌, ◌≡◌, ◌≢◌, ◌⊎◌, ⊤, List, [], ◌∷◌, Option, Result, Ok, Err, IfSome, if◌then◌else◌}
 use Rattle.std.specs.Io.KnownBytes.{Appends, IsAtEnd}
 use Rattle.std.specs.Str.{bytes_eq}
+use Rattle.program_faults.specs.Faults.{AppendsPrefix}
 use Rattle.program_faults.specs.Steps.{AreReads, HasEnded, HasFailed, HasRefused, IsGiven}
 use Rattle.program_faults.specs.declared.reasons.Reason.{Reason}
 use Rattle.program_faults.specs.declared.reasons.Reason.TheVariants.{Interrupted}
@@ -10,7 +11,7 @@ use Rattle.page_programs.specs.declared.stops.Stop.{Stop}
 use Rattle.page_programs.specs.declared.stops.Stop.TheVariants.{Read, Write, Memory}
 use Rattle.page_tables.specs.Files.{AreKept, IsReplaced}
 use Rattle.page_tables.specs.Looks.{IsSaid}
-use Rattle.page_tables.specs.Words.{task_for}
+use Rattle.page_tables.specs.Words.{is_check, task_for}
 use Rattle.page_tables.specs.declared.halts.Halt.{Halt}
 use Rattle.page_tables.specs.declared.halts.Halt.TheVariants.{OfPage, OfFile}
 use Rattle.page_tables.specs.declared.words.Task.{Task}
@@ -64,6 +65,10 @@ pub data AreSteps {S E : Type 0} (steps : List ℕ → S → S → Result Bool E
   last_step : (name : List ℕ) (names : List (List ℕ)) (old new : S) (why : E)
       → steps name old new (Err why) → AreSteps steps (name ∷ names) old new (Err (name, why))
 
+-- what is printed of a page: its text, or where its tables change
+abbrev pub printed : Task → List ℕ → List ℕ → List ℕ
+printed task text lines = if is_check task then lines else text
+
 module _ {F W V : Type 0} (contents : W → Option (List ℕ)) (writes : W → List ℕ → Result ℕ Reason → W → Type 0)
     (fault_writes : V → List ℕ → Result ℕ Reason → V → Type 0) (holds : F → List ℕ → Option (List ℕ)) where
   -- This is made and said of a page, and what is said of tables that are left as they are is given to the faults.
@@ -84,14 +89,15 @@ module _ {F W V : Type 0} (contents : W → Option (List ℕ)) (writes : W → L
       IsNoted false name page text lines old new × (new.output ≡ old.output)
       × IsReplaced holds name page text old.files new.files × (changed ≡ false)
 
-  -- Why a page is not done: memory is refused, and nothing is changed; the output can't be written, and no file is changed; or the file
-  -- can't be replaced, and each file stands as it was.
+  -- Why a page is not done: memory is refused, and nothing is changed; or only a part at the front can be written of what is printed, and no
+  -- file is changed; or the file can't be replaced, and each file stands as it was.
   abbrev pub IsHalted : Task → List ℕ → List ℕ → List ℕ → List ℕ → Outside F W V → Outside F W V → Halt → Type 0
   IsHalted task name page text lines old new (OfPage (Read why)) = ⊥
   IsHalted task name page text lines old new (OfPage Memory) = new ≡ old
   IsHalted task name page text lines old new (OfPage (Write why)) =
-      (checks : Bool) × IsNoted checks name page text lines old new × (new.files ≡ old.files)
-      × (why ≢ Interrupted → HasRefused writes why new.output)
+      IsNoted (is_check task) name page text lines old new
+      × AppendsPrefix (contents old.output) (contents new.output) (printed task text lines)
+      × (new.files ≡ old.files) × (why ≢ Interrupted → HasRefused writes why new.output)
   IsHalted task name page text lines old new (OfFile why) =
       IsNoted false name page text lines old new × (new.output ≡ old.output) × AreKept holds old.files new.files
 

@@ -50,3 +50,35 @@ returns-in-Ok-replace_with g c = rw c.in-Replace.is (
     refl,
   ),
 )
+
+pub returns-in-Print : goal.returns-in-Print
+returns-in-Print g c = rw c.in-Print.is (
+  made_text c.args.page.now c.in-Ok.look.made,
+  string_bytes c.in-Ok.look.lines,
+  (
+    record {
+      notes = string_bytes c.in-Ok.look.notes;
+      is_said = rw (c.is_check.ensures ∙ ap is_check c.in-Print.is) at c.in-Ok.ensures.said;
+      is_given = rw c.as_str.ensures.value at c.complain.ensures.given;
+    },
+    rw c.text.ensures at c.write_bytes.ensures.front,
+    refl,
+    c.in-Err.ensures.refused,
+  ),
+)
+
+pub returns-in-Check : goal.returns-in-Check
+returns-in-Check g c = rw c.in-Check.is (
+  made_text c.args.page.now c.in-Ok.look.made,
+  string_bytes c.in-Ok.look.lines,
+  (
+    record {
+      notes = string_bytes c.in-Ok.look.notes;
+      is_said = rw (c.is_check.ensures ∙ ap is_check c.in-Check.is) at c.in-Ok.ensures.said;
+      is_given = rw c.as_str.ensures.value at c.complain.ensures.given;
+    },
+    rw c.as_str-in-Check.ensures.value at c.write_whole.ensures.front,
+    refl,
+    c.in-Err-write_whole.ensures.refused,
+  ),
+)
