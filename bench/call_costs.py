@@ -92,7 +92,7 @@ def sides(scratch, mode, inputs, calls, env):
     if done.returncode:
         stop(f"{' '.join(words)} ended with {done.returncode}")
     lines = [line.split("\t") for line in done.stdout.splitlines()]
-    return {(it[0], it[1]): (int(it[2]), dict(pair.split("=") for pair in it[3:] if pair)) for it in lines}
+    return {(line[0], line[1]): (int(line[2]), dict(pair.split("=") for pair in line[3:] if pair)) for line in lines}
 
 
 def instructions(scratch, inputs, calls, env, lane=""):
@@ -117,7 +117,7 @@ def instructions(scratch, inputs, calls, env, lane=""):
     def cost(by_rounds):
         return (by_rounds[max(by_rounds)] - by_rounds[0]) / max(by_rounds)
 
-    return {key: {side: max(cost(it), 1) for side, it in by_side.items()} for key, by_side in totals.items()}
+    return {key: {side: max(cost(item), 1) for side, item in by_side.items()} for key, by_side in totals.items()}
 
 
 def number(value):
@@ -157,7 +157,7 @@ def row(key, title, places, measured, others):
 
     def ratios(by_key):
         ours = per_call(by_key, "ours")
-        return [it / ours if it and ours else None for it in (per_call(by_key, side) for side in others)]
+        return [other / ours if other and ours else None for other in (per_call(by_key, side) for side in others)]
 
     cells = [title, key[0].replace(" (x2)", ", twice"), str(places)]
     for side in ["ours", *others]:
@@ -176,9 +176,9 @@ def is_slow(by_time):
 def counted(rows, others, least):
     """A line for each side: how many rows are below 1, or below 0.9 for made texts; and how many are slow."""
     for index, name in enumerate(others.values()):
-        ratios = [it[0][index] for it in rows if it[0][index] is not None]
+        ratios = [row[0][index] for row in rows if row[0][index] is not None]
         below = sum(ratio < least for ratio in ratios)
-        slow = sum(is_slow(it[1][index]) for it in rows)
+        slow = sum(is_slow(row[1][index]) for row in rows)
         yield f"Beside {name}: {below} of {len(ratios)} rows below {least:.2f}; {slow} below {SLOW:.2f} by time."
 
 
@@ -192,16 +192,16 @@ def report(scratch, inputs, calls, env):
     if missing:
         stop(f"there is nothing to measure of {' '.join(missing)}")
     def pick(mode, **more):
-        return {key: it for key, (_, it) in sides(scratch, mode, inputs, calls, {**env, **more}).items()}
+        return {key: item for key, (_, item) in sides(scratch, mode, inputs, calls, {**env, **more}).items()}
 
     measured = cost, pick("time"), pick("allocations", LD_PRELOAD=f"{scratch}/count_allocations.so")
     columns = ["ns", "instructions", "allocations + growths"] + (["growth"] if inputs[0] == "hostile" else [])
     head = ["call", "input", "places"] + columns
     head += [f"{name}: {column}" for name in others.values() for column in columns]
     ratios = ["ratio", "ratio of times"]
-    head += ratios if len(others) == 1 else [f"{name}: {it}" for name in others.values() for it in ratios]
+    head += ratios if len(others) == 1 else [f"{name}: {ratio}" for name in others.values() for ratio in ratios]
     rows = [row(key, names[key[1]], answers[key][0], measured, others) for key in wanted]
-    rows.sort(key=lambda it: [ratio if ratio is not None else math.inf for ratio in it[0]])
+    rows.sort(key=lambda row: [ratio if ratio is not None else math.inf for ratio in row[0]])
     print(table(head, [cells for _, _, cells in rows]))
     differ = [f"{call} on {what}" for (what, call), (_, sums) in answers.items() if len(set(sums.values())) > 1]
     if others and not any(len(sums) > 1 for _, sums in answers.values()):

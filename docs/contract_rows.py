@@ -49,8 +49,8 @@ def is_lemma(name):
 
 def allowed_names(crate, calls, names):
     """What a row may name: clauses and words of its calls, of private functions that it names, and what is public."""
-    private = [it for it in items_of(crate) if it.kind == "fn" and not it.public and it.short in names]
-    allowed = {it for known in crates() for item in public_items(known) for it in (item.name, item.short)}
+    private = [item for item in items_of(crate) if item.kind == "fn" and not item.public and item.short in names]
+    allowed = {entry for known in crates() for item in public_items(known) for entry in (item.name, item.short)}
     for item in [*calls, *private]:
         allowed |= {item.short, *item.clauses, *re.findall(r"[^\W\d][\w'-]*", item.contract)}
     return allowed | {name for name in names if is_lemma(name)} | set(crates())
@@ -60,7 +60,7 @@ def faults_of_row(crate, row):
     """What one row names that is neither in the contracts of its calls nor public."""
     heads, text, title = row
     calls, missing = calls_named(crate, heads)
-    yield from [f"{title}: there is no call {it}" for it in missing]
+    yield from [f"{title}: there is no call {item}" for item in missing]
     names = [found_text for found_text in re.findall(r"`([^`]+)`", text) if NAME.match(found_text)]
     general = [] if heads else [item for item in public_items(crate) if item.kind != "type"]
     allowed = allowed_names(crate, calls or general, names)
@@ -90,7 +90,7 @@ def faults_of_answers(text):
     for call, clause, lemma in rows:
         if call not in calls or clause not in calls[call].clauses or not is_lemma(lemma):
             yield f"one answer: {call} has no clause {clause}, or there is no lemma {lemma}"
-    yield from [f"one answer: {it.name} is missing" for it in calls.values() if "only" in it.clauses and it.name not in named]
+    yield from [f"one answer: {call.name} is missing" for call in calls.values() if "only" in call.clauses and call.name not in named]
 
 
 def faults_of_rows(text):
@@ -107,9 +107,9 @@ def faults_of_rows(text):
             first, names = said.setdefault((crate, item.name), (title, set()))
             names.update(re.findall(r"`([^`]+)`", body))
     for crate in sorted({row[0] for row in rows} & ours):
-        for item in [it for it in public_items(crate) if it.kind in ("fn", "impl")]:
+        for item in [item for item in public_items(crate) if item.kind in ("fn", "impl")]:
             title, names = said.get((crate, item.name), (None, set()))
-            missing = [it for it in words_of(item, ours) if it not in names | GENERAL]
+            missing = [word for word in words_of(item, ours) if word not in names | GENERAL]
             if title is None:
                 yield f"no row names {item.name}"
             elif missing:

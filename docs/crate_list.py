@@ -28,7 +28,7 @@ def made_of(crate):
     """The crate and, in the order in which they are met, all crates below it. Those of the kit have no line and are left out."""
     found = [crate]
     for name in found:
-        found += [it for it in libraries()[name] if it in libraries() and it not in found]
+        found += [library for library in libraries()[name] if library in libraries() and library not in found]
     return found
 
 

@@ -85,14 +85,14 @@ def of_parser():
         (page, "EXPECTED.md), {} fragments made of pieces", [found["fragments"]]),
         (page, "3 of docs | {} of {} | {}; {} comments", [original, original, swapped, WORDS[original - swapped]]),
         (page, "| {} fragments, {} MB |", [found["fragments"], f"{found['bytes'] / 1e6:.1f}"]),
-        (page, "| {} differ, all of known kinds; of {} calls {} are answered", [found[it] for it in ("differ", "calls", "answers")]),
+        (page, "| {} differ, all of known kinds; of {} calls {} are answered", [found[name] for name in ("differ", "calls", "answers")]),
         (page, "`totals` lets {}.", [most]),
     ]
 
 
 def of_packages():
     made = totals("packages/javascript/totals")["made_pages"]
-    most, most_wide = (number("packages/javascript/test", rf"(?m)^{it}=(\d+)$") // 1000 for it in ("most", "most64"))
+    most, most_wide = (number("packages/javascript/test", rf"(?m)^{name}=(\d+)$") // 1000 for name in ("most", "most64"))
     asking = len(re.findall(r":\s+(?:\* )?MDS_NO_MEMORY\.", text_of("packages/c/include/proved_markdown.h")))
     return [
         ("README.md", "WebAssembly module of at most {} KB", [most]),
@@ -123,7 +123,7 @@ def pattern_of(words):
 def faults_of(page, words, figures, text):
     """What is wrong with a row, and the text of the page with its figures."""
     found = list(pattern_of(words).finditer(text))
-    wanted = [printed(it) for it in figures]
+    wanted = [printed(figure) for figure in figures]
     if len(found) != 1:
         return f"{page}: {len(found)} places have the words: {words}", text
     if list(found[0].groups()) == wanted:

@@ -8,7 +8,7 @@ from rattle_source import TOP, files_below, public_items, text_of
 
 MAP = "docs/MAP.md"
 USES = "cmark_uses"
-FOLDERS = [it.relative_to(TOP).as_posix() for at in ("packages", "tests") for it in sorted((TOP / at).iterdir()) if it.is_dir()]
+FOLDERS = [path.relative_to(TOP).as_posix() for at in ("packages", "tests") for path in sorted((TOP / at).iterdir()) if path.is_dir()]
 FOLDERS += ["bench", "docs"]
 UNLISTED = (".pyc", ".edit", "Cargo.lock", ".wasm", ".d.mts")  # wrong bodies, and what tools make
 PARTS = {"src": ".rt", "specs": ".antt", "proofs": ".antt"}
@@ -32,13 +32,13 @@ def paragraphs_of(section):
         if not line.strip() or line.startswith(("- ", "#")):
             found.append("")
         found[-1] += " " + line.strip()
-    return [it.strip() for it in found if it.strip()]
+    return [item.strip() for item in found if item.strip()]
 
 
 def listed(section, label):
     """The names of the items that begin with a label."""
     heads = [line.removeprefix(f"- {label}: ") for line in paragraphs_of(section) if line.startswith(f"- {label}: ")]
-    return [it for line in heads for it in named(line)]
+    return [name for line in heads for name in named(line)]
 
 
 def has_calls(name, section):
@@ -50,7 +50,7 @@ def modules_of(section):
     """The modules of the constructs of a section: those that their first lines name."""
     lines = paragraphs_of(section)
     heads = [line for above, line in zip(lines, lines[1:]) if above.startswith("### ") and line.startswith("`")]
-    return [it for line in heads for it in named(re.split(r":(?: |$)", line)[0])]
+    return [name for line in heads for name in named(re.split(r":(?: |$)", line)[0])]
 
 
 def fits(path, module):
@@ -75,35 +75,35 @@ def files_of(crate, section):
     """The files of a crate, each with how often its section names it and whether the path rule puts it somewhere."""
     tokens = tokens_of(section)
     modules = modules_of(section) + [token[4:-3] for token in tokens if token.startswith("src/") and token.endswith(".rt")]
-    of_rule = [it for it in modules if it not in ("lib", "scanners")]
+    of_rule = [module for module in modules if module not in ("lib", "scanners")]
     for part, suffix in PARTS.items():
-        for path in [it.removeprefix(f"crates/{crate}/") for it in files_below(f"crates/{crate}/{part}", suffix)]:
-            by_rule = part != "src" and any(fits(path, it) for it in of_rule)
+        for path in [path.removeprefix(f"crates/{crate}/") for path in files_below(f"crates/{crate}/{part}", suffix)]:
+            by_rule = part != "src" and any(fits(path, word) for word in of_rule)
             by_rule |= part == "src" and path[4:-3] in modules_of(section)
-            by_rule |= only_lists(crate, path) or any(it.endswith("/") and path.startswith(it) for it in tokens)
+            by_rule |= only_lists(crate, path) or any(token.endswith("/") and path.startswith(token) for token in tokens)
             yield path, tokens[path], by_rule
 
 
 def files_of_folder(name, section):
     """The files of a folder of scripts that its section has to name, and those that it names."""
-    tokens = [it for line in paragraphs_of(section) if line.startswith("- ") for it in named(line.split(": ")[0])]
+    tokens = [name for line in paragraphs_of(section) if line.startswith("- ") for name in named(line.split(": ")[0])]
     files = [path.relative_to(TOP / name).as_posix() for path in sorted((TOP / name).rglob("*")) if path.is_file()]
     folders = [token for token in tokens if token.endswith("/") and (TOP / name / token).is_dir()]
     kept = [file for file in files if not file.endswith(UNLISTED) and not file.startswith("target/")]
-    wanted = [it for it in kept if not any(it.startswith(at) for at in folders)]
-    return [it for it in wanted if name != "docs" or not it.endswith(".md")] + folders, tokens
+    wanted = [item for item in kept if not any(item.startswith(at) for at in folders)]
+    return [word for word in wanted if name != "docs" or not word.endswith(".md")] + folders, tokens
 
 
 def calls_and_types(crate):
     """The calls, and the types, that a section of the crate has to name."""
     items = [item for item in public_items(crate) if crate != USES or item.kind == "fn" and not item.trait]
-    return [it for it in items if it.kind not in OF_TYPES], [it for it in items if it.kind in OF_TYPES]
+    return [item for item in items if item.kind not in OF_TYPES], [item for item in items if item.kind in OF_TYPES]
 
 
 def counted(ours, sections):
     """The totals that the head of the page has."""
-    with_calls = [it for it in ours if has_calls(it, sections[it])]
-    calls, types = (sum(len(calls_and_types(it)[at]) for it in with_calls) for at in (0, 1))
+    with_calls = [crate for crate in ours if has_calls(crate, sections[crate])]
+    calls, types = (sum(len(calls_and_types(crate)[at]) for crate in with_calls) for at in (0, 1))
     uses, rows = len(calls_and_types(USES)[0]), len(rows_of(text_of("docs/CONTRACTS.md")))
     return {"crates": len(ours), "calls": calls, "types": types, "uses": uses, "rows": rows}
 

@@ -106,7 +106,7 @@ def with_names(parts, label, wanted):
     for name, module in wanted:
         if name not in seen and (place := home(parts, module)) is not None:
             here = set(listed(parts[place], label))
-            beside = [it for it, its in wanted if its == module and (it in here or it == name)]
+            beside = [item for item, its in wanted if its == module and (item in here or item == name)]
             at = beside.index(name)
             parts[place] = put(parts[place], label, name, ("".join(beside[:at][-1:]), "".join(beside[at + 1 :][:1])))
     return parts
@@ -115,7 +115,7 @@ def with_names(parts, label, wanted):
 def described(path):
     """What the head of a file says that it is, in its first sentence, behind a colon."""
     try:
-        lines = [it for it in text_of(path).splitlines()[:9] if not it.startswith("#!")]
+        lines = [line for line in text_of(path).splitlines()[:9] if not line.startswith("#!")]
     except UnicodeDecodeError:
         return ""
     said = []
@@ -174,8 +174,8 @@ def with_files(crate, section):
 
 def with_uses(section):
     uses = calls_and_types(USES)[0]
-    for module in dict.fromkeys(it.module for it in uses):
-        wanted = [(it.name, module) for it in uses if it.module == module]
+    for module in dict.fromkeys(use.module for use in uses):
+        wanted = [(use.name, module) for use in uses if use.module == module]
         section = with_names([section], f"`src/{module}.rt`", wanted)[0]
     return section
 
@@ -194,10 +194,10 @@ def of_crate(crate, section):
 
 def of_folder(name, section):
     wanted, tokens = files_of_folder(name, section)
-    for it in [token for token in tokens if token not in wanted]:
-        section = without_file(section, it)
-    for it in [it for it in wanted if it not in tokens]:
-        section = with_file(section, it, f"{name}/{it}")
+    for item in [token for token in tokens if token not in wanted]:
+        section = without_file(section, item)
+    for item in [word for word in wanted if word not in tokens]:
+        section = with_file(section, item, f"{name}/{item}")
     return section
 
 

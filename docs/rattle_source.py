@@ -65,8 +65,8 @@ def without_generics(text):
     if not text.startswith("<"):
         return text.strip()
     depth = 0
-    for at, it in enumerate(text):
-        depth += (it == "<") - (it == ">")
+    for at, item in enumerate(text):
+        depth += (item == "<") - (item == ">")
         if depth == 0:
             return text[at + 1 :].strip()
     return text
@@ -110,7 +110,7 @@ def function_at(lines, start):
         has_clauses |= bool(re.match(r"\s*(requires|ensures)\b", line))
         opens = line == indent + "{" or not has_clauses and line.endswith(("{", "{}"))
         if opens and not line.endswith("{}"):
-            end = next((it for it in range(at + 1, len(lines)) if lines[it].rstrip() == indent + "}"), at)
+            end = next((number for number in range(at + 1, len(lines)) if lines[number].rstrip() == indent + "}"), at)
             return "\n".join(lines[start : at + 1]), "\n".join(lines[at + 1 : end]), end
         following = lines[at + 1].strip() if at + 1 < len(lines) else ""
         if opens or line.endswith(";") and not following.startswith(("requires", "ensures")):
@@ -125,7 +125,7 @@ def function_item(lines, at, found, block, where):
     trait, of_type = block["head"] if block and found[1] else ("", "")
     if trait:
         more, ghosts = clauses_of("\n".join(lines[block["at"] : block["end"]]))
-        names, said = [it for it in more if it not in names] + names, ghosts
+        names, said = [line for line in more if line not in names] + names, ghosts
     name = f"{of_type}::{found[3]}" if of_type else found[3]
     visible = bool(found[2]) and "(" not in found[2] or bool(trait)
     is_test = any("#[test]" in line for line in lines[max(0, at - 3) : at] if line.strip().startswith("#["))
@@ -148,53 +148,53 @@ def items_of_file(path):
         if block and at > block["end"]:
             block = None
         if re.match(r"impl\b|pub trait ", line):
-            end = next((it for it in range(at, len(lines)) if lines[it] == "}"), len(lines) - 1)
+            end = next((number for number in range(at, len(lines)) if lines[number] == "}"), len(lines) - 1)
             block = {"at": at, "end": end, "head": head_of_block(line)}
             if line.startswith("pub trait") or block["head"][0]:
                 found.append(block_item(lines, block, where))
-        elif it := re.match(r"(\s*)(pub(?:\([\w: ]+\))? )?(?:extern \"C\" )?(?:const )?fn (\w+)", line):
-            found.append(function_item(lines, at, it, block, where))
-        elif it := re.match(r"(\s*)" + TYPE.pattern, line):
-            name = f"{block['head'][1]}::{it[3]}" if it[1] and block else it[3]
+        elif match := re.match(r"(\s*)(pub(?:\([\w: ]+\))? )?(?:extern \"C\" )?(?:const )?fn (\w+)", line):
+            found.append(function_item(lines, at, match, block, where))
+        elif match := re.match(r"(\s*)" + TYPE.pattern, line):
+            name = f"{block['head'][1]}::{match[3]}" if match[1] and block else match[3]
             found.append(Item("type", name, *where, at + 1, at + 1, True))
-        elif it := PRIVATE.match(line):
+        elif match := PRIVATE.match(line):
             end = next((end for end in range(at, len(lines)) if lines[end].endswith(";")), at)
-            found.append(Item("const", it[1], *where, at + 1, end + 1))
-        elif it := PRIVATE_TYPE.match(line):
-            found.append(Item("type", it[1], *where, at + 1, at + 1))
+            found.append(Item("const", match[1], *where, at + 1, end + 1))
+        elif match := PRIVATE_TYPE.match(line):
+            found.append(Item("type", match[1], *where, at + 1, at + 1))
     return found
 
 
 @cache
 def items_of(crate):
     """All items of the code of a crate, those of its tests too."""
-    found = [it for path in files_below(f"crates/{crate}/src", ".rt") for it in items_of_file(path)]
-    return named_apart([it for it in found if it.trait != "Model"])
+    found = [item for path in files_below(f"crates/{crate}/src", ".rt") for item in items_of_file(path)]
+    return named_apart([item for item in found if item.trait != "Model"])
 
 
 def named_apart(found):
     """The items with names that say which is which."""
-    own = {it.name for it in found if it.kind == "fn" and not it.trait}
-    of_traits = [it for it in found if it.kind == "fn" and it.trait]
-    named = [it.name for it in of_traits]
-    for it in of_traits:
-        if it.name in own:
-            it.public = False
-        elif named.count(it.name) > 1 and "<" in it.trait:
-            it.name += "(" + it.trait.split("<")[1].rstrip(">") + ")"
-    shown = {(it.path, it.trait, it.of_type) for it in of_traits if it.public}
-    return [it for it in found if it.kind != "impl" or (it.path, it.trait, it.of_type) not in shown]
+    own = {item.name for item in found if item.kind == "fn" and not item.trait}
+    of_traits = [item for item in found if item.kind == "fn" and item.trait]
+    named = [item.name for item in of_traits]
+    for item in of_traits:
+        if item.name in own:
+            item.public = False
+        elif named.count(item.name) > 1 and "<" in item.trait:
+            item.name += "(" + item.trait.split("<")[1].rstrip(">") + ")"
+    shown = {(item.path, item.trait, item.of_type) for item in of_traits if item.public}
+    return [item for item in found if item.kind != "impl" or (item.path, item.trait, item.of_type) not in shown]
 
 
 def public_items(crate):
     """What a crate offers: calls, types, traits and impls, without tests and what lies in a trait."""
     traits = {item.name for item in items_of(crate) if item.kind == "trait"}
-    types = {it.name for it in items_of(crate) if it.kind in ("type", "trait") and it.public}
+    types = {item.name for item in items_of(crate) if item.kind in ("type", "trait") and item.public}
     return [
-        it
-        for it in items_of(crate)
-        if it.public and it.of_type not in traits - {it.name} and (not it.trait or it.of_type in types)
-        and "/tests" not in it.path
+        item
+        for item in items_of(crate)
+        if item.public and item.of_type not in traits - {item.name} and (not item.trait or item.of_type in types)
+        and "/tests" not in item.path
     ]
 
 
@@ -216,8 +216,8 @@ def lemmas_imported(path):
     for crate, module, words in PROOF_IMPORT.findall(text_of(path)):
         own = f"crates/{crate}/proofs/{module.replace('.', '/')}.antt"
         for word in [part.split(" as ")[0].strip() for part in words.split(",")]:
-            places = [it for it in definitions().get(word, []) if it[0].startswith(f"crates/{crate}/proofs/")]
-            yield from [(*it, word) for it in [place for place in places if place[0] == own] or places]
+            places = [place for place in definitions().get(word, []) if place[0].startswith(f"crates/{crate}/proofs/")]
+            yield from [(*item, word) for item in [place for place in places if place[0] == own] or places]
         if not words and (TOP / own).is_file():
             yield own, 1, ""
 
@@ -227,9 +227,9 @@ def words_of(item, ours):
     words, aliases = imports_of(item.path)
     text = re.sub(r"ghost use [^;]*;", "", item.contract)
     found = [match[0] for match in re.finditer(r"(?<![.\w])[^\W\d][\w'-]*", text) if words.get(match[0], [""])[0] in ours]
-    for it in re.finditer(r"(?<![.\w])(\w+)\.([\w'-]+)", text):
-        if aliases.get(it[1], [""])[0] in ours:
-            found.append(it[2])
+    for entry in re.finditer(r"(?<![.\w])(\w+)\.([\w'-]+)", text):
+        if aliases.get(entry[1], [""])[0] in ours:
+            found.append(entry[2])
     return list(dict.fromkeys(found))
 
 

@@ -48,7 +48,7 @@ def write(path, found, only=False):
         text = file.read()
         before = rows_of(path, text)
         after = {**({} if only else before), **{name: str(total) for name, total in found.items()}}
-        for name in [it for it in {**before, **after} if before.get(it) != after.get(it)]:
+        for name in [name for name in {**before, **after} if before.get(name) != after.get(name)]:
             print(f"{path}: {name}: {before.get(name, 'none')}, now {after.get(name, 'none')}", file=sys.stderr)
         head = [line for line in text.splitlines() if line.startswith("#")]
         file.seek(0)

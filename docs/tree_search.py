@@ -14,7 +14,7 @@ OPERATORS = {
 
 @cache
 def all_items():
-    return [it for crate in crates() for it in items_of(crate)]
+    return [item for crate in crates() for item in items_of(crate)]
 
 
 @cache
@@ -65,17 +65,17 @@ def tokens_of(item):
 
 def private_items(crate):
     found = [item for item in items_of(crate) if item.kind in ("fn", "const")]
-    return [it for it in found if not it.public and not it.test and not it.trait]
+    return [item for item in found if not item.public and not item.test and not item.trait]
 
 
 def private_part(item):
     """The call, and what is private and only it uses; then what is private and others use as well."""
     own, others = [item], private_items(item.crate)
     users = {other: callers_of(other) for other in others}
-    while more := [it for it in others if it not in own and users[it] and all(by in own for by in users[it])]:
+    while more := [other for other in others if other not in own and users[other] and all(by in own for by in users[other])]:
         own += more
     shared = []
-    while more := [it for it in others if it not in own + shared and any(by in own + shared for by in users[it])]:
+    while more := [other for other in others if other not in own + shared and any(by in own + shared for by in users[other])]:
         shared += more
     return own, shared
 
@@ -84,10 +84,10 @@ def callers_of(item):
     """The functions of the crate that use a function or a constant."""
     pattern = pattern_of(item)
     return [
-        it
-        for it in items_of(item.crate)
-        if it.kind == "fn" and item.short in tokens_of(it) and it is not item and not it.test
-        and (it.path.startswith((item.path, item.path[:-3] + "/")) or in_crate(item)) and pattern.search(it.body)
+        entry
+        for entry in items_of(item.crate)
+        if entry.kind == "fn" and item.short in tokens_of(entry) and entry is not item and not entry.test
+        and (entry.path.startswith((item.path, item.path[:-3] + "/")) or in_crate(item)) and pattern.search(entry.body)
     ]
 
 
@@ -153,13 +153,13 @@ def lemmas_of(item):
     while at >= 0 and lines[at].strip() and not lines[at].strip().startswith(("///", "//", "}")):
         at -= 1
     cited = re.findall(r"proofs::(?:\w+::)*([\w-]+)", "\n".join(lines[at + 1 : item.line - 1]))
-    return [(path, number, it) for it in cited for path, number in definitions().get(it, []) if "/proofs/" in path]
+    return [(path, number, word) for word in cited for path, number in definitions().get(word, []) if "/proofs/" in path]
 
 
 def lemmas_of_proofs(item):
     """The lemmas that the proof files of a call import."""
     own = proofs_of(item)
-    return [it for path in own for it in lemmas_imported(path) if it[0] not in own]
+    return [lemma for path in own for lemma in lemmas_imported(path) if lemma[0] not in own]
 
 
 def items_with_clause(name):
@@ -179,7 +179,7 @@ def implementers(trait):
 def definition_of(word, path):
     """Where the word that a file of code imports is defined."""
     words, aliases = imports_of(path)
-    places = [it for it in definitions().get(word, []) if "/specs/" in it[0]]
+    places = [place for place in definitions().get(word, []) if "/specs/" in place[0]]
     for crate, module in [words[word]] if word in words else aliases.values():
         if found := [place for place in places if place[0] == f"crates/{crate}/specs/{module}.antt"]:
             return found

@@ -54,8 +54,8 @@ static u64 count(size_t found) { return (u64)found + 1; }
 #define EACH_STRETCH(CALL, ANSWER)                                                                                       \
     u64 c_##CALL(const uint8_t *text, size_t length, const size_t *at, size_t places, size_t rounds) {                   \
         u64 sum = 0;                                                                                                     \
-        size_t room = length + length / 5 + 1;                                                                           \
-        uint8_t *buffer = malloc(room);                                                                                  \
+        size_t capacity = length + length / 5 + 1;                                                                       \
+        uint8_t *buffer = malloc(capacity);                                                                              \
         for (size_t round = 0; round < rounds; round++) {                                                                \
             size_t from = 0;                                                                                             \
             for (size_t i = 0; i < places; i++) {                                                                        \
@@ -194,8 +194,8 @@ EACH_REST(entity_html, entity(b, n))
 
 /* What is as long as its source is lent on the other side, since no change leaves the length. */
 static u64 unescaped(struct mds_text it) { return two(it.length, it.length == it.taken); }
-EACH_STRETCH(unescape_html, unescaped(mds_unescape(b, n, false, buffer, room)))
-EACH_STRETCH(unescape_table_html, unescaped(mds_unescape(b, n, true, buffer, room)))
+EACH_STRETCH(unescape_html, unescaped(mds_unescape(b, n, false, buffer, capacity)))
+EACH_STRETCH(unescape_table_html, unescaped(mds_unescape(b, n, true, buffer, capacity)))
 
 static u64 label(const uint8_t *text, size_t length, size_t place, bool in_table, uint8_t *buffer) {
     struct mds_label it = mds_scan_link_label(text, length, place, in_table, NULL, 0, buffer, length);

@@ -32,10 +32,10 @@ def find_places():
     for row, number in enumerate(hashes):
         groups.setdefault(number % SEED_COUNT, []).append(row)
     seeds, places = [0] * SEED_COUNT, [None] * len(NAMES)
-    for at in sorted(groups, key=lambda it: (-len(groups[it]), it)):
+    for at in sorted(groups, key=lambda item: (-len(groups[item]), item)):
         for seed in range(len(NAMES)):
             taken = [(hashes[row] // SEED_COUNT + seed) % len(NAMES) for row in groups[at]]
-            if len(set(taken)) == len(taken) and all(places[it] is None for it in taken):
+            if len(set(taken)) == len(taken) and all(places[item] is None for item in taken):
                 break
         else:
             sys.exit("no seed gives each name a place of its own: choose another FACTOR")
@@ -58,7 +58,7 @@ def rows_file(number, rows):
              f"-- {NAMES[rows[0]]} to {NAMES[rows[-1]]}", f"unfoldable pub rows_{number} : List Row", f"rows_{number} ="]
     sign = ""
     for row in rows:
-        characters = " ∷ ".join(f"0x{ord(it):X}" for it in MEANINGS[row])
+        characters = " ∷ ".join(f"0x{ord(meaning):X}" for meaning in MEANINGS[row])
         lines.append(f'    {sign}("{NAMES[row]}", {characters} ∷ [])')
         sign = "∷ "
     return "\n".join(lines + ["    ∷ []", ""])
@@ -83,7 +83,7 @@ def text_static(name, about, pieces):
 
 
 def escaped(text):
-    return "".join(f"\\u{{{ord(it):x}}}" for it in text)
+    return "".join(f"\\u{{{ord(char):x}}}" for char in text)
 
 
 def name_text_file():
@@ -127,11 +127,11 @@ def asked_and_answers():
     """The lines that html_entities_names reads, and what it has to write. A line is a name, or text to be resolved."""
     asked = list(asked_names())
     answers = [known(name) or "none" for name in asked]
-    for names in (asked, [it for it in asked if known(it)]):
+    for names in (asked, [item for item in asked if known(item)]):
         asked_text = "".join(f"&{name};" for name in names)
         asked = asked + [f"text {asked_text}"]
         answers.append("".join(known(name) or f"&{name};" for name in names))
-    return "".join(f"{it}\n" for it in asked), "".join(f"{it}\n" for it in answers)
+    return "".join(f"{item}\n" for item in asked), "".join(f"{answer}\n" for answer in answers)
 
 
 def files():

@@ -127,7 +127,7 @@ def table_head(text):
     cells = found[2].split(b"|")[:-1] + [found[3]] * bool(found[3].strip(b" "))
     names = {(0, 0): "None", (1, 0): "Left", (0, 1): "Right", (1, 1): "Center"}
     bare = [cell.replace(b" ", b"") for cell in cells]
-    return found.end(), [names[it[:1] == b":", b":" in it[1:]] for it in bare]
+    return found.end(), [names[line[:1] == b":", b":" in line[1:]] for line in bare]
 
 
 # The start of a line, column by column (2.2, 5.1 to 5.3; GFM 5.3; alerts).
@@ -298,7 +298,7 @@ HTML_KINDS = ("RawText", "Comment", "Processing", "Declaration", "Cdata", "Block
 
 def html_kind(text):
     """The kind of the HTML block that begins there (4.6)."""
-    begins = [bool(re.match(it, text)) for it in HTML_STARTS]
+    begins = [bool(re.match(start, text)) for start in HTML_STARTS]
     begins.append(text[:1] == b"<" and is_block_name(text[1:]))
     begins.append(tag_alone(text) is not None and not re.match(rb"(?i:<" + RAW_NAMES + rb")(?![A-Za-z0-9-])", text))
     return next((kind for kind, is_there in zip(HTML_KINDS, begins) if is_there), None)
@@ -310,7 +310,7 @@ def interrupts(text):
     item = list_item(text)
     is_item = item and re.match(rb"(?:[-+*]|0{0,8}1[.)])[ \t]", text) and blank_line(re.sub(rb"\A[^ \t]*", b"", text)) is None
     found = (thematic_break(text), atx_level(text), code_fence(text), length_of(b">", text))
-    return any(it is not None for it in found) or bool(is_item) or html_kind(text) not in (None, "TagAlone")
+    return any(item is not None for item in found) or bool(is_item) or html_kind(text) not in (None, "TagAlone")
 
 
 def ends_html(text, kind):
@@ -360,9 +360,9 @@ def link_title(text):
     around = {b'"': b'""', b"'": b"''", b"(": b"()"}.get(text[:1])
     if not around:
         return None
-    opening, closing = (re.escape(around[it:it + 1]) for it in (0, 1))
+    opening, closing = (re.escape(around[number:number + 1]) for number in (0, 1))
     length = length_of(opening + between % (escape, escape, opening + closing) + closing, text)
-    return length if length and all(blank_line(it) is None for it in lines(text[:length])) else None
+    return length if length and all(blank_line(item) is None for item in lines(text[:length])) else None
 
 
 GAP = rb"[ \t]*(?:\r\n|\r|\n)?[ \t]*"

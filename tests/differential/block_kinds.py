@@ -35,7 +35,7 @@ class Page:
     def parting(self):
         """The first block of ours and of theirs that are not the same; None where there is no more. If they part at lists alone, and
         only in whether these are tight, it is the first of those."""
-        pairs = [(it, (our_list(it), their)) for it, their in zip_longest(self.ours, self.theirs)]
+        pairs = [(item, (our_list(item), their)) for item, their in zip_longest(self.ours, self.theirs)]
         differ = [(our, their) for _, (our, their) in pairs if not (our and their and alike(our, their))]
         lists = [(our, their) for our, (_, their) in pairs if our and their and not alike(our, their)]
         return (differ or lists)[0]
@@ -44,7 +44,7 @@ class Page:
         """The lines at which they may part: the first of that block, with the one before it where cmark has no block, and where one is
         shorter its last and the one after it."""
         our, their = self.parting()
-        first = min(it.first for it in (our, their) if it)
+        first = min(item.first for item in (our, their) if item)
         if not their:
             return self.lines[max(first - 2, 0) : first]
         if not (our and their and our.first == their.first and our.last):
@@ -56,7 +56,7 @@ class Page:
         return [self.lines[first - 1], self.lines[last - 1], *self.lines[later : later + 1]]
 
     def has_our_table(self):
-        return any(it.kind == "table" for it in self.ours)
+        return any(block.kind == "table" for block in self.ours)
 
 
 def begins(pattern):
@@ -68,8 +68,8 @@ def begins(pattern):
 def begins_an_item(page):
     """That a line at which they part has a list marker and a form feed or vertical tab after it, and cmark sees an item there."""
     is_marker = re.compile(CONTAINERS + rb"(?:[-+*]|[0-9]{1,9}[.)])[\v\f]").match
-    items = [page.lines[it.first - 1] for it in page.theirs if it.kind == "item"]
-    return any(is_marker(it) and it in items for it in page.other_lines())
+    items = [page.lines[block.first - 1] for block in page.theirs if block.kind == "item"]
+    return any(is_marker(line) and line in items for line in page.other_lines())
 
 
 def in_a_table_page(pattern):
@@ -103,8 +103,8 @@ def parts_at_a_list(is_tight, kind):
         our, their = page.parting()
         if not (our and their) or our.kind != "list" or their != our._replace(detail=(*our.detail[:2], is_tight), last={0}):
             return False
-        ends = [it.last for it in page.ours if it.kind == kind and it.depth > our.depth and it.first >= our.first]
-        return any(kind == "table" or it < len(page.lines) and EMPTY.fullmatch(page.lines[it]) for it in ends)
+        ends = [block.last for block in page.ours if block.kind == kind and block.depth > our.depth and block.first >= our.first]
+        return any(kind == "table" or end < len(page.lines) and EMPTY.fullmatch(page.lines[end]) for end in ends)
 
     return fits
 
@@ -117,17 +117,17 @@ def is_column(first, lines):
 def has_only_columns(ours, document, lines):
     """Whether cmark-gfm alone finds tables, and all of them are of one column without a pipe."""
     tables = [] if has_later_header(document) else tables_of(document)
-    return bool(tables) and all(is_column(lines_in(table)[0], lines) for table in tables) and all(it.kind != "table" for it in ours)
+    return bool(tables) and all(is_column(lines_in(table)[0], lines) for table in tables) and all(block.kind != "table" for block in ours)
 
 
 def has_a_column(page):
     """That cmark-gfm finds such a table, beside others."""
-    return any(it.kind == "table" and is_column(it.first, page.lines) for it in page.theirs)
+    return any(block.kind == "table" and is_column(block.first, page.lines) for block in page.theirs)
 
 
 def has_other_white_space(page):
     """That cmark-gfm finds a table whose header or delimiter row has a form feed or a vertical tab."""
-    rows = [b"".join(page.lines[it.first - 1 : it.first + 1]) for it in page.theirs if it.kind == "table"]
+    rows = [b"".join(page.lines[block.first - 1 : block.first + 1]) for block in page.theirs if block.kind == "table"]
     return any(re.search(rb"[\v\f]", row) for row in rows)
 
 

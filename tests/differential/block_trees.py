@@ -73,7 +73,7 @@ def meaning(found):
 
 def resolved(info):
     """The info string that cmark_blocks prints as cmark has it: its bytes, with escapes and references in it resolved."""
-    text = re.sub(rb"\\u00(..)", lambda it: bytes([int(it[1], 16)]), info).replace(b"\0", REPLACEMENT)
+    text = re.sub(rb"\\u00(..)", lambda item: bytes([int(item[1], 16)]), info).replace(b"\0", REPLACEMENT)
     reference = rb"&(?:#[xX]([0-9a-fA-F]{1,6})|#([0-9]{1,7})|([a-zA-Z][a-zA-Z0-9]*));"
     return in_attribute(re.sub(rb"\\([!-/:-@[-`{-~])|" + reference, meaning, text))
 
@@ -94,7 +94,7 @@ def our_detail(kind, more):
 
 def in_order(found):
     """Blocks and lists where they begin: a list before its first item."""
-    return sorted(found, key=lambda it: (it.first, it.depth, it.kind != "list"))
+    return sorted(found, key=lambda item: (item.first, item.depth, item.kind != "list"))
 
 
 def our_rows(page):
@@ -132,7 +132,7 @@ def our_blocks(page):
     """What cmark_blocks says of a page, and the lines of its definitions. Blank lines and definitions are no blocks of cmark."""
     lines, rows = lines_of(page), our_rows(page)
     defined = definitions_in(rows)
-    blocks = [it for it in zip(rows, begins_of(rows)) if it[0][3] not in ("blank", "definition")]
+    blocks = [pair for pair in zip(rows, begins_of(rows)) if pair[0][3] not in ("blank", "definition")]
     return in_order(our_block(row, begin, lines, defined) for row, begin in blocks), defined
 
 
@@ -152,13 +152,13 @@ def lines_in(element):
 
 def elements(document):
     """The containers and blocks of a document in order, each with its parent and how many containers are around it."""
-    waiting = [(it, document, 0) for it in reversed(document)]
+    waiting = [(element, document, 0) for element in reversed(document)]
     while waiting:
         element, parent, depth = waiting.pop()
         name = name_of(element)
         yield element, parent, depth
         if name not in BLOCKS:
-            waiting += [(it, element, depth + (name in CONTAINERS)) for it in reversed(element)]
+            waiting += [(child, element, depth + (name in CONTAINERS)) for child in reversed(element)]
 
 
 def marker_of(item, items):
@@ -173,7 +173,7 @@ def list_detail(items):
 
 def their_detail(element, kind):
     if kind == "table":
-        header = next(it for it in element if name_of(it) == "table_header")
+        header = next(child for child in element if name_of(child) == "table_header")
         return len(header)
     if kind == "heading":
         return int(element.get("level"))
@@ -188,7 +188,7 @@ def their_block(element, depth, lines):
     if kind == "html":
         last = first + len(lines_of((element.text or "").encode("latin-1"))) - 1
     is_longer = kind == "heading" or kind == "code" and depth > 0
-    ends = {trimmed(lines, first, it) for it in (last, last - is_longer)}
+    ends = {trimmed(lines, first, item) for item in (last, last - is_longer)}
     return Block(kind, their_detail(element, kind), first, ends, depth)
 
 
@@ -213,7 +213,7 @@ def may_have_table(page):
 
 
 def tables_of(document):
-    return [it for it, _, _ in elements(document) if name_of(it) == "table"]
+    return [item for item, _, _ in elements(document) if name_of(item) == "table"]
 
 
 def has_table(document):
@@ -222,7 +222,7 @@ def has_table(document):
 
 def has_later_header(document):
     """Whether a paragraph's later line is the header row of a table: cmark-gfm writes no place of the lines before it."""
-    return any(it.get("sourcepos") is None for it, _, _ in elements(document))
+    return any(item.get("sourcepos") is None for item, _, _ in elements(document))
 
 
 def alike(our, their):

@@ -118,9 +118,9 @@ def print_openers():
         for side in SIDES:
             sums = [0, 0, 0, 0, 0]
             for cut in range(1, MOST + 1):
-                it = part(text, side, cut)
-                found = scans(it)
-                sums = [a + b for a, b in zip(sums, (*found, 4 * len(it) + 8 * found[0]))]
+                piece = part(text, side, cut)
+                found = scans(piece)
+                sums = [a + b for a, b in zip(sums, (*found, 4 * len(piece) + 8 * found[0]))]
             print(f"{count} times {opener.decode()}, {side} 1 to {MOST} bytes: {sums[0]} steps, "
                   f"{sums[1]} finds that end at {sums[2]}, passed {sums[3]} of {sums[4]}, 0 above the bound, 0 differ")
 
@@ -149,9 +149,9 @@ def print_bullets():
     for side in SIDES:
         taken = scanned = rest = 0
         for cut in range(1, MOST + 1):
-            it = part(line, side, cut)
-            found = items(it, 10_000)
-            taken, scanned, rest = taken + found[0], scanned + found[1], rest + len(it) - found[1]
+            piece = part(line, side, cut)
+            found = items(piece, 10_000)
+            taken, scanned, rest = taken + found[0], scanned + found[1], rest + len(piece) - found[1]
         print(f"10000 bullets, {side} 1 to {MOST} bytes, 10000 calls: {taken} answers of {2 * taken} columns, "
               f"scanned {scanned}, rest {rest}, 0 stops")
 
@@ -163,8 +163,8 @@ def print_tabs():
     for side in SIDES:
         tabs = rest = 0
         for cut in range(1, MOST + 1):
-            it = part(line, side, cut)
-            tabs, rest = tabs + it.count(b"\t"), rest + it.count(b"x")
+            piece = part(line, side, cut)
+            tabs, rest = tabs + piece.count(b"\t"), rest + piece.count(b"x")
         print(f"100000 tabs, {side} 1 to {MOST} bytes: {MOST} answers of {4 * tabs} columns, "
               f"scanned {tabs}, rest {rest}, 0 stops")
 
@@ -177,7 +177,7 @@ def print_parentheses():
     for side in SIDES:
         for max_next in (999, 998):
             taken = [destination(part(text, side, cut), max_next) for cut in range(1, MOST + 1)]
-            taken = [it for it in taken if it is not None]
+            taken = [item for item in taken if item is not None]
             print(f"1000 parentheses, {side} 1 to {MOST} bytes, most {max_next}: "
                   f"{len(taken)} finds of {sum(taken)} bytes")
 
@@ -205,10 +205,10 @@ def shown_blank_line(text):
 
 
 SHORT = [
-    ("label over CR LF", b"a\r\nb]", lambda it: shown_label(it, nothing), "5 built a b"),
-    ("label over LF, CR", b"a\n\rb]", lambda it: shown_label(it, nothing), "none"),
-    ("label over CR, X, LF", b"a\rX\nb]", lambda it: shown_label(it, lambda rest: rest[:1] == b"X"), "none"),
-    ("label of which all is skipped", b"a\n]", lambda it: shown_label(it, len), "none"),
+    ("label over CR LF", b"a\r\nb]", lambda label: shown_label(label, nothing), "5 built a b"),
+    ("label over LF, CR", b"a\n\rb]", lambda label: shown_label(label, nothing), "none"),
+    ("label over CR, X, LF", b"a\rX\nb]", lambda label: shown_label(label, lambda rest: rest[:1] == b"X"), "none"),
+    ("label of which all is skipped", b"a\n]", lambda label: shown_label(label, len), "none"),
     ("tag of which all is skipped", b"<a\n>", tag_skipped, "none"),
     ("blank line", b"\r\r\n", shown_blank_line, "1"),
 ]

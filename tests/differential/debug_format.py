@@ -23,13 +23,13 @@ def debug_text(value):
     if isinstance(value, (int, float)):
         return str(value)
     if isinstance(value, str):
-        return '"' + "".join(ESCAPED.get(it, it) for it in value) + '"'
+        return '"' + "".join(ESCAPED.get(char, char) for char in value) + '"'
     if isinstance(value, list):
         return "[" + ", ".join(map(debug_text, value)) + "]"
     if isinstance(value, tuple):
         return "(" + ", ".join(map(debug_text, value)) + ")"
     if value.fields:
-        return f"{value.name} {{ " + ", ".join(f"{name}: {debug_text(it)}" for name, it in value.fields.items()) + " }"
+        return f"{value.name} {{ " + ", ".join(f"{name}: {debug_text(item)}" for name, item in value.fields.items()) + " }"
     return value.name + (debug_text(value.parts) if value.parts else "")
 
 

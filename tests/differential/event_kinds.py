@@ -70,7 +70,7 @@ class Parting(namedtuple("Parting", "page options pairs at")):
 
     def around(self):
         """The lines in which their sources stand."""
-        places = [place for it in self.pairs[self.at] if it for place in it[:2]]
+        places = [place for pair in self.pairs[self.at] if pair for place in pair[:2]]
         start, end = self.page.rfind(b"\n", 0, min(places)) + 1, self.page.find(b"\n", max(places))
         return self.page[start : end if end >= 0 else len(self.page)]
 
@@ -79,134 +79,134 @@ def is_line_end(page, place):
     return page[place : place + 1] in (b"", b"\r", b"\n")
 
 
-def without_end(it, spaces):
+def without_end(parting, spaces):
     """Whether our text is theirs without such spaces at its end, and how our next event is called; if it is nothing but these there is no such
     event of ours, and the next is the one that stands there."""
-    if not (it.our and it.their and it.their.words == "text" and is_line_end(it.page, it.their.end)):
+    if not (parting.our and parting.their and parting.their.words == "text" and is_line_end(parting.page, parting.their.end)):
         return False, ""
-    left = it.their.texts[0].rstrip(spaces)
-    is_without = left != it.their.texts[0] and (not left or it.our.words == "text" and it.our.texts == (left,))
-    after = it.our if not left else it.pairs[it.at + 1].our
+    left = parting.their.texts[0].rstrip(spaces)
+    is_without = left != parting.their.texts[0] and (not left or parting.our.words == "text" and parting.our.texts == (left,))
+    after = parting.our if not left else parting.pairs[parting.at + 1].our
     return is_without, after.words if after else ""
 
 
-def has_spaces(it):
+def has_spaces(parting):
     """That spaces stand before a soft line break, which are left out."""
-    return without_end(it, b" ") == (True, "soft break")
+    return without_end(parting, b" ") == (True, "soft break")
 
 
-def has_tabs(it):
+def has_tabs(parting):
     """That a tab, and no two spaces after it, stand before a line ending: only spaces are left out there."""
-    if not (it.our and it.their and it.our.words == "text" and it.our.texts[0].endswith(b"\t")):
+    if not (parting.our and parting.their and parting.our.words == "text" and parting.our.texts[0].endswith(b"\t")):
         return False
-    left = it.our.texts[0].rstrip(b" \t")
-    is_without = it.their.texts == (left,) if left else it.their.words in ("soft break", "hard break")
-    return is_without and it.page[it.our.end :].lstrip(b" ")[:1] in (b"\r", b"\n")
+    left = parting.our.texts[0].rstrip(b" \t")
+    is_without = parting.their.texts == (left,) if left else parting.their.words in ("soft break", "hard break")
+    return is_without and parting.page[parting.our.end :].lstrip(b" ")[:1] in (b"\r", b"\n")
 
 
-def has_last_spaces(it):
+def has_last_spaces(parting):
     """That spaces or tabs stand after the last text of a block, where the line ends."""
-    is_without, after = without_end(it, b" \t")
+    is_without, after = without_end(parting, b" \t")
     return is_without and after.startswith("end ")
 
 
-def has_return(it):
+def has_return(parting):
     """That a carriage return alone ends a line of code or HTML, which goes on for pulldown-cmark."""
-    if not ((it.are("text") or it.are("html")) and it.our.start == it.their.start):
+    if not ((parting.are("text") or parting.are("html")) and parting.our.start == parting.their.start):
         return False
-    return re.search(rb"\r(?!\n)", it.page[it.their.start : it.their.end]) is not None
+    return re.search(rb"\r(?!\n)", parting.page[parting.their.start : parting.their.end]) is not None
 
 
-def has_bare_header(it):
+def has_bare_header(parting):
     """That the header row of a table is one cell without a pipe."""
-    if not (it.our and it.our.words.startswith("start table ")):
+    if not (parting.our and parting.our.words.startswith("start table ")):
         return False
-    row = re.split(rb"[\r\n]", it.page[it.our.start :], maxsplit=1)[0]
+    row = re.split(rb"[\r\n]", parting.page[parting.our.start :], maxsplit=1)[0]
     return b"|" not in row.replace(b"\\|", b"")
 
 
-def has_columns(it):
+def has_columns(parting):
     """That HTML has a tab of which some columns are text, which are a text of their own for pulldown-cmark."""
     found = b""
-    for their in (pair.their for pair in it.pairs[it.at :] if pair.their):
+    for their in (pair.their for pair in parting.pairs[parting.at :] if pair.their):
         if their.words == "text" and their.start == their.end and not their.texts[0].strip(b" "):
-            return it.our is not None and it.our.words == "html" and in_lines(it.our.texts[0]).startswith(in_lines(found) + their.texts[0])
+            return parting.our is not None and parting.our.words == "html" and in_lines(parting.our.texts[0]).startswith(in_lines(found) + their.texts[0])
         if their.words != "html":
             return False
         found += their.texts[0]
     return False
 
 
-def others(it):
+def others(parting):
     """What cmark says of the page, and if it is read with extensions cmark-gfm."""
-    return [their_shape(it.page, program) for program in ([CMARK, WITH_EXTENSIONS] if it.options else [CMARK])]
+    return [their_shape(parting.page, program) for program in ([CMARK, WITH_EXTENSIONS] if parting.options else [CMARK])]
 
 
-def is_alone(it):
+def is_alone(parting):
     """That cmark has the events that cmark_events has."""
-    ours = our_shape([pair.our for pair in it.pairs if pair.our])
-    return any(how_many_alike(it.page, ours, other) == len(ours) == len(other) for other in others(it))
+    ours = our_shape([pair.our for pair in parting.pairs if pair.our])
+    return any(how_many_alike(parting.page, ours, other) == len(ours) == len(other) for other in others(parting))
 
 
-def is_alone_there(it):
+def is_alone_there(parting):
     """That cmark has the events that cmark_events has up to where the two part, and not those of pulldown-cmark."""
-    if it.our is None:
+    if parting.our is None:
         return False
-    ours = our_shape([pair.our for pair in it.pairs if pair.our])
-    front, theirs = (our_shape([pair[side] for pair in it.pairs[: it.at + 1] if pair[side]]) for side in (0, 1))
-    return any(how_many_alike(it.page, ours, other) >= len(front) and theirs != other[: len(theirs)] for other in others(it))
+    ours = our_shape([pair.our for pair in parting.pairs if pair.our])
+    front, theirs = (our_shape([pair[side] for pair in parting.pairs[: parting.at + 1] if pair[side]]) for side in (0, 1))
+    return any(how_many_alike(parting.page, ours, other) >= len(front) and theirs != other[: len(theirs)] for other in others(parting))
 
 
-def task_at(it):
+def task_at(parting):
     """The marker of a task that one of the pair is, or one of the pair before it."""
-    near = [event for pair in it.pairs[max(it.at - 1, 0) : it.at + 1] for event in pair]
+    near = [event for pair in parting.pairs[max(parting.at - 1, 0) : parting.at + 1] for event in pair]
     return next((event for event in reversed(near) if event and event.words in TASKS), None)
 
 
-def has_marker_alone(it):
+def has_marker_alone(parting):
     """That nothing but white space stands in the line after the marker of a task."""
-    marker = task_at(it)
-    return marker is not None and BLANK_REST.match(it.page, marker.end) is not None
+    marker = task_at(parting)
+    return marker is not None and BLANK_REST.match(parting.page, marker.end) is not None
 
 
-def has_marker_below(it):
+def has_marker_below(parting):
     """That the marker of a task begins a line, in which no list marker stands."""
-    marker = task_at(it)
-    return marker is not None and not it.page[it.page.rfind(b"\n", 0, marker.start) + 1 : marker.start].strip(b" \t>")
+    marker = task_at(parting)
+    return marker is not None and not parting.page[parting.page.rfind(b"\n", 0, marker.start) + 1 : marker.start].strip(b" \t>")
 
 
-def has_block_in_task(it):
+def has_block_in_task(parting):
     """That a block begins after the marker of a task for pulldown-cmark, or that the marker begins a heading or code."""
-    theirs = [pair.their for pair in it.pairs[it.at : it.at + 2] if pair.their]
+    theirs = [pair.their for pair in parting.pairs[parting.at : parting.at + 2] if pair.their]
     after = next((event.words for event in theirs if event.words not in TASKS), "")
-    begins = after.startswith("start ") or it.our and it.our.words.startswith(("start heading", "start code block"))
-    return task_at(it) is not None and bool(begins)
+    begins = after.startswith("start ") or parting.our and parting.our.words.startswith(("start heading", "start code block"))
+    return task_at(parting) is not None and bool(begins)
 
 
-def has_comment(it):
+def has_comment(parting):
     """That such a comment stands in these lines, or begins in them and is HTML of ours."""
-    near = [event.texts[0] for event, _ in it.pairs[it.at : it.at + 2] if event and event.words == "html"]
-    return any(COMMENT.search(text) for text in [it.around(), *near])
+    near = [event.texts[0] for event, _ in parting.pairs[parting.at : parting.at + 2] if event and event.words == "html"]
+    return any(COMMENT.search(text) for text in [parting.around(), *near])
 
 
-def has_block_in_rows(it):
+def has_block_in_rows(parting):
     """That another block of ours begins after the rows of a table, where a row stands for pulldown-cmark."""
-    if not (it.our and it.their and it.our.words == "end table" and it.their.words == "start table row"):
+    if not (parting.our and parting.their and parting.our.words == "end table" and parting.their.words == "start table row"):
         return False
-    after = next((event for event, _ in it.pairs[it.at + 1 :] if event and event.words.startswith("start ")), None)
-    return after is not None and it.our.end <= after.start < it.their.end
+    after = next((event for event, _ in parting.pairs[parting.at + 1 :] if event and event.words.startswith("start ")), None)
+    return after is not None and parting.our.end <= after.start < parting.their.end
 
 
-def has_quote(it):
+def has_quote(parting):
     """That a block quote of ours begins in the next line, where their paragraph goes on."""
-    if not (it.our and it.their and it.our.words.startswith("end ") and it.their.words == "soft break"):
+    if not (parting.our and parting.their and parting.our.words.startswith("end ") and parting.their.words == "soft break"):
         return False
-    place = it.their.end + len(it.page[it.their.end :]) - len(it.page[it.their.end :].lstrip(b" "))
-    return any(pair.our and pair.our.words == "start block quote" and pair.our.start == place for pair in it.pairs[it.at :])
+    place = parting.their.end + len(parting.page[parting.their.end :]) - len(parting.page[parting.their.end :].lstrip(b" "))
+    return any(pair.our and pair.our.words == "start block quote" and pair.our.start == place for pair in parting.pairs[parting.at :])
 
 
 def has(pattern):
-    return lambda it: pattern.search(it.around()) is not None
+    return lambda parting: pattern.search(parting.around()) is not None
 
 
 def in_lines(text):
@@ -221,7 +221,7 @@ def has_endings(pair):
 
 def has_indent(pair):
     """That lines of HTML are indented."""
-    ours, theirs = (INDENT.sub(b"", in_lines(it.texts[0])) for it in pair) if pair.of("html") else (True, False)
+    ours, theirs = (INDENT.sub(b"", in_lines(side.texts[0])) for side in pair) if pair.of("html") else (True, False)
     return ours == theirs
 
 
@@ -251,7 +251,7 @@ EVENT_KINDS = {
     "columns": Kind("have HTML with a tab of which some columns are text", "2.2", has_columns),
     "comment": Kind("have a comment with two hyphens in it, or that begins with > or ->", "6.6", has_comment),
     "declaration": Kind("have a declaration with a small letter, or a letter alone", "6.6", has(DECLARATION)),
-    "symbol": Kind("have a symbol that is not ASCII beside delimiters", "6.2", lambda it: has_symbol(it.around())),
+    "symbol": Kind("have a symbol that is not ASCII beside delimiters", "6.2", lambda parting: has_symbol(parting.around())),
     "ends": Kind("have the marker of a task that ends its line, not one for pulldown-cmark or followed by a new paragraph", "GFM 5.3", has_marker_alone),
     "below": Kind("have the marker of a task in a later line than that of its item, which is not one for pulldown-cmark", "GFM 5.3", has_marker_below),
     "inside": Kind("have a heading or code that begins with the marker of a task, or for pulldown-cmark a block after one", "GFM 5.3", has_block_in_task),
@@ -266,60 +266,62 @@ EVENT_KINDS = {
 Place = namedtuple("Place", "page pair is_end our their")
 
 
-def is_escape(it):
-    return it.pair.of("text") and not it.is_end and it.page[it.our : it.their] == b"\\"
+def is_escape(parting):
+    return parting.pair.of("text") and not parting.is_end and parting.page[parting.our : parting.their] == b"\\"
 
 
-def is_marker(it):
-    return it.pair.element() in CONTAINERS and not it.is_end and it.their < it.our and not it.page[it.their : it.our].strip(b" \t")
+def is_marker(parting):
+    is_earlier = not parting.is_end and parting.their < parting.our
+    return parting.pair.element() in CONTAINERS and is_earlier and not parting.page[parting.their : parting.our].strip(b" \t")
 
 
-def is_tab(it):
-    return (it.pair.of("text") or it.pair.element() == "code block") and not it.is_end and it.page[it.our : it.their] == b"\t"
+def is_tab(parting):
+    return (parting.pair.of("text") or parting.pair.element() == "code block") and not parting.is_end and parting.page[parting.our : parting.their] == b"\t"
 
 
-def is_half_ending(it):
-    return it.pair.of("text") and not it.is_end and it.page[it.our : it.their] == b"\r"
+def is_half_ending(parting):
+    return parting.pair.of("text") and not parting.is_end and parting.page[parting.our : parting.their] == b"\r"
 
 
-def is_indent(it):
-    return it.pair.of("html") and not it.is_end and it.our < it.their and not it.page[it.our : it.their].strip(b" \t")
+def is_indent(parting):
+    return parting.pair.of("html") and not parting.is_end and parting.our < parting.their and not parting.page[parting.our : parting.their].strip(b" \t")
 
 
-def is_last_line(it):
+def is_last_line(parting):
     """That a page ends with spaces after HTML that is closed."""
-    return it.pair.of("html") and it.is_end and it.their == len(it.page) and not it.page[it.our : it.their].strip(b" \t")
+    return parting.pair.of("html") and parting.is_end and parting.their == len(parting.page) and not parting.page[parting.our : parting.their].strip(b" \t")
 
 
-def is_fence(it):
-    return it.pair.element() == "code block" and it.is_end and it.page[it.their : it.our] in (b"\n", b"\r\n", b"\r")
+def is_fence(parting):
+    return parting.pair.element() == "code block" and parting.is_end and parting.page[parting.their : parting.our] in (b"\n", b"\r\n", b"\r")
 
 
-def is_blank(it):
-    return it.pair.element() in CONTAINERS and it.is_end and it.our < it.their and BLANK.fullmatch(it.page, it.our, it.their) is not None
+def is_blank(parting):
+    is_later = parting.is_end and parting.our < parting.their
+    return parting.pair.element() in CONTAINERS and is_later and BLANK.fullmatch(parting.page, parting.our, parting.their) is not None
 
 
-def is_of_task(it):
-    return it.pair.our.words.endswith(" paragraph") and not it.is_end and MARKER.fullmatch(it.page, it.our, it.their) is not None
+def is_of_task(parting):
+    return parting.pair.our.words.endswith(" paragraph") and not parting.is_end and MARKER.fullmatch(parting.page, parting.our, parting.their) is not None
 
 
-def is_before_start(it):
+def is_before_start(parting):
     """That a range has no bytes for pulldown-cmark."""
-    return it.is_end and it.their <= it.pair.their.start < it.our
+    return parting.is_end and parting.their <= parting.pair.their.start < parting.our
 
 
-def is_collapsed(it):
-    return it.pair.element() in ("link", "image") and it.is_end and it.page[it.their : it.our] == b"[]"
+def is_collapsed(parting):
+    return parting.pair.element() in ("link", "image") and parting.is_end and parting.page[parting.their : parting.our] == b"[]"
 
 
-def is_row(it):
-    beyond = it.page[it.our : it.their]
-    return it.pair.element() in ROWS and it.is_end and it.our < it.their and not beyond.strip(b" \t\r\n")
+def is_row(parting):
+    beyond = parting.page[parting.our : parting.their]
+    return parting.pair.element() in ROWS and parting.is_end and parting.our < parting.their and not beyond.strip(b" \t\r\n")
 
 
-def is_cell(it):
-    beside = it.page[it.our : it.their] if it.is_end else it.page[it.their : it.our]
-    return it.pair.element() == "table cell" and (not beside.strip(b" \t") or it.pair.our.start == it.pair.our.end)
+def is_cell(parting):
+    beside = parting.page[parting.our : parting.their] if parting.is_end else parting.page[parting.their : parting.our]
+    return parting.pair.element() == "table cell" and (not beside.strip(b" \t") or parting.pair.our.start == parting.pair.our.end)
 
 
 PLACE_KINDS = {

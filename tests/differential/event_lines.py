@@ -23,7 +23,7 @@ Event = namedtuple("Event", "start end words texts")
 
 def bytes_of(quoted):
     """The bytes that are printed in quotation marks."""
-    return NUMBERED.sub(lambda it: bytes([int(it[1], 16)]), quoted)
+    return NUMBERED.sub(lambda item: bytes([int(item[1], 16)]), quoted)
 
 
 def event_of(line):
@@ -73,7 +73,7 @@ def said(program, page):
 
 def our_events(page, options=()):
     events = said([*OURS, *options], page)
-    return events and joined([it for it in map(renamed, events) if it])
+    return events and joined([item for item in map(renamed, events) if item])
 
 
 def their_events(program, page, options=()):

@@ -25,12 +25,12 @@ def joined(said):
     """The same, with neighbours of text, and of HTML, as one, each without its last line feed, which cmark adds to the last line of a page.
     Empty texts are left out."""
     found = []
-    for it in said:
-        if it[0] in ("text", "html") and found and found[-1][0] == it[0]:
-            it = (it[0], found.pop()[1] + it[1])
-        if it[1:] != (b"",) or it[0] == "code":
-            found.append(it)
-    return [(it[0], it[1].removesuffix(b"\n")) if it[0] in ("text", "html") else it for it in found]
+    for line in said:
+        if line[0] in ("text", "html") and found and found[-1][0] == line[0]:
+            line = (line[0], found.pop()[1] + line[1])
+        if line[1:] != (b"",) or line[0] == "code":
+            found.append(line)
+    return [(item[0], item[1].removesuffix(b"\n")) if item[0] in ("text", "html") else item for item in found]
 
 
 def our_link(how, texts):
@@ -59,8 +59,8 @@ def our_said(event):
 def our_shape(events):
     """What the events say, without texts of tabs alone before a line ending, which cmark leaves out."""
     said = joined(map(our_said, events))
-    is_left_out = lambda it, after: it[0] == "text" and not it[1].strip(b" \t") and after in (("soft break",), ("hard break",))
-    return [it for it, after in zip(said, [*said[1:], None]) if not is_left_out(it, after)]
+    is_left_out = lambda item, after: item[0] == "text" and not item[1].strip(b" \t") and after in (("soft break",), ("hard break",))
+    return [item for item, after in zip(said, [*said[1:], None]) if not is_left_out(item, after)]
 
 
 def their_details(element, name):
@@ -69,12 +69,12 @@ def their_details(element, name):
     if name == "list":
         return (element.get("start") or "",)
     if name == "table":
-        head = next(it for it in element if name_of(it) == "table_header")
-        return (" ".join(it.get("align") or "none" for it in head),)
+        head = next(child for child in element if name_of(child) == "table_header")
+        return (" ".join(cell.get("align") or "none" for cell in head),)
     if name == "code block":
         return (in_attribute((element.get("info") or "").encode("latin-1")),)
     if name in ("link", "image"):
-        return tuple(in_attribute(element.get(it, "").encode("latin-1")) for it in ("destination", "title"))
+        return tuple(in_attribute(element.get(name, "").encode("latin-1")) for name in ("destination", "title"))
     return ("",)
 
 
@@ -125,11 +125,11 @@ def is_same(page, before, our, after, their):
     if kind in ("code", "html"):
         return without_runs(ours) == without_runs(theirs)
     if FENCE_AFTER_TAB.search(page):
-        return [part.lstrip(b" ") for part in ours.split(b"\n")] == [it.lstrip(b" ") for it in theirs.split(b"\n")]
+        return [part.lstrip(b" ") for part in ours.split(b"\n")] == [part.lstrip(b" ") for part in theirs.split(b"\n")]
     return False
 
 
 def how_many_alike(page, ours, theirs):
     """How many of what we say cmark says too, from the first on."""
     around = zip([None, *ours], ours, [*ours[1:], None], [*theirs, *[None] * len(ours)])
-    return next((number for number, it in enumerate(around) if not is_same(page, *it)), len(ours))
+    return next((number for number, item in enumerate(around) if not is_same(page, *item)), len(ours))

@@ -21,7 +21,7 @@ def has(pattern):
 def has_symbol(text):
     """That a symbol or a mark of punctuation that is not ASCII stands beside delimiters."""
     beside = "".join(map("".join, re.findall(r"(.?)[*_]+(?=(.?))", text.decode(errors="replace"), re.S)))
-    return any(ord(it) > 127 and unicodedata.category(it)[0] in "PS" for it in beside)
+    return any(ord(item) > 127 and unicodedata.category(item)[0] in "PS" for item in beside)
 
 
 def has_runs(text):

@@ -29,7 +29,7 @@ THEIR_TEXTS = {"text": "text", "code": "code", "html_inline": "html"}
 
 def bytes_of(quoted):
     """The bytes that cmark_inlines prints in quotation marks."""
-    return NUMBERED.sub(lambda it: bytes([int(it[1], 16)]), quoted)
+    return NUMBERED.sub(lambda item: bytes([int(item[1], 16)]), quoted)
 
 
 def unescaped(text, pattern=ESCAPE):
@@ -81,11 +81,11 @@ def our_said(kind, texts):
 def joined(said):
     """The same, with the text of neighbours joined."""
     found = []
-    for it in said:
-        if it[0] == "text" and found and found[-1][0] == "text":
-            it = ("text", found.pop()[1] + it[1])
-        if it != ("text", b""):
-            found.append(it)
+    for line in said:
+        if line[0] == "text" and found and found[-1][0] == "text":
+            line = ("text", found.pop()[1] + line[1])
+        if line != ("text", b""):
+            found.append(line)
     return found
 
 
@@ -115,7 +115,7 @@ def their_said(block):
             continue
         name, text = name_of(element), (element.text or "").encode("latin-1")
         if name in THEIR_NAMES:
-            leads = [in_attribute(element.get(it, "").encode("latin-1")) for it in ("destination", "title")]
+            leads = [in_attribute(element.get(name, "").encode("latin-1")) for name in ("destination", "title")]
             said.append(("start", THEIR_NAMES[name], *(leads if name in ("link", "image") else [])))
             waiting.append(iter(element))
         else:
@@ -124,8 +124,8 @@ def their_said(block):
 
 
 def their_blocks(page):
-    found = [it for it in parsed(said_by(CMARK, page)).iter() if name_of(it) in ("heading", "paragraph")]
-    return [Block(name_of(it), *lines_in(it), their_said(it)) for it in found]
+    found = [element for element in parsed(said_by(CMARK, page)).iter() if name_of(element) in ("heading", "paragraph")]
+    return [Block(name_of(item), *lines_in(item), their_said(item)) for item in found]
 
 
 def meets(block, others):
@@ -136,8 +136,8 @@ def meets(block, others):
 def in_pairs(ours, theirs):
     """Blocks of both that stand in the same lines, in order; None where these are not of one kind. A paragraph of cmark that is a table,
     whose cells cmark_inlines leaves out, has no other; a paragraph or heading of cmark begins with the definitions before it."""
-    ours, theirs = [it for it in ours if meets(it, theirs)], [it for it in theirs if meets(it, ours)]
-    if [it.kind for it in ours] != [it.kind for it in theirs]:
+    ours, theirs = [block for block in ours if meets(block, theirs)], [block for block in theirs if meets(block, ours)]
+    if [block.kind for block in ours] != [block.kind for block in theirs]:
         return None
     return list(zip(ours, theirs))
 

@@ -96,7 +96,7 @@ def lines():
     quote, taken, item, seen = of_line(b">\t- x", ("quote",), ("upto", 9), ("list", 1), ("seen",))
     found += [False, (0, taken), some(item), seen]
     called = [Value("Flag", quote), None, Value("Count", taken), Value("List", some(item))]
-    return found + [Value("Ok", it) if it else Value("Err", Value("SpacePending")) for it in called] + [seen]
+    return found + [Value("Ok", call) if call else Value("Err", Value("SpacePending")) for call in called] + [seen]
 
 
 # Scanners of lines.
@@ -104,7 +104,7 @@ def lines():
 def classes(byte):
     """Whether a byte is white space, white space that ends no line, punctuation."""
     classes_of = (rb"[ \t-\r]", answers.INLINE_SPACE, answers.PUNCTUATION)
-    return tuple(answers.length_of(it, byte) is not None for it in classes_of)
+    return tuple(answers.length_of(word, byte) is not None for word in classes_of)
 
 
 def run_of(text, byte):
@@ -152,7 +152,7 @@ def definition_answer(text, max_next):
     found = answers.reference_definition(text, max_next)
     if not found:
         return some(None)
-    label, destination, title = (it and Plain(f"{it[0]}..{it[1]}") for it in found[:3])
+    label, destination, title = (item and Plain(f"{item[0]}..{item[1]}") for item in found[:3])
     return some(Value("ReferenceDefinition", label=label, destination=destination, title=some(title), len=found[3]))
 
 
@@ -162,7 +162,7 @@ HTML_LINES = (b"<PRE>", b"a --> b", b"</td/>", b"<b c> \n")
 def html_answer(text):
     """The kind of the block that begins there, and whether the line ends a comment, and a block with a name."""
     kind = answers.html_kind(text)
-    ends = tuple(answers.ends_html(text, it) for it in ("Comment", "BlockName"))
+    ends = tuple(answers.ends_html(text, name) for name in ("Comment", "BlockName"))
     return some(kind and Value(kind)), *ends
 
 
@@ -179,7 +179,7 @@ def inline():
         definition_answer(b"[a]: <b>\n'c'\n", 1), definition_answer(b"[a]: b 'c' d", 1),
         answers.is_block_name(b"DIV>"),
         some(answers.tag_alone(b"<a b=\t'c'>  \n")), *map(html_answer, HTML_LINES),
-        *(answers.ends_html(b"", it) for it in ("Comment", "TagAlone")), tag_answer(b"<foo bar>", None), tag_answer(b"</a\n>", None),
+        *(answers.ends_html(b"", name) for name in ("Comment", "TagAlone")), tag_answer(b"<foo bar>", None), tag_answer(b"</a\n>", None),
         tag_answer(b"<a\nb\nc>", quote), tag_answer(b"</a\n\n> >", quote), with_variant("borrowed", plain),
         answers.table_head(b"| a |"), *map(label_answer, (b"a\\ ]", b" a b ]", b"a  b", b"a\n\nb]")),
     ]
@@ -247,28 +247,28 @@ def tree_index():
 
 
 def tree():
-    it = nested([0, 9], [0, 8], [0, 3])
-    it.append([3, 8])
-    found = spine_answer(it)
-    it.nodes[3][0][1] = 4
-    found += [(it.nodes[3][0][1], linked(it.nodes[3][2])), linked(it.pop())]
-    it.truncate_to_parent(3)
-    found.append((linked(it.focus), linked(it.nodes[2][2])))
-    it.nodes[4][1], it.nodes[2][2] = 3, None
-    found += [(linked(it.nodes[4][1]), linked(it.nodes[2][2])), linked(it.next_sibling(1))]
-    it.reset()
-    return found + spine_answer(it)
+    tree = nested([0, 9], [0, 8], [0, 3])
+    tree.append([3, 8])
+    found = spine_answer(tree)
+    tree.nodes[3][0][1] = 4
+    found += [(tree.nodes[3][0][1], linked(tree.nodes[3][2])), linked(tree.pop())]
+    tree.truncate_to_parent(3)
+    found.append((linked(tree.focus), linked(tree.nodes[2][2])))
+    tree.nodes[4][1], tree.nodes[2][2] = 3, None
+    found += [(linked(tree.nodes[4][1]), linked(tree.nodes[2][2])), linked(tree.next_sibling(1))]
+    tree.reset()
+    return found + spine_answer(tree)
 
 
 def remove_node():
-    it = nested([0, 9], [0, 8])
-    return [linked(it.remove_node()), *spine_answer(it)]
+    tree = nested([0, 9], [0, 8])
+    return [linked(tree.remove_node()), *spine_answer(tree)]
 
 
 def truncate_siblings():
-    it = nested([0, 9], [3, 8])
-    it.cut_children(4)
-    return [(index(it.focus), *it.nodes[it.focus][0]), *spine_answer(it)]
+    tree = nested([0, 9], [3, 8])
+    tree.cut_children(4)
+    return [(index(tree.focus), *tree.nodes[tree.focus][0]), *spine_answer(tree)]
 
 
 NO_MEMORY = {

@@ -62,7 +62,7 @@ def values():
     yield from in_both("link", link)
     yield from in_both("image", image)
     yield "event_clone", sum([copy_of(event) for event in events()], [])
-    yield "event_into_static", sum([into_static(it) for it in events()], [])
+    yield "event_into_static", sum([into_static(event) for event in events()], [])
     yield from in_both("start", start)
 
 
@@ -72,8 +72,8 @@ def run_answer(line, calls):
     """A run of calls as it is printed, each answer by the kind of its call."""
     kinds = {"upto": "Count", "list": "List", "definition": "Definition"}
     found, rest, place, stop = answers.line_run(line, calls)
-    run_answers = [Value(kinds.get(name, "Flag"), some(it) if name in ("list", "definition") else it)
-                    for (name, *_), it in zip(calls, found)]
+    run_answers = [Value(kinds.get(name, "Flag"), some(item) if name in ("list", "definition") else item)
+                    for (name, *_), item in zip(calls, found)]
     stopped = some(None if stop is None else (stop, Value("SpacePending")))
     return Value("LineRun", answers=run_answers, rest=list(rest), scanned=place, stop=stopped)
 
@@ -131,14 +131,14 @@ def changed(tree, change, before, after):
 def appended():
     behind, below = nested(*"ABCD"), nested(*"ABCD")
     below.push()
-    return [line for tree in (behind, below) for line in changed(tree, lambda it: it.append("E"), 4, 5)]
+    return [line for tree in (behind, below) for line in changed(tree, lambda tree: tree.append("E"), 4, 5)]
 
 
 def pushed():
-    lines = changed(nested("A"), lambda it: it.push(), 1, 1)
+    lines = changed(nested("A"), lambda tree: tree.push(), 1, 1)
     tree = nested(*"ABCD")
     for count, item in ((4, "E"), (5, "F"), (6, None)):
-        lines += changed(tree, lambda it: it.push(), count, count)
+        lines += changed(tree, lambda tree: tree.push(), count, count)
         if item:
             tree.append(item)
     return lines
@@ -158,7 +158,7 @@ def ordered():
 def trees():
     yield "tree_with_capacity", call("no tree", True)
     yield "tree_append", appended()
-    yield "tree_create_node", changed(nested(*"ABCD"), lambda it: it.create_node("E"), 4, 5)
+    yield "tree_create_node", changed(nested(*"ABCD"), lambda tree: tree.create_node("E"), 4, 5)
     yield "tree_push", pushed()
     yield "tree_clone", cloned()
     yield "tree_in_order", ordered()

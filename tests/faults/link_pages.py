@@ -48,7 +48,7 @@ SMALL = [
 
 
 def autolinks(count):
-    return Links("autolinks", "", b"<ab:c>\n" * count, b"".join(b'-:%d:1: link autolink "ab:c" ""\n' % (it + 1) for it in range(count)))
+    return Links("autolinks", "", b"<ab:c>\n" * count, b"".join(b'-:%d:1: link autolink "ab:c" ""\n' % (index + 1) for index in range(count)))
 
 
 def open_code(count):

@@ -57,7 +57,7 @@ SMALL = [
         b"1 1 0 quote\n1 1 1 paragraph\n2 2 0 item ) 2\n2 2 1 paragraph\n2 2 0 list ) 2 tight\n3 3 0 break\n",
     ),
     Blocks("definitions", "", b"[a]: /b\n[c]:\n/d\ne\n", b"1 1 0 definition\n2 3 0 definition\n4 4 0 paragraph\n"),
-    Blocks("deep containers", "", b">" * DEEP + b"a\n", b"".join(b"1 1 %d quote\n" % it for it in range(DEEP)) + b"1 1 %d paragraph\n" % DEEP),
+    Blocks("deep containers", "", b">" * DEEP + b"a\n", b"".join(b"1 1 %d quote\n" % index for index in range(DEEP)) + b"1 1 %d paragraph\n" % DEEP),
     Blocks("no page", "", b"", b""),
 ]
 

@@ -71,8 +71,8 @@ class Scan:
 
 
 def read_to_end(file):
-    with os.fdopen(file, "rb") as it:
-        return it.read().decode()
+    with os.fdopen(file, "rb") as item:
+        return item.read().decode()
 
 
 def prepared(closed, memory):
@@ -148,12 +148,12 @@ def files_of(crate):
 
 def why_missing(crate):
     """Why a build of the crate's program can't be run, or None: it isn't there, or is older than what it is made of."""
-    newest = max(sources_of(crate), key=lambda it: it.stat().st_mtime)
-    for it in files_of(crate):
-        if not it.is_file():
-            return f"{it} is not there"
-        if it.stat().st_mtime < newest.stat().st_mtime:
-            return f"{it} is older than its source {newest.relative_to(TOP)}"
+    newest = max(sources_of(crate), key=lambda path: path.stat().st_mtime)
+    for path in files_of(crate):
+        if not path.is_file():
+            return f"{path} is not there"
+        if path.stat().st_mtime < newest.stat().st_mtime:
+            return f"{path} is older than its source {newest.relative_to(TOP)}"
     return None
 
 

@@ -117,7 +117,7 @@ def ask_once(program, case, ample, tally):
 def run_cases(program, cases, tally):
     """Runs each case, and once the program without a name: it has these cases and no others."""
     run = program.run([])
-    whole = (b"".join(it.wanted for it in cases), b"", 0)
+    whole = (b"".join(case.wanted for case in cases), b"", 0)
     tally.check(f"{program.name}, all cases", (run.out, run.err, run.status) == whole, run)
     for case in cases:
         run_case(program, case, tally)

@@ -96,7 +96,7 @@ def failing_writes(program, scan, size, numbers, tally):
     """Writes take so many bytes, and each fails in turn, is interrupted, or takes one byte. An interrupted write is made
     again."""
     writes = -(-len(scan.out) // size)
-    rows = [(f"write with errno {it}", "write_fail", {"errno": it}) for it in numbers]
+    rows = [(f"write with errno {number}", "write_fail", {"errno": number}) for number in numbers]
     rows += [("interrupted write", "write_fail", {"errno": errno.EINTR}), ("short write", "write_short", {})]
     for what, word, more in rows:
         is_fault = what.startswith("write")
@@ -178,11 +178,11 @@ def named_files(program, inputs, tally):
 class Replaced:
     """A file alone in its folder, and what becomes of it by --write."""
 
-    def __init__(self, program, case, room):
+    def __init__(self, program, case, scratch):
         self.program = program
         self.name, self.before, self.after, notes = case
-        self.file = Path(room) / "page.md"
-        self.notes = b"".join(os.fsencode(self.file) + it for it in notes)
+        self.file = Path(scratch) / "page.md"
+        self.notes = b"".join(os.fsencode(self.file) + note for note in notes)
 
     def run(self, **asked):
         self.file.write_bytes(self.before)
@@ -191,7 +191,7 @@ class Replaced:
 
     def holds(self, held):
         """The file holds this, has its permissions, and stands alone."""
-        is_alone = [it.name for it in self.file.parent.iterdir()] == [self.file.name]
+        is_alone = [path.name for path in self.file.parent.iterdir()] == [self.file.name]
         return is_alone and self.file.read_bytes() == held and self.file.stat().st_mode & 0o777 == 0o640
 
     def is_done(self, run):
@@ -208,33 +208,33 @@ class Replaced:
 
 def failing_steps(program, case, number, tally):
     """Each step that replaces a file fails in turn; then the file stands as it was. An interrupted one but the last is made again."""
-    with tempfile.TemporaryDirectory() as room:
-        it = Replaced(program, case, room)
+    with tempfile.TemporaryDirectory() as scratch:
+        replaced = Replaced(program, case, scratch)
         for n in range(1, TOO_MANY):
-            run = it.run(step_fail=n, errno=number, write_size=5)
-            what = f"{program.name} {it.name}, step {n} with {errno.errorcode[number]}"
+            run = replaced.run(step_fail=n, errno=number, write_size=5)
+            what = f"{program.name} {replaced.name}, step {n} with {errno.errorcode[number]}"
             if run.count("steps") < n:
-                tally.check(f"{what}: fewer", run.counts and it.is_done(run), run)
+                tally.check(f"{what}: fewer", run.counts and replaced.is_done(run), run)
                 break
-            is_again = number == errno.EINTR and it.is_done(run)
-            tally.check(what, is_again or it.is_refused(run, number), run)
-        least = 0 if it.before == it.after else 5 + len(it.after) // 5
-        tally.check(f"{program.name} {it.name}, steps that failed", n > least, why=f"{n} of {least}")
+            is_again = number == errno.EINTR and replaced.is_done(run)
+            tally.check(what, is_again or replaced.is_refused(run, number), run)
+        least = 0 if replaced.before == replaced.after else 5 + len(replaced.after) // 5
+        tally.check(f"{program.name} {replaced.name}, steps that failed", n > least, why=f"{n} of {least}")
 
 
 def replaced_without_memory(program, case, tally):
     """Each request for memory is refused in turn; then the file stands as it was."""
-    with tempfile.TemporaryDirectory() as room:
-        it = Replaced(program, case, room)
+    with tempfile.TemporaryDirectory() as scratch:
+        replaced = Replaced(program, case, scratch)
         for how in ("refuse", "refuse_from"):
             for n in range(1, TOO_MANY):
-                run = it.run(**{how: n})
+                run = replaced.run(**{how: n})
                 if run.count("refused") < 1:
-                    tally.check(f"{program.name} {it.name}, replaced, {how}: fewer than {n}", run.counts and it.is_done(run), run)
+                    tally.check(f"{program.name} {replaced.name}, replaced, {how}: fewer than {n}", run.counts and replaced.is_done(run), run)
                     break
-                well = it.is_done(run) or it.is_without_memory(run)
-                tally.check(f"{program.name} {it.name}, replaced, {how} {n}", well and run.count("live") == 0, run)
-            tally.check(f"{program.name} {it.name}, replaced, {how}: requests that were refused", n > 1)
+                well = replaced.is_done(run) or replaced.is_without_memory(run)
+                tally.check(f"{program.name} {replaced.name}, replaced, {how} {n}", well and run.count("live") == 0, run)
+            tally.check(f"{program.name} {replaced.name}, replaced, {how}: requests that were refused", n > 1)
 
 
 def run_scans(program, inputs, tally):

@@ -63,7 +63,7 @@ def rows(count):
 
 def wide(size):
     line = b"| %s |\n"
-    return Tables("a wide cell", "", b"|a|\n|-|\n|%s|\n" % (b"b" * size), b"".join(line % it for it in (b"a".ljust(size), b"-" * size, b"b" * size)))
+    return Tables("a wide cell", "", b"|a|\n|-|\n|%s|\n" % (b"b" * size), b"".join(line % item for item in (b"a".ljust(size), b"-" * size, b"b" * size)))
 
 
 def open_code(count):

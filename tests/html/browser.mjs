@@ -58,7 +58,7 @@ function judged(first, last, htmls) {
         counts.elements++;
         const isHtml = element.namespaceURI === "http://www.w3.org/1999/xhtml";
         if (!isHtml || !NAMES.includes(element.localName)) found.push({ text, sort: "element", detail: element.nodeName });
-        for (const it of element.attributes) judgeAttribute(text, element, it);
+        for (const attribute of element.attributes) judgeAttribute(text, element, attribute);
     };
     const judge = (text, root) => {
         const walker = root.ownerDocument.createTreeWalker(root, NodeFilter.SHOW_ALL);
@@ -79,10 +79,10 @@ function judged(first, last, htmls) {
     const { head, body } = judgeOutside(document);
     if (head.children.length !== 2) found.push({ text: first, sort: "place", detail: "another element in the head" });
     const sections = [...body.children];
-    const isInOrder = sections.every((it, at) => it.localName === "section" && it.dataset.text === String(first + at));
-    const text = [...body.childNodes].filter((it) => it.nodeType === Node.TEXT_NODE).map((it) => it.data).join("");
+    const isInOrder = sections.every((section, at) => section.localName === "section" && section.dataset.text === String(first + at));
+    const text = [...body.childNodes].filter((node) => node.nodeType === Node.TEXT_NODE).map((node) => node.data).join("");
     if (!isInOrder || sections.length !== last - first || text.trim()) found.push({ text: first, sort: "place", detail: "the sections are others" });
-    for (const it of sections) judge(Number(it.dataset.text ?? first), it);
+    for (const section of sections) judge(Number(section.dataset.text ?? first), section);
     htmls.forEach((html, at) => {
         const parsed = new DOMParser().parseFromString(html, "text/html");
         judgeOutside(parsed);
@@ -129,7 +129,7 @@ async function reads(number) {
         await Promise.race([browser.open(`${served.url}document${number}.html`, SIZE), late]);
         const htmls = texts.slice(...current).map(({ html }) => html);
         const { found, elements, addresses } = await Promise.race([browser.ask(judged, ...current, htmls), late]);
-        found.forEach((it) => find(it.sort, it.detail, it.text));
+        found.forEach((finding) => find(finding.sort, finding.detail, finding.text));
         said.elements += elements;
         said.addresses += addresses;
         said.read += htmls.length;
@@ -138,7 +138,7 @@ async function reads(number) {
     }
 }
 
-browser.on("Fetch.requestPaused", (it) => asked(it).catch(() => null));
+browser.on("Fetch.requestPaused", (request) => asked(request).catch(() => null));
 browser.on("Debugger.scriptParsed", compiled);
 browser.on("Page.javascriptDialogOpening", ({ message }) => {
     find("script", `a dialog: ${message}`);

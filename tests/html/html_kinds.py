@@ -37,7 +37,7 @@ def substituted(pattern, by=b""):
 
 def has(pattern):
     compiled = re.compile(pattern)
-    return lambda it: compiled.search(it.page) is not None
+    return lambda difference: compiled.search(difference.page) is not None
 
 
 # ---- taken out of the HTML
@@ -45,7 +45,8 @@ def has(pattern):
 
 def outside_of_code(change):
     """A change of all but code blocks."""
-    return lambda text: b"".join(it if it.startswith(b"<pre><code") else change(it) for it in re.split(rb"(<pre><code.*?</code></pre>)", text, flags=re.S))
+    parts_of = re.compile(rb"(<pre><code.*?</code></pre>)", re.S).split
+    return lambda text: b"".join(part if part.startswith(b"<pre><code") else change(part) for part in parts_of(text))
 
 
 without_returns = substituted(rb"\r\n?", b"\n")
@@ -60,25 +61,28 @@ LAZY = rb"[\r\n][ >]*[ \t]"
 FENCE_AFTER_TAB = re.compile(rb"\t *(?:```|~~~)")
 
 
-def has_fence(it):
-    return FENCE_AFTER_TAB.search(it.page) is not None and it.same_by(without_indent)
+def has_fence(difference):
+    return FENCE_AFTER_TAB.search(difference.page) is not None and difference.same_by(without_indent)
 
 
-def has_last_line(it):
-    return not it.page.endswith((b"\n", b"\r")) and it.same_by(without_last_lines)
+def has_last_line(difference):
+    return not difference.page.endswith((b"\n", b"\r")) and difference.same_by(without_last_lines)
 
 
-def has_loose_list(it):
+def has_loose_list(difference):
     """That a list is loose for one of them, in a page with HTML, a thematic break or a table: blank lines of these are no blank lines between
     blocks, or are. Lines of other white space are of another kind."""
-    is_other = it.ours.count(b"<p>") != it.theirs.count(b"<p>") and b"<li>" in it.ours and not re.search(rb"[\f\v]", it.page)
-    return is_other and it.same_by(without_paragraphs) and re.search(rb"[<|]|[*_-][ \t]*[*_-]", it.page) is not None
+    is_other = difference.ours.count(b"<p>") != difference.theirs.count(b"<p>") and b"<li>" in difference.ours and not re.search(rb"[\f\v]", difference.page)
+    return is_other and difference.same_by(without_paragraphs) and re.search(rb"[<|]|[*_-][ \t]*[*_-]", difference.page) is not None
 
 
 # The changes are made one after another, and a page is of the kind of the first after which both have the same.
 CHANGES = {
-    "endings": (Kind("have lines of code or HTML that end in CR LF or CR, which is LF for cmark", "2.1", lambda it: b"\r" in it.page), without_returns),
-    "tasks": (Kind("have a task, whose attributes cmark-gfm writes in another order", "GFM 5.3", lambda it: it.is_extended), without_slashes),
+    "endings": (
+        Kind("have lines of code or HTML that end in CR LF or CR, which is LF for cmark", "2.1", lambda difference: b"\r" in difference.page),
+        without_returns,
+    ),
+    "tasks": (Kind("have a task, whose attributes cmark-gfm writes in another order", "GFM 5.3", lambda difference: difference.is_extended), without_slashes),
     "tabs": (Kind("have a tab before a line ending, which cmark leaves out as it does spaces", "6.7, 6.8", has(rb"\t[ \t]*(?:[\r\n]|$)")), without_tabs),
     "lazy": (Kind("have a lazy line in code or HTML, or after a backslash, whose indent cmark keeps", "5.1, 6.7", has(LAZY)), without_lazy_indent),
 }
@@ -111,7 +115,7 @@ def within(pattern, change):
 
 def without_symbols(page):
     """Letters in place of symbols that are not ASCII."""
-    return "".join("x" if ord(it) > 127 and unicodedata.category(it)[0] in "PS" else it for it in page.decode()).encode()
+    return "".join("x" if ord(item) > 127 and unicodedata.category(item)[0] in "PS" else item for item in page.decode()).encode()
 
 
 def without_comments(page):

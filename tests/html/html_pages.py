@@ -9,8 +9,8 @@ from block_pages import BY_OLDER_RULES, LINES, ODD, ROWS, TASKS, made_paragraphs
 from block_pages import made as made_blocks
 
 # Without what is not UTF-8, which cmark_html refuses.
-ODD_LINES = LINES + [it for it in ODD if max(it) < 0x80]
-WITH_EXTENSIONS = [it for it in LINES if not BY_OLDER_RULES.match(it)] + 2 * ROWS + 2 * TASKS + [b"~a~ ~~b~~", b"~~c ~d~~", b"|~~e|~f~|"]
+ODD_LINES = LINES + [text for text in ODD if max(text) < 0x80]
+WITH_EXTENSIONS = [line for line in LINES if not BY_OLDER_RULES.match(line)] + 2 * ROWS + 2 * TASKS + [b"~a~ ~~b~~", b"~~c ~d~~", b"|~~e|~f~|"]
 
 
 def made(seed, count):
@@ -38,7 +38,7 @@ TOKENS = [
 
 def made_of_tokens(seed, count):
     """Such pages, but for those that begin with a byte order mark, which cmark leaves out."""
-    return [it for it in made_smuggled(seed, count) if not it.startswith(b"\xef\xbb\xbf")]
+    return [text for text in made_smuggled(seed, count) if not text.startswith(b"\xef\xbb\xbf")]
 
 
 def made_smuggled(seed, count):

@@ -18,7 +18,7 @@ SAFE = [OURS, "--safe"]
 EXTENDED = [OURS, "--gfm"]
 SAFE_EXTENDED = [OURS, "--safe", "--gfm"]
 THEIRS = [CMARK, "--unsafe"]
-THEIRS_EXTENDED = [CMARK_GFM, "--unsafe", *(word for it in EXTENSIONS for word in ("-e", it))]
+THEIRS_EXTENDED = [CMARK_GFM, "--unsafe", *(word for extension in EXTENSIONS for word in ("-e", extension))]
 
 
 class Fails(Exception):

@@ -22,12 +22,12 @@ def texts_in(value):
     if isinstance(value, str):
         yield value
     elif isinstance(value, list):
-        for it in value:
-            yield from texts_in(it)
+        for part in value:
+            yield from texts_in(part)
     elif isinstance(value, dict):
-        for key, it in value.items():
+        for key, part in value.items():
             yield key
-            yield from texts_in(it)
+            yield from texts_in(part)
 
 
 def holder_of(name):
@@ -88,8 +88,8 @@ class Calls:
         self.crate = crate
         self.callers = {name: set() for name in calls}
         for name, called in calls.items():
-            for it in called:
-                self.callers[it].add(name)
+            for call in called:
+                self.callers[call].add(name)
 
     def named(self, item):
         """The prover's names of a function in the sources: several, where a type has a trait at several types."""
@@ -97,13 +97,13 @@ class Calls:
 
     def callers_of(self, names):
         """The functions that call one of these, by themselves or in a closure."""
-        return {holder_of(it) for name in names for it in self.callers[name]}
+        return {holder_of(caller) for name in names for caller in self.callers[name]}
 
     def above(self, names):
         """What rests on these functions, near or far."""
         found, new = set(), set(names)
         while new:
-            new = set().union(*(self.callers[it] for it in new)) - found
+            new = set().union(*(self.callers[item] for item in new)) - found
             found |= new
         return found
 

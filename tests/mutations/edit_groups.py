@@ -47,9 +47,9 @@ def changed_by(item, after, calls):
     their callers where a contract is another one then. What calls those rests on contracts that stay as they are."""
     if item.kind == "const":
         named = re.compile(rf"\b{item.name}\b")
-        using = [it for it in functions_of(item.crate).values() if named.search(it.body) or named.search(it.contract)]
+        using = [function for function in functions_of(item.crate).values() if named.search(function.body) or named.search(function.contract)]
         names = set().union(*map(calls.named, using))
-        contract = any(named.search(it.contract) for it in using)
+        contract = any(named.search(function.contract) for function in using)
     else:
         names = calls.named(item)
         before = (TOP / item.path).read_text()
@@ -78,8 +78,8 @@ def groups_of(edits, calls):
         lines = changed_lines(edit)
         if names := changed_functions(edit, lines, calls):
             found.append((names, names | calls.above(names), (edit, lines)))
-    for names, resting, change in sorted(found, key=lambda it: -len(it[1])):
-        fitting = [it for it in groups if not (resting & it[0].keys() or it[1] & names) and len(it[2]) < MOST]
+    for names, resting, change in sorted(found, key=lambda item: -len(item[1])):
+        fitting = [group for group in groups if not (resting & group[0].keys() or group[1] & names) and len(group[2]) < MOST]
         if not fitting:
             fitting = [({}, set(), [])]
             groups += fitting

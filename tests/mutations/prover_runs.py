@@ -18,7 +18,7 @@ from rt_internals import Prover
 
 def build_libraries(crates):
     """Builds the libraries among these crates, and those that they stand on."""
-    folders = [it.folder for crate in crates for it in [*crate.below(), crate] if not (it.is_program or it.is_static)]
+    folders = [item.folder for crate in crates for item in [*crate.below(), crate] if not (item.is_program or item.is_static)]
     for folder in dict.fromkeys(folders):
         if subprocess.run(["rt", "lib"], cwd=folder, stdout=subprocess.DEVNULL).returncode:
             raise SystemExit(f"tests/mutations/run: {Path(folder).name} is not proved as it stands, so its edits say nothing")
@@ -85,18 +85,18 @@ def refused_together(prover, crate, group, kept):
 def refused_in_groups(checks, crate, groups, kept):
     """The edits of these groups that are refused in checks of the groups."""
     name_of = lambda group: f"{crate.name}, {', '.join(sorted(edit.stem for edit in edits_in(group)))}"
-    found = [checks.begin(name_of(it), lambda it=it: refused_together(checks.prover, crate, it, kept)) for it in groups]
-    return set().union(*(it.result() for it in found))
+    found = [checks.begin(name_of(group), lambda item=group: refused_together(checks.prover, crate, item, kept)) for group in groups]
+    return set().union(*(trial.result() for trial in found))
 
 
 def tried_over(checks, crate, edits, calls, kept):
     """The edits that checks of groups show to be refused, or of their own functions alone, and what rt says of each other one."""
     refused = refused_in_groups(checks, crate, groups_of(edits, calls), kept)
-    others = [group for it in edits if it not in refused for group in groups_of([it], calls)]
+    others = [group for edit in edits if edit not in refused for group in groups_of([edit], calls)]
     refused |= refused_in_groups(checks, crate, others, kept)
-    alone = lambda it: checks.begin(f"{crate.name}, {it.stem}", lambda: checks.prover.try_alone(crate, it, kept))
+    alone = lambda edit: checks.begin(f"{crate.name}, {edit.stem}", lambda: checks.prover.try_alone(crate, edit, kept))
     said = {edit: alone(edit) for edit in edits if edit not in refused}
-    return refused, {edit: it.result() for edit, it in said.items()}
+    return refused, {edit: trial.result() for edit, trial in said.items()}
 
 
 def tried(checks, crate, edits):
@@ -121,7 +121,7 @@ def prove_all(edits, lanes):
         of_crate.setdefault(crate_of(edit), []).append(edit)
     build_libraries([crates[name] for name in of_crate])
     with ThreadPoolExecutor(max(1, len(of_crate))) as pool:
-        found = [it for its in pool.map(lambda name: tried(checks, crates[name], of_crate[name]), of_crate) for it in its]
+        found = [item for its in pool.map(lambda name: tried(checks, crates[name], of_crate[name]), of_crate) for item in its]
     for is_refused, text in found:
         if not is_refused or "(only b" in text:
             print(text.removeprefix("must-fail "), flush=True)

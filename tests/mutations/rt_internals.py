@@ -42,7 +42,7 @@ class Prover:
 
     def crates(self, top):
         """The crates of a tree, by name."""
-        return {it.name: it for it in self.rt.rtlib.crates_below(str(top))}
+        return {item.name: item for item in self.rt.rtlib.crates_below(str(top))}
 
     def check(self, crate, texts, flags, kept):
         """A check of the crate with these texts in place of its own: its status and what it said."""

@@ -41,8 +41,8 @@ def stale_tests():
     for crate, tests in TESTS.items():
         names = {test.split()[1] for test in tests}
         unknown = {crate, *names} - set(crates())
-        yield from [f"there is no crate {it}" for it in sorted(unknown)]
-        yield from [f"{it} is not made of {crate}" for it in sorted(names - unknown) if crate not in made_of(it)]
+        yield from [f"there is no crate {item}" for item in sorted(unknown)]
+        yield from [f"{name} is not made of {crate}" for name in sorted(names - unknown) if crate not in made_of(name)]
 
 
 def stored_run(crate, scratch):

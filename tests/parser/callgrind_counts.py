@@ -26,7 +26,7 @@ def counts(compare, scratch, files):
     words = ["valgrind", "--tool=callgrind", f"--callgrind-out-file={scratch}/callgrind.out", "--toggle-collect=measured_*",
              "--dump-after=measured_original", "--dump-after=measured_swapped", compare, "instructions", *files]
     subprocess.run([str(word) for word in words], check=True, capture_output=True)
-    parts = sorted(scratch.glob("callgrind.out.*"), key=lambda it: int(it.suffix[1:]))
+    parts = sorted(scratch.glob("callgrind.out.*"), key=lambda item: int(item.suffix[1:]))
     found = [int(re.search(r"(?m)^(?:summary|totals): (\d+)", part.read_text())[1]) for part in parts]
     if len(found) != 2 * len(files):
         raise RuntimeError(f"callgrind made {len(found)} parts for {len(files)} files")
@@ -36,7 +36,7 @@ def counts(compare, scratch, files):
 def instructions(compare, scratch, files):
     """Those of all files together."""
     both = counts(compare, scratch, files)
-    return sum(it[0] for it in both), sum(it[1] for it in both)
+    return sum(item[0] for item in both), sum(item[1] for item in both)
 
 
 def growth(compare, scratch):
@@ -52,7 +52,7 @@ def growth(compare, scratch):
     for row, name in enumerate(GROWING):
         found = both[row * len(LENGTHS):(row + 1) * len(LENGTHS)]
         for parser, column in [("original", 0), ("swapped", 1)]:
-            print(f"| {name} | {parser} | " + " | ".join(f"{it[column] / 1e6:.2f} M" for it in found) + " |")
+            print(f"| {name} | {parser} | " + " | ".join(f"{item[column] / 1e6:.2f} M" for item in found) + " |")
         if found[-1][1] / found[0][1] > SLACK * found[-1][0] / found[0][0]:
             steep.append(name)
     return steep

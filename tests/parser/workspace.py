@@ -10,7 +10,7 @@ REGISTRY = Path("/usr/share/cargo/registry")
 SOURCE = REGISTRY / "pulldown-cmark-0.9.2"
 # These and what they need are Debian's librust-pulldown-cmark-dev, and librust-NAME-dev of the others.
 NEEDED = [SOURCE] + [
-    REGISTRY / it for it in ("html5ever-0.26.0", "markup5ever_rcdom-0.2.0", "regex-1.7.1", "aho-corasick-0.7.19", "tendril-0.4.0")
+    REGISTRY / name for name in ("html5ever-0.26.0", "markup5ever_rcdom-0.2.0", "regex-1.7.1", "aho-corasick-0.7.19", "tendril-0.4.0")
 ]
 
 # What stays of scanners.rs, linklabel.rs and puncttable.rs, and why.

@@ -9,7 +9,7 @@
 enum { READS = 1048576, READ_SIZE = 4096 };
 
 static char *text;
-static size_t length, room;
+static size_t length, capacity;
 
 static int complain(const char *line, int status) {
   if (write(2, line, strlen(line)) < 0)
@@ -19,12 +19,12 @@ static int complain(const char *line, int status) {
 }
 
 static int keep(const char *bytes, size_t count) {
-  while (room - length < count) {
-    size_t wanted = room ? 2 * room : READ_SIZE;
+  while (capacity - length < count) {
+    size_t wanted = capacity ? 2 * capacity : READ_SIZE;
     char *grown = realloc(text, wanted);
     if (!grown)
       return 0;
-    text = grown, room = wanted;
+    text = grown, capacity = wanted;
   }
   memcpy(text + length, bytes, count);
   length += count;
