@@ -1,6 +1,5 @@
 pub mod Addresses
 pub mod Blocks
-pub mod ByteSets
 pub mod Content
 pub mod EscapeLaws
 pub mod Escapes

@@ -9,9 +9,6 @@ ghost use Rattle.markdown_scanners_tree.specs.scanners.links.Autolink.{is_scheme
 ghost use Rattle.markdown_html.specs.Addresses.{is_allowed_address, is_control_or_space, is_tab_or_newline};
 ghost use Rattle.markdown_html.specs.Addresses.{without_leading, without_breaks, scheme_start_state};
 
-#[cfg(test)]
-mod tests;
-
 /// Whether the scheme of an address is one of these, without regard to case, or the address is
 /// relative and has none. It is read as a browser reads it: leading control characters and spaces
 /// and all tabs and line endings are passed over. (URL standard, section 4.4)

@@ -5,7 +5,7 @@ ghost use Rattle.std.specs.Str.{IsCharBoundary};
 ghost use Rattle.markdown_html.specs.EscapeLaws.{IsTextOf};
 ghost use Rattle.markdown_html.specs.Escapes.{address_byte, escaped, escaped_byte, is_special, percent_encoded, stands_in_address, written_address};
 
-use crate::byte_sets::ByteSet;
+use markdown_scanners_tree::byte_sets::ByteSet;
 use std::alloc::AllocError;
 
 // The bytes of a text that become references: `"` and `&`, whose high half is 2, and `<` and `>`,

@@ -4,7 +4,6 @@
 
 pub mod addresses;
 mod blocks;
-mod byte_sets;
 pub mod escapes;
 pub mod html;
 mod inlines;

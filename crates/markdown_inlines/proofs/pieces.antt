@@ -2,7 +2,6 @@ pub mod NoSkipTags
 pub mod OnePiece
 pub mod Openings
 pub mod PieceEnds
-pub mod PlainLanes
 pub mod PlainLengths
 pub mod References
 pub mod TextRuns

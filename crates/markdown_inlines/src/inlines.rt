@@ -230,7 +230,8 @@ fn push_inlines(
     marks: &[Mark],
     links: &[Option<Link>],
 ) -> Result<(), AllocError>
-    requires { All (λ piece. (piece.start < piece.end) × (piece.end ≤ length marks.now)) pieces.now }
+    requires { All (λ piece. (piece.start < piece.end)
+        × (piece.end ≤ length marks.now)) pieces.now }
     ensures { OnOk result ((emphasis : List Emphasis)
         → AreMarks links.now emphasis (length marks.now) marks.now
         → inlines.new.items

@@ -52,7 +52,8 @@ pub(crate) fn scan_target<L: Labels>(
 // Where an inline link leads whose tail stands at a place, and the place after that.
 fn scan_inline_target(bytes: &[u8], place: usize) -> Option<(LinkTarget, usize)>
     requires { place ≤ length bytes.now }
-    ensures found { IfSome result (λ r. (tail : LinkTail) × IsLinkTail 32 (drop place bytes.now) tail
+    ensures found { IfSome result (λ r. (tail : LinkTail)
+        × IsLinkTail 32 (drop place bytes.now) tail
         × (r.0 ≡ inline_target place tail) × (r.1 ≡ place + tail.len)) }
     ensures none { IfNone result (HasNoTail bytes.now place) }
     ensures within { IfSome result (λ r. (place ≤ r.1) × (r.1 ≤ length bytes.now)) }

@@ -1,5 +1,5 @@
 //! Looking for the pieces of a text, from left to right.
-ghost use Rattle.std.specs.Prelude.{ℕ, ◌≡◌, ◌≢◌, ◌+◌, ◌-◌, ◌*◌, ◌/◌, ◌<◌, ◌≤◌, bit_and, length, take, drop, get_or, slice_index, IfOk, OnErr, IfSome, IfNone};
+ghost use Rattle.std.specs.Prelude.{ℕ, ◌≡◌, ◌≢◌, ◌+◌, ◌-◌, ◌*◌, ◌<◌, ◌≤◌, length, take, drop, get_or, IfOk, OnErr, IfSome, IfNone};
 ghost use Rattle.std.specs.Str.{IsCharBoundary};
 ghost use Rattle.std.specs.List.{prefix_len};
 ghost use Rattle.markdown_scanners_tree.specs.Ascii.{backtick, space};
@@ -14,40 +14,16 @@ use crate::extensions::InlineExtensions;
 use crate::piece_at::piece_at;
 use crate::pieces::Piece;
 use crate::searches::Searches;
+use markdown_scanners_tree::byte_sets::ByteSet;
 use markdown_scanners_tree::scanners::scan_ch_repeat;
 use std::alloc::{AllocError, Global};
 use std::marker::Model;
-use std::simd::prelude::*;
 
-// For each byte whether it is plain or a space.
-const PLAIN: [bool; 256] = [
-    true, true, true, true, true, true, true, true, true, true, false, true, true, false, true,
-    true, true, true, true, true, true, true, true, true, true, true, true, true, true, true, true,
-    true, true, false, true, true, true, true, false, true, true, true, false, true, true, true,
-    true, true, true, true, true, true, true, true, true, true, true, true, true, true, false,
-    true, true, true, true, true, true, true, true, true, true, true, true, true, true, true, true,
-    true, true, true, true, true, true, true, true, true, true, true, true, true, true, false,
-    false, false, true, false, false, true, true, true, true, true, true, true, true, true, true,
-    true, true, true, true, true, true, true, true, true, true, true, true, true, true, true, true,
-    true, true, true, false, true, true, true, true, true, true, true, true, true, true, true,
-    true, true, true, true, true, true, true, true, true, true, true, true, true, true, true, true,
-    true, true, true, true, true, true, true, true, true, true, true, true, true, true, true, true,
-    true, true, true, true, true, true, true, true, true, true, true, true, true, true, true, true,
-    true, true, true, true, true, true, true, true, true, true, true, true, true, true, true, true,
-    true, true, true, true, true, true, true, true, true, true, true, true, true, true, true, true,
-    true, true, true, true, true, true, true, true, true, true, true, true, true, true, true, true,
-    true, true, true, true, true, true, true, true, true, true, true, true, true, true, true, true,
-    true, true, true, true, true, true,
-];
-
-// How many bytes a vector holds.
-const LANES: usize = 16;
-
-// Of the low half of a byte, and of the high half, bits. They have one in common where the byte is neither
-// plain nor a space.
-const LOW_HALVES: [u8; 16] = [16, 2, 0, 0, 0, 0, 2, 0, 0, 0, 3, 8, 12, 9, 32, 8];
-
-const HIGH_HALVES: [u8; 16] = [1, 0, 2, 4, 0, 8, 16, 32, 0, 0, 0, 0, 0, 0, 0, 0];
+// The bytes that are neither plain nor a space.
+const NEITHER_PLAIN_NOR_SPACE: ByteSet = ByteSet {
+    low: [16, 2, 0, 0, 0, 0, 2, 0, 0, 0, 3, 8, 12, 9, 32, 8],
+    high: [1, 0, 2, 4, 0, 8, 16, 32, 0, 0, 0, 0, 0, 0, 0, 0],
+};
 
 // A text with its extensions, the place up to which it has been read, and the searches for the ends of code spans and HTML.
 #[derive(Drop)]
@@ -266,65 +242,7 @@ fn spaced_len(bytes: &[u8]) -> usize
     ensures count { result ≡ prefix_len is_plain_or_space bytes.now }
     ensures within { result ≤ length bytes.now }
 {
-    let mut len = 0;
-    while bytes.len() - len >= LANES {
-        let before = lanes_before_others(&bytes[len..]);
-        len += before;
-        if before < LANES {
-            return len;
-        }
-    }
-    len + few_spaced_len(&bytes[len..])
-}
-
-// How many of the bytes in a vector stand before the first that is neither plain nor a space.
-fn lanes_before_others(bytes: &[u8]) -> usize
-    requires { LANES ≤ length bytes.now }
-    ensures { result ≡ prefix_len is_plain_or_space (take LANES bytes.now) }
-{
-    let lanes = u8x16::from_slice(bytes);
-    let common = by_low_half(lanes) & by_high_half(lanes);
-    let others = common.simd_ne(u8x16::splat(0)).to_bitmask();
-    if others == 0 {
-        LANES
-    } else {
-        others.trailing_zeros() as usize
-    }
-}
-
-// The bits of the low half of each byte.
-#[inline(always)]
-fn by_low_half(lanes: u8x16) -> u8x16
-    ensures length { length result ≡ LANES }
-    ensures bits { (k : ℕ) → k < LANES → slice_index result k
-        ≡ slice_index LOW_HALVES (bit_and (slice_index lanes k) 15) }
-{
-    u8x16::from_array(LOW_HALVES).swizzle_dyn(lanes & u8x16::splat(15))
-}
-
-// The bits of the high half of each byte.
-#[inline(always)]
-fn by_high_half(lanes: u8x16) -> u8x16
-    ensures length { length result ≡ LANES }
-    ensures bits { (k : ℕ) → k < LANES → slice_index result k
-        ≡ slice_index HIGH_HALVES (slice_index lanes k / 16) }
-{
-    u8x16::from_array(HIGH_HALVES).swizzle_dyn(lanes >> u8x16::splat(4))
-}
-
-// The same as `spaced_len`, one byte after another.
-fn few_spaced_len(bytes: &[u8]) -> usize
-    ensures count { result ≡ prefix_len is_plain_or_space bytes.now }
-    ensures within { result ≤ length bytes.now }
-{
-    let mut len = 0;
-    while len < bytes.len() {
-        if !is_plain_or_space(bytes[len]) {
-            return len;
-        }
-        len += 1;
-    }
-    len
+    NEITHER_PLAIN_NOR_SPACE.len_outside(bytes)
 }
 
 // Whether a line ending stands at the front.
@@ -348,11 +266,4 @@ fn trimmed_len(bytes: &[u8]) -> usize
         len -= 1;
     }
     0
-}
-
-// Whether the byte is plain, or a space.
-fn is_plain_or_space(byte: u8) -> bool
-    ensures { result ≡ is_plain_or_space byte }
-{
-    PLAIN[byte as usize]
 }

@@ -2,6 +2,8 @@
 pub use Rattle.markdown_scanners_tree.proofs.HandlerLemmas.{cut_behind_ascii, cut_behind_front, front_found, steady_at_ascii, ascii_fronts}
 pub use Rattle.markdown_scanners_tree.proofs.HandlerLemmas.{callable_after_line_endings}
 pub use Rattle.markdown_scanners_tree.proofs.LabelHandlers.{label_of_more}
+pub use Rattle.markdown_scanners_tree.proofs.PrefixLemmas.{prefix_alike}
+pub use Rattle.markdown_scanners_tree.proofs.byte_sets.SetLanes.{is_outside}
 pub use Rattle.markdown_scanners_tree.proofs.inline_html.TrueGuards.{opener-bounds, opener-there, IsTrueGuard-later}
 pub use Rattle.markdown_scanners_tree.proofs.inline_html.run.GuardsStay.{accepted}
 pub use Rattle.markdown_scanners_tree.proofs.inline_html.run.KeptGuard.{first-true, next_scan}

@@ -1,5 +1,6 @@
 -- The longest prefix that a test accepts, and the parts that it cuts a list of bytes into.
-use Rattle.std.proofs.Common.{◌≡◌, ℕ, zero, suc, min, ◌+◌, ◌-◌, ◌<◌, ◌≤◌, Bool, true, false, ◌&&◌, List, [], ◌∷◌, ◌++◌, length, take, drop, get_or, refl, sym, ap, ◌∙◌, arith, inl, inr, one-add}
+use Rattle.std.proofs.Common.{◌≡◌, ℕ, zero, suc, min, ◌+◌, ◌-◌, ◌<◌, ◌≤◌, Bool, true, false, ◌&&◌}
+use Rattle.std.proofs.Common.{cond, List, [], ◌∷◌, ◌++◌, length, take, drop, get_or, refl, sym, ap, ◌∙◌, arith, inl, inr, one-add}
 use Rattle.std.specs.List.{prefix_len, list_all}
 use Rattle.std.proofs.lemmas.Bool.{cases_Bool}
 use Rattle.std.proofs.lemmas.List.{take_all, length-drop, take-append-drop}
@@ -47,6 +48,17 @@ same_cut p prefix rest prefix' rest' all stop all' stop' whole =
       sym (drop-append_seam prefix rest) ∙ ap (drop (length prefix)) whole
           ∙ ap (λ n. drop n (prefix' ++ rest')) counted ∙ drop-append_seam prefix' rest',
     )
+
+-- the tests agree on the bytes
+pub prefix_alike : (p q : ℕ → Bool) (xs ys : List ℕ) → length xs ≡ length ys
+    → ((k : ℕ) → k < length ys → p (get_or xs k 0) ≡ q (get_or ys k 0)) → prefix_len p xs ≡ prefix_len q ys
+prefix_alike p q [] [] long each = refl
+prefix_alike p q [] (y ∷ ys) long each = absurd (omega (arith, long))
+prefix_alike p q (x ∷ xs) [] long each = absurd (omega (arith, long))
+prefix_alike p q (x ∷ xs) (y ∷ ys) long each =
+    let rest : prefix_len p xs ≡ prefix_len q ys =
+    prefix_alike p q xs ys (omega (arith, long)) (λ k less. each (suc k) (omega (arith, less))) in
+    ap (λ t. cond t (1 + prefix_len p xs) 0) (each 0 (omega arith)) ∙ ap (λ n. cond (q y) (1 + n) 0) rest
 
 -- `&bytes[i..]`
 pub from_place : (bytes : List ℕ) (i : ℕ) → take (length bytes - i) (drop i bytes) ≡ drop i bytes

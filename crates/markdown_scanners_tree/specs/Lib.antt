@@ -1,4 +1,5 @@
 pub mod Ascii
+pub mod ByteSets
 pub mod Bytes
 pub mod Columns
 pub mod Handler

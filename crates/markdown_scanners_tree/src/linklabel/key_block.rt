@@ -32,7 +32,8 @@ impl KeyBlock {
     pub(crate) fn push<H: Hasher>(&mut self, byte: u8, state: &mut H)
         ensures { (rest : List ℕ)
             → fold H.write state.new (blocks_behind (take self.new.len self.new.bytes) rest)
-            ≡ fold H.write state.old (blocks_behind (take self.old.len self.old.bytes) (byte ∷ rest)) }
+            ≡ fold H.write state.old (blocks_behind (take self.old.len self.old.bytes)
+            (byte ∷ rest)) }
     {
         if self.len == SIZE {
             state.write(&self.bytes);

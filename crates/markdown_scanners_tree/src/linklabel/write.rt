@@ -60,7 +60,8 @@ pub(crate) fn write_label<F: Fn(&[u8]) -> Option<usize>>(
     requires steady { IsSteadyAfterLines F.Fn handler.now bytes.now }
     requires cuts { EndsAtChars F.Fn handler.now bytes.now text.now }
     requires front { text.now ≡ take (length text.now) bytes.now }
-    requires closed { HasLabelWithin (Skips F.Fn handler.now) bytes.now is_in_table (length text.now) }
+    requires closed { HasLabelWithin (Skips F.Fn handler.now) bytes.now is_in_table
+        (length text.now) }
     ensures written { (label : Label)
         → IsLabel (Skips F.Fn handler.now) bytes.now is_in_table label
         → OnOk result (string_bytes out.new ≡ string_bytes out.old ++ label.text) }

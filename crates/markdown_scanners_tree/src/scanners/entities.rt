@@ -112,7 +112,8 @@ pub(in crate::scanners) fn scan_name<E: Entities>(
     requires not_empty { 0 < length bytes.now }
     requires no_number { 1 < length bytes.now → slice_index bytes.now 1 ≢ number_sign }
     ensures name { result.0 ≡ prefix_len is_alphanumeric (drop 1 bytes.now) }
-    ensures found { IsNameAnswer (E.known entities.now) bytes.now result.0 (option_copied result.1) }
+    ensures found { IsNameAnswer (E.known entities.now) bytes.now result.0
+        (option_copied result.1) }
     ensures within { result.0 + 1 ≤ length bytes.now }
     ensures ended { IfSome result.1 (λ _. result.0 + 2 ≤ length bytes.now) }
 {

@@ -1,8 +1,8 @@
 use Rattle.std.proofs.Common.{not, refl, ◌∙◌, arith, get_or}
 use Rattle.std.proofs.lemmas.Bool.{agree_below_at}
+use Rattle.markdown_scanners_tree.proofs.ForCallers.{is_outside, prefix_alike}
 use Rattle.markdown_html.specs.Escapes.{is_special}
 use Rattle.markdown_html.specs.declared.escapes.TheConstants.{SPECIAL}
-use Rattle.markdown_html.proofs.byte_sets.SetLanes.{is_outside, prefix_alike}
 use Rattle.markdown_html.proofs.escapes.plain_len.Goals as goal
 
 pub returns : goal.returns

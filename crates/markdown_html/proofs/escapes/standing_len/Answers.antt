@@ -1,9 +1,9 @@
 use Rattle.std.proofs.Common.{◌≡◌, refl, ◌∙◌, ap, arith, get_or}
 use Rattle.std.specs.List.{prefix_len}
 use Rattle.std.proofs.lemmas.Bool.{agree_below_at}
+use Rattle.markdown_scanners_tree.proofs.ForCallers.{is_outside, prefix_alike}
 use Rattle.markdown_html.specs.Escapes.{stands_in_address}
 use Rattle.markdown_html.specs.declared.escapes.TheConstants.{ENCODED}
-use Rattle.markdown_html.proofs.byte_sets.SetLanes.{is_outside, prefix_alike}
 use Rattle.markdown_html.proofs.escapes.AddressParts.{standing_cut}
 use Rattle.markdown_html.proofs.escapes.standing_len.Goals as goal
 

@@ -6,15 +6,8 @@ use Rattle.std.specs.Simd.Lanes.{mask_l, top, zip2}
 use Rattle.std.proofs.lemmas.Bool.{agree_below_at}
 use Rattle.std.proofs.lemmas.List.{length-map}
 use Rattle.std.proofs.lemmas.Simd.{leading_from_mask_l, map-map, mask_l-mod, trailing_mask_l, zip2_of_maps, zip2_splat}
+use Rattle.markdown_scanners_tree.proofs.PrefixLemmas.{prefix_alike}
 use Rattle.markdown_scanners_tree.proofs.scanners.lines.BlankLemmas.{ends_no_line}
-
--- a prefix of bytes on which two tests agree
-prefix_alike : (p q : ℕ → Bool) (xs : List ℕ) → ((k : ℕ) → k < length xs → p (get_or xs k 0) ≡ q (get_or xs k 0))
-    → prefix_len p xs ≡ prefix_len q xs
-prefix_alike p q [] each = refl
-prefix_alike p q (x ∷ xs) each =
-    let rest : prefix_len p xs ≡ prefix_len q xs = prefix_alike p q xs (λ k less. each (suc k) (omega (arith, less))) in
-    ap (λ t. cond t (1 + prefix_len p xs) 0) (each 0 (omega arith)) ∙ ap (λ n. cond (q x) (1 + n) 0) rest
 
 -- a lane that is equal to a byte has all bits
 abbrev equal_lane : ℕ → ℕ → ℕ
@@ -44,7 +37,7 @@ module _ (lanes : List ℕ) (long : length lanes ≡ 16) (fits : (k : ℕ) → k
 
   prefix_is : prefix_len (λ b. not (ends b)) lanes ≡ prefix_len ends_no_line lanes
   prefix_is =
-      prefix_alike (λ b. not (ends b)) ends_no_line lanes (λ k less.
+      prefix_alike (λ b. not (ends b)) ends_no_line lanes lanes refl (λ k less.
       agree_below_at (λ b. not (ends b)) ends_no_line 256 (get_or lanes k 0) refl (fits k (omega (arith, less, long))))
 
   pub none_ends : ending_mask ≡ 0 → 16 ≡ prefix_len ends_no_line lanes

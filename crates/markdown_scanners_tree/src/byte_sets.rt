@@ -1,31 +1,34 @@
-//! Sets of bytes, and how many bytes at the front of a text are in none of them.
+//! Sets of bytes, and how many bytes at the front of a text are not in one, 16 at a time.
 ghost use Rattle.std.specs.Prelude.{ℕ, ◌≡◌, ◌/◌, ◌<◌, ◌≤◌, bit_and, length, not, slice_index, take};
 ghost use Rattle.std.specs.List.{prefix_len};
-ghost use Rattle.markdown_html.specs.ByteSets.{has_byte};
+ghost use Rattle.markdown_scanners_tree.specs.ByteSets.{has_byte};
 
 use std::simd::prelude::*;
 
 // How many bytes a vector holds.
 const LANES: usize = 16;
 
-/// A set of bytes: those of whose halves the bits have one in common.
-pub(crate) struct ByteSet {
+/// A set of bytes: those whose low and high halves, of four bits each, have a bit in common here.
+///
+/// So a bit may stand for the bytes of one high half, and eight such rows are the most that a set can
+/// tell apart.
+pub struct ByteSet {
     /// The bits of each low half.
-    pub(crate) low: [u8; 16],
+    pub low: [u8; 16],
     /// The bits of each high half.
-    pub(crate) high: [u8; 16],
+    pub high: [u8; 16],
 }
 
 impl ByteSet {
     /// Whether a byte is in the set.
-    pub(crate) fn contains(&self, byte: u8) -> bool
+    pub fn contains(&self, byte: u8) -> bool
         ensures { result ≡ has_byte self.now byte }
     {
         self.low[(byte & 15) as usize] & self.high[(byte / 16) as usize] != 0
     }
 
-    /// How many bytes at the front are not in the set.
-    pub(crate) fn len_outside(&self, bytes: &[u8]) -> usize
+    /// How many bytes at the front are not in the set: all of them, or those before the first that is.
+    pub fn len_outside(&self, bytes: &[u8]) -> usize
         ensures count { result ≡ prefix_len (λ b. not (has_byte self.now b)) bytes.now }
         ensures within { result ≤ length bytes.now }
     {

@@ -3,8 +3,7 @@ use Rattle.std.specs.Simd.Lanes.{zip2}
 use Rattle.std.proofs.lemmas.Nat.{and_le_r}
 use Rattle.std.proofs.lemmas.Simd.{Each1-all, Each1-zip2, Each2-splat, SwzOk-from_below}
 use Rattle.std.proofs.lemmas.Simd.{get_or-replicate, get_or-swz_l_below, get_or-zip2, length-swz_l, length-zip2}
-use Rattle.markdown_inlines.specs.declared.piece_scanner.TheConstants.{LOW_HALVES}
-use Rattle.markdown_inlines.proofs.piece_scanner.by_low_half.Goals as goal
+use Rattle.markdown_scanners_tree.proofs.byte_sets.ByteSet.by_low_half.Goals as goal
 
 abbrev low : List ℕ → List ℕ
 low lanes = zip2 bit_and lanes (replicate 16 15)
@@ -20,14 +19,15 @@ long : (lanes : List ℕ) → length lanes ≡ 16 → length (low lanes) ≡ 16
 long lanes sixteen = length-zip2 bit_and lanes (replicate 16 15) sixteen ∙ sixteen
 
 pub returns-clause-length : goal.returns-clause-length
-returns-clause-length c = length-swz_l w8 16 LOW_HALVES 0 (low c.args.lanes) ∙ long c.args.lanes c.fits-lanes.0
+returns-clause-length c = length-swz_l w8 16 c.args.self.now.low 0 (low c.args.lanes) ∙ long c.args.lanes c.fits-lanes.0
 
 pub returns-clause-bits : goal.returns-clause-bits
 returns-clause-bits c = λ k less.
     let lanes = c.args.lanes in
+    let bits = c.args.self.now.low in
     let sixteen = long lanes c.fits-lanes.0 in
     let is : get_or (low lanes) k 0 ≡ bit_and (get_or lanes k 0) 15 =
     get_or-zip2 bit_and lanes (replicate 16 15) k 0 0 0 (omega (arith, less, c.fits-lanes.0)) less
     ∙ ap (bit_and (get_or lanes k 0)) (get_or-replicate 16 k 15 0 less) in
-    get_or-swz_l_below w8 16 LOW_HALVES 0 (low lanes) k (omega (arith, less, sixteen)) (omega (arith, is, and_le_r (get_or lanes k 0) 15))
-    ∙ ap (λ i. get_or LOW_HALVES i 0) (omega (arith, is, less))
+    get_or-swz_l_below w8 16 bits 0 (low lanes) k (omega (arith, less, sixteen)) (omega (arith, is, and_le_r (get_or lanes k 0) 15))
+    ∙ ap (λ i. get_or bits i 0) (omega (arith, is, less))

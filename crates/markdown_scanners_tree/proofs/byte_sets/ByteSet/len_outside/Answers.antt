@@ -3,10 +3,10 @@ use Rattle.std.specs.List.{prefix_len}
 use Rattle.std.proofs.lemmas.List.{length-drop, drop-drop}
 use Rattle.std.proofs.lemmas.List.Sums.{prefix_len-le-length}
 use Rattle.markdown_scanners_tree.proofs.PrefixLemmas.{from_place, prefix_len-first}
-use Rattle.markdown_scanners_tree.proofs.ForCallers.{at_most, ends_within, goes_past}
-use Rattle.markdown_html.specs.declared.byte_sets.ByteSet.{ByteSet}
-use Rattle.markdown_html.proofs.byte_sets.SetLanes.{is_outside}
-use Rattle.markdown_html.proofs.byte_sets.ByteSet.len_outside.Goals as goal
+use Rattle.markdown_scanners_tree.specs.declared.byte_sets.ByteSet.{ByteSet}
+use Rattle.markdown_scanners_tree.proofs.byte_sets.SetLanes.{is_outside}
+use Rattle.markdown_scanners_tree.proofs.scanners.lines.LaneLemmas.{at_most, ends_within, goes_past}
+use Rattle.markdown_scanners_tree.proofs.byte_sets.ByteSet.len_outside.Goals as goal
 
 -- the bytes that the vector was loaded from
 room : (bytes : List ℕ) (from : ℕ) → from < length bytes - 16 → 16 ≤ length (drop from bytes)

@@ -1,7 +1,7 @@
 use Rattle.std.proofs.Common.{take}
 use Rattle.std.proofs.lemmas.List.{length-take-le}
-use Rattle.markdown_html.proofs.byte_sets.SetLanes.{none_common, some_common}
-use Rattle.markdown_html.proofs.byte_sets.ByteSet.lanes_outside.Goals as goal
+use Rattle.markdown_scanners_tree.proofs.byte_sets.SetLanes.{none_common, some_common}
+use Rattle.markdown_scanners_tree.proofs.byte_sets.ByteSet.lanes_outside.Goals as goal
 
 pub returns-then-mask-eq0 : goal.returns-then-mask-eq0
 returns-then-mask-eq0 c =

@@ -1,23 +1,13 @@
 -- What the bits of a vector's halves tell of its bytes.
-use Rattle.std.proofs.Common.{◌≡◌, ℕ, suc, ◌+◌, ◌/◌, ◌^◌, ◌%◌, ◌<◌, Bool, not, eqb, List, [], ◌∷◌, length}
-use Rattle.std.proofs.Common.{map, cond, get_or, replicate, bit_and, refl, sym, ap, ◌∙◌, arith, w8, w64}
+use Rattle.std.proofs.Common.{◌≡◌, ℕ, ◌/◌, ◌^◌, ◌%◌, ◌<◌, Bool, not, eqb, List, length}
+use Rattle.std.proofs.Common.{map, cond, get_or, replicate, bit_and, sym, ap, ◌∙◌, arith, w8, w64}
 use Rattle.std.specs.Int.{trailing_zeros}
 use Rattle.std.specs.List.{prefix_len}
 use Rattle.std.specs.Simd.Lanes.{mask_l, top, zip2}
 use Rattle.std.proofs.lemmas.Simd.{bitmask_splat, get_or-zip2, leading_from_mask_l, length-zip2, trailing_mask_l}
-use Rattle.markdown_html.specs.ByteSets.{has_byte}
-use Rattle.markdown_html.specs.declared.byte_sets.ByteSet.{ByteSet}
-
--- two lists whose elements pass alike
-pub prefix_alike : (p q : ℕ → Bool) (xs ys : List ℕ) → length xs ≡ length ys
-    → ((k : ℕ) → k < length ys → p (get_or xs k 0) ≡ q (get_or ys k 0)) → prefix_len p xs ≡ prefix_len q ys
-prefix_alike p q [] [] long each = refl
-prefix_alike p q [] (y ∷ ys) long each = absurd (omega (arith, long))
-prefix_alike p q (x ∷ xs) [] long each = absurd (omega (arith, long))
-prefix_alike p q (x ∷ xs) (y ∷ ys) long each =
-    let rest : prefix_len p xs ≡ prefix_len q ys =
-    prefix_alike p q xs ys (omega (arith, long)) (λ k less. each (suc k) (omega (arith, less))) in
-    ap (λ t. cond t (1 + prefix_len p xs) 0) (each 0 (omega arith)) ∙ ap (λ n. cond (q y) (1 + n) 0) rest
+use Rattle.markdown_scanners_tree.specs.ByteSets.{has_byte}
+use Rattle.markdown_scanners_tree.specs.declared.byte_sets.ByteSet.{ByteSet}
+use Rattle.markdown_scanners_tree.proofs.PrefixLemmas.{prefix_alike}
 
 abbrev pub is_outside : ByteSet → ℕ → Bool
 is_outside set b = not (has_byte set b)

@@ -1,8 +1,8 @@
 -- What has been passed over is not in the set.
 use Rattle.std.proofs.Common.{◌≡◌, ◌+◌, ◌-◌, ◌≤◌, length, drop}
 use Rattle.std.specs.List.{prefix_len}
-use Rattle.markdown_html.proofs.byte_sets.SetLanes.{is_outside}
-use Rattle.markdown_html.proofs.byte_sets.ByteSet.len_outside.Given as goal
+use Rattle.markdown_scanners_tree.proofs.byte_sets.SetLanes.{is_outside}
+use Rattle.markdown_scanners_tree.proofs.byte_sets.ByteSet.len_outside.Given as goal
 
 abbrev pub invariant-loop-from : goal.invariant-loop-from
 invariant-loop-from l = record {
