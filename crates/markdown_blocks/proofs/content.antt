@@ -10,3 +10,4 @@ pub mod ReachedPlaces
 pub mod RunLemmas
 pub mod SegmentLemmas
 pub mod Utf8Lemmas
+pub mod WholeLines

@@ -186,7 +186,7 @@ fn goes_on_blank(container: Container) -> bool
     }
 }
 
-/// How many of the open containers the line goes on with, and its place after them.
+/// How many of the open containers the line goes on with, and its position after them.
 ///
 /// It is inlined, so that where none is open, as most often, it costs no call.
 #[inline(always)]
@@ -308,8 +308,8 @@ fn pass_quote(line: &[u8], start: &mut LineStart) -> Option<bool>
     None
 }
 
-/// Passes the marker of the container that begins at the place, after so many columns of space, if
-/// one does.
+/// Passes the marker of the container that begins at the position, after so many columns of space,
+/// if one does.
 ///
 /// It is inlined, so that where no byte of a marker stands, as most often, it costs no call.
 #[inline(always)]
@@ -347,7 +347,7 @@ fn begins_with_marker_byte(bytes: &[u8]) -> bool
     )
 }
 
-// The same where less than four columns of space stand before the place.
+// The same where less than four columns of space stand before the position.
 fn scan_marked<'a>(
     line: &'a [u8],
     start: &mut LineStart<'a>,
@@ -372,8 +372,8 @@ fn scan_marked<'a>(
     scan_extension(line, start, indent, extensions)
 }
 
-// Passes the marker of the footnote definition or the definition of a term that begins at the place,
-// after so many columns of space, if one does and its extension is on.
+// Passes the marker of the footnote definition or the definition of a term that begins at the
+// position, after so many columns of space, if one does and its extension is on.
 fn scan_extension<'a>(
     line: &'a [u8],
     start: &mut LineStart<'a>,
@@ -395,8 +395,8 @@ fn scan_extension<'a>(
     scan_term_definition(line, start, indent, extensions)
 }
 
-// Passes the marker of the list item that begins at the place, after so many columns of space, if
-// one does.
+// Passes the marker of the list item that begins at the position, after so many columns of space,
+// if one does.
 fn scan_item(line: &[u8], start: &mut LineStart, indent: usize) -> Option<Container>
     requires bytes { start.old.bytes ≡ line.now }
     requires near { indent ≤ 4 }

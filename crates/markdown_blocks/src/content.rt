@@ -7,17 +7,20 @@ ghost use Rattle.markdown_scanners_tree.specs.scanners.TextLines.{lines_of};
 ghost use Rattle.markdown_blocks.specs.content.Bytes.{AreBytesOf};
 ghost use Rattle.markdown_blocks.specs.content.Content.{IsContent, StandsFrom, content_len, content_with, text_of, words_len};
 ghost use Rattle.markdown_blocks.specs.content.Left.{IsRun, IsRunAt, parts_left};
-ghost use Rattle.markdown_blocks.specs.content.Parts.{AreOneRun, AreParts, Part};
+ghost use Rattle.markdown_blocks.specs.content.Parts.{AreOneRun, AreParts, Part, one_part};
 ghost use Rattle.markdown_blocks.specs.content.Seen.{seen_part};
 ghost use Rattle.markdown_blocks.specs.content.Segments.{Rising, place_at, place_in};
+ghost use Rattle.markdown_blocks.specs.declared.blocks.BlockKind.TheVariants.{Paragraph};
 
 mod cell;
 pub(crate) mod parts;
+mod whole_lines;
 
 use crate::blocks::BlockKind;
 use crate::containers::{BlockExtensions, Container, Outer};
 pub use crate::content::cell::cell_content;
 use crate::content::parts::{LinePart, Parts};
+use crate::content::whole_lines::whole_lines;
 use std::alloc::{AllocError, Global};
 use std::marker::Model;
 
@@ -73,7 +76,8 @@ pub fn content_of<'a>(
 ) -> Result<Content<'a>, AllocError>
     ensures content { IfOk result (λ content.
         IsContent kind containers.now kept (lines_of lines.now) content) }
-    ensures lent { (parts : List Part) → AreParts kind containers.now kept (lines_of lines.now) parts
+    ensures lent { (parts : List Part)
+        → AreParts kind containers.now kept (lines_of lines.now) parts
         → AreOneRun parts → IsOk result }
     ensures bytes { IfOk result (λ content. AreBytesOf lines.now content) }
 
@@ -81,11 +85,23 @@ pub fn content_of<'a>(
     ensures utf8 { IfOk result (λ content. IsUtf8 lines.now → IsUtf8 content.text) }
 {
     let outer = Outer::new(BlockExtensions::none(), containers);
+    if let Some((begin, end)) = whole_lines(lines, kind, &outer) {
+        return Ok(lent(alloc, &lines[begin..end], kind, begin));
+    }
     let parts = Parts::of(lines, kind, &outer, kept);
     if let Some((begin, end)) = run_of(parts) {
         return Ok(lent(alloc, &lines[begin..end], kind, begin));
     }
     built(alloc, parts, kind)
+}
+
+/// The content of a paragraph of one line whose text this is, from this offset in the line on, and
+/// begins with neither a space nor a tab. It is lent from the text: no line and no container is read.
+pub fn line_content<'a>(alloc: Global, text: &'a [u8], offset: usize) -> Content<'a>
+    requires { offset + length text.now < 2 ^ 64 }
+    ensures { result ≡ content_with Paragraph (one_part offset text.now) }
+{
+    lent(alloc, text, BlockKind::Paragraph, offset)
 }
 
 impl<'a> Content<'a> {
@@ -160,7 +176,8 @@ fn segment_at(first: Segment, later: &[Segment], offset: usize) -> Segment
 
 // Where the parts begin and end in the lines, if they are one run of them.
 fn run_of(parts: Parts) -> Option<(usize, usize)>
-    ensures run { IfSome result (λ r. IsRun parts.entry.lines.now (parts_left parts.entry) r.0 r.1) }
+    ensures run { IfSome result (λ r. IsRun parts.entry.lines.now
+        (parts_left parts.entry) r.0 r.1) }
     ensures none { IfNone result (¬ AreOneRun (parts_left parts.entry)) }
 {
     let mut rest = parts;

@@ -1,5 +1,7 @@
 //! Texts as the keys of a map, which most often compare as one number.
-ghost use Rattle.std.specs.Prelude.{◌≡◌, List, ℕ, Some, refl, bytes_eq, string_bytes, get_or};
+ghost use Rattle.std.specs.Prelude.{◌≡◌, ◌≤◌, List, ℕ, Some, IsAscii, refl, bytes_eq, length, map, string_bytes, get_or};
+ghost use Rattle.std.specs.Char.{to_ascii_lowercase};
+ghost use Rattle.std.specs.Str.{IsUtf8};
 ghost use Rattle.std.specs.Cmp.{partial_equiv_from_equiv};
 ghost use Rattle.std.specs.Cmp.Lexicographic.{slice_cmp, nat_list_eq_equiv, nat_list_cmp_total, texts_ties, texts_po};
 ghost use Rattle.std.specs.Ordering.{nat_cmp};
@@ -7,27 +9,48 @@ ghost use Rattle.markdown_blocks.specs.foldings.Fronts.{front_of, HasDigits};
 
 use std::cmp::Ordering;
 use std::marker::Model;
+use std::str::from_utf8;
 
 // How many bytes of a text the number has.
 const FRONT: usize = 8;
+
+/// How long a text may be that lies in the key itself.
+pub(crate) const SHORT: usize = 32;
 
 /// The case folding of a label, in the order of its bytes. The first of these are kept as a number too,
 /// which orders most texts by one comparison.
 #[derive(Drop)]
 pub(crate) struct Folding {
     front: u64,
-    text: String,
+    text: Text,
+}
+
+// The text of a key: short, so that it lies in the key itself, or in memory of its own.
+#[derive(Drop)]
+enum Text {
+    Short(ShortText),
+    Long(String),
+}
+
+#[derive(Clone, Copy)]
+struct ShortText {
+    bytes: [u8; SHORT],
+    len: usize,
+    ghost fits: { len ≤ 32 },
 }
 
 impl Model for Folding {
-    ghost use Rattle.std.specs.Prelude.{◌≡◌, List, ℕ, string_bytes};
+    ghost use Rattle.std.specs.Prelude.{◌≡◌, List, ℕ};
+    ghost use Rattle.std.specs.Str.{IsUtf8};
     ghost use Rattle.markdown_blocks.specs.foldings.Fronts.{front_of, HasDigits};
+    ghost use Rattle.markdown_blocks.specs.foldings.Texts.{bytes_of};
 
     ghost Value = { List ℕ };
 
-    ghost view = { λ f. string_bytes f.text };
+    ghost view = { λ f. bytes_of f.text };
 
-    ghost invariant = { λ f. (f.front ≡ front_of (string_bytes f.text)) × HasDigits 8 (string_bytes f.text) };
+    ghost invariant = { λ f. (f.front ≡ front_of (bytes_of f.text)) × HasDigits 8 (bytes_of f.text)
+        × IsUtf8 (bytes_of f.text) };
 }
 
 impl Folding {
@@ -37,7 +60,24 @@ impl Folding {
     {
         Folding {
             front: front_of(text.as_str().as_bytes()),
-            text,
+            text: Text::Long(text),
+        }
+    }
+
+    /// A short text of ASCII in lower case as a key, for which no memory is asked.
+    pub(crate) fn lower(text: &str) -> Folding
+        requires short { length text.now ≤ 32 }
+        requires ascii { IsAscii text.now }
+        ensures { result ≡ map to_ascii_lowercase text.now }
+    {
+        let len = text.len();
+        let mut bytes = [0; SHORT];
+        let (lower, _) = bytes.split_at_mut(len);
+        lower.copy_from_slice(text.as_bytes());
+        lower.make_ascii_lowercase();
+        Folding {
+            front: front_of(lower),
+            text: Text::Short(ShortText { bytes, len }),
         }
     }
 
@@ -45,7 +85,21 @@ impl Folding {
     pub(crate) fn as_str(&self) -> &str
         ensures { result.now ≡ self.now }
     {
-        self.text.as_str()
+        match from_utf8(self.as_bytes()) {
+            Ok(text) => text,
+            Err(_) => unreachable!(),
+        }
+    }
+
+    // Its bytes.
+    fn as_bytes(&self) -> &[u8]
+        ensures bytes { result.now ≡ self.now }
+        ensures utf8 { IsUtf8 result.now }
+    {
+        match &self.text {
+            Text::Short(text) => &text.bytes[..text.len],
+            Text::Long(text) => text.as_str().as_bytes(),
+        }
     }
 }
 
@@ -77,7 +131,7 @@ impl PartialEq for Folding {
     ghost laws = { partial_equiv_from_equiv nat_list_eq_equiv };
 
     fn eq(&self, other: &Folding) -> bool {
-        self.as_str() == other.as_str()
+        self.as_bytes() == other.as_bytes()
     }
 }
 
@@ -106,7 +160,7 @@ impl Ord for Folding {
 
     fn cmp(&self, other: &Folding) -> Ordering {
         if self.front == other.front {
-            return self.as_str().cmp(other.as_str());
+            return self.as_bytes().cmp(other.as_bytes());
         }
         if self.front < other.front {
             Ordering::Less

@@ -50,8 +50,8 @@ fn closes_label(bytes: &[u8]) -> bool
     matches!(bytes, [b']', b':', ..])
 }
 
-/// Passes the marker of the footnote definition at the place, and the spaces and tabs after it, if
-/// one stands there and the extension is on.
+/// Passes the marker of the footnote definition at the position, and the spaces and tabs after it,
+/// if one stands there and the extension is on.
 pub(crate) fn scan_footnote<'a>(
     line: &'a [u8],
     start: &mut LineStart<'a>,
@@ -76,7 +76,7 @@ pub(crate) fn scan_footnote<'a>(
     Some(Container::Footnote)
 }
 
-// The place so many bytes further, each of one column, if they are there.
+// The position so many bytes further, each of one column, if they are there.
 fn further<'a>(line: &'a [u8], start: &LineStart, count: usize) -> Option<LineStart<'a>>
     requires { start.now.bytes ≡ line.now }
     ensures further { IfSome result (λ after. after ≡ bytes_further count start.now) }

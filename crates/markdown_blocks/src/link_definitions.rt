@@ -1,6 +1,6 @@
 //! Which link reference definition of a page a label finds. (CommonMark 0.31.2, sections 4.7 and 6.3)
-ghost use Rattle.std.specs.Prelude.{◌≡◌, ◌<◌, ◌≤◌, [], ◌∷◌, false, List, ℕ, length, option_map, string_bytes};
-ghost use Rattle.std.specs.Prelude.{is_none, IfOk, IfErr, IfSome, OnOk, Some};
+ghost use Rattle.std.specs.Prelude.{◌≡◌, ◌<◌, ◌≤◌, [], ◌∷◌, false, List, ℕ, length, option_map};
+ghost use Rattle.std.specs.Prelude.{is_none, IsAscii, IfOk, IfErr, IfSome, OnOk, Some};
 ghost use Rattle.std.specs.Cow.{cow_slice_items};
 ghost use Rattle.std.specs.Iterator.{at_most};
 ghost use Rattle.std.specs.Map.Iter.{TakesFirst, deref_pair};
@@ -18,7 +18,7 @@ ghost use Rattle.markdown_blocks.specs.link_definitions.Listed.{AreListed};
 
 use crate::containers::BlockExtensions;
 use crate::definitions::scan_definition;
-use crate::foldings::Folding;
+use crate::foldings::{Folding, SHORT};
 use crate::walk::Walk;
 use caseless::default_case_fold_str;
 use markdown_scanners_tree::linklabel::scan_link_label_bytes;
@@ -161,7 +161,8 @@ impl<'a> LinkDefinitions<'a> {
     /// The first definition whose label matches this one, if there is one. The label is as
     /// `scan_link_label_rest` reads it, with each run of white space as one space.
     ///
-    /// Memory is asked for the label's case folding, where any definition is known.
+    /// Memory is asked for the label's case folding, where any definition is known and the label is not
+    /// ASCII, or longer than 32 bytes.
     pub fn get(&self, label: &str) -> Result<Option<&LinkDefinition<'a>>, AllocError>
         ensures { IfOk result (λ found. option_copied found ≡ known_as self.now label.now) }
     {
@@ -187,7 +188,8 @@ impl<'a> LinkDefinitions<'a> {
     /// label is as `get` has it.
     pub fn add(&mut self, label: &str, definition: LinkDefinition<'a>) -> Result<bool, AllocError>
         ensures added { OnOk result ((asked : List ℕ) → known_as self.new asked
-            ≡ known_before self.old (record { label = label.now; target = definition.entry } ∷ []) asked) }
+            ≡ known_before self.old
+            (record { label = label.now; target = definition.entry } ∷ []) asked) }
         ensures is_first { IfOk result (λ is_added.
             is_added ≡ is_none (known_as self.old label.now)) }
         ensures refused { IfErr result (λ _. self.new ≡ self.old) }
@@ -285,18 +287,22 @@ impl<'d, 'a> Iterator for KnownDefinitions<'d, 'a> {
 fn key_of(alloc: Global, label: &str) -> Result<Folding, AllocError>
     ensures { IfOk result (λ key. key ≡ key_bytes label.now) }
 {
-    Ok(Folding::new(case_folding(alloc, label)?))
-}
-
-// The case folding of a label.
-fn case_folding(alloc: Global, label: &str) -> Result<String, AllocError>
-    ensures { IfOk result (λ key. string_bytes key ≡ key_bytes label.now) }
-{
     // Most labels are ASCII, and are folded where they are copied to.
     if label.is_ascii() {
-        return label.to_ascii_lowercase(alloc);
+        return ascii_key(alloc, label);
     }
-    default_case_fold_str(alloc, label)
+    Ok(Folding::new(default_case_fold_str(alloc, label)?))
+}
+
+// The key of a label of ASCII, which is in lower case. Most labels are short, and take no memory.
+fn ascii_key(alloc: Global, label: &str) -> Result<Folding, AllocError>
+    requires { IsAscii label.now }
+    ensures { IfOk result (λ key. key ≡ key_bytes label.now) }
+{
+    if label.len() <= SHORT {
+        return Ok(Folding::lower(label));
+    }
+    Ok(Folding::new(label.to_ascii_lowercase(alloc)?))
 }
 
 // The label after the bracket that opened it, if it is UTF-8.

@@ -50,7 +50,8 @@ pub(crate) fn defines_term(rest: &Rest, extensions: BlockExtensions) -> bool
 
 /// Whether the block may be a term, where this is gathered of its content.
 pub(crate) fn is_term(block: Block, extensions: BlockExtensions, content: &[u8]) -> bool
-    ensures { (whole : List ℕ) → (block.kind ≡ Paragraph → whole ≢ []) → IsGathered whole content.now
+    ensures { (whole : List ℕ) → (block.kind ≡ Paragraph → whole ≢ [])
+        → IsGathered whole content.now
         → (IsTrue result ↔ IsTerm extensions block.kind whole) }
 {
     if !extensions.definition_lists {
@@ -82,7 +83,7 @@ pub(crate) fn follows_term(is_term: bool, followed_term: bool, is_between: bool)
     is_term || (followed_term && is_between)
 }
 
-/// Passes the marker of a definition at the place, after so many columns of space, if one stands
+/// Passes the marker of a definition at the position, after so many columns of space, if one stands
 /// there and the extension is on.
 pub(crate) fn scan_term_definition(
     line: &[u8],

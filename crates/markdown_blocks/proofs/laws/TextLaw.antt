@@ -1,5 +1,5 @@
 -- The text of the leaf blocks of a page stands in their lines.
-use Rattle.std.proofs.Common.{ℕ, ◌+◌, ◌-◌, ◌<◌, ◌≤◌, ◌≡◌, ◌≢◌, ◌∙◌, List, [], ◌∷◌, ◌++◌, length, take, drop, get_or, ap, arith, subst, sym}
+use Rattle.std.proofs.Common.{ℕ, ◌+◌, ◌-◌, ◌<◌, ◌≤◌, ◌≡◌, ◌≢◌, ◌∙◌, List, [], ◌∷◌, ◌++◌, length, take, drop, get_or, inr, refl, ap, arith, subst, sym}
 use Rattle.std.specs.Prelude.{slice_index}
 use Rattle.std.specs.List.{concat, flat_map, prefix_len}
 use Rattle.std.proofs.lemmas.List.{get_or-take, get_or_append_left, length-append, length-drop, length-take}
@@ -11,7 +11,7 @@ use Rattle.markdown_scanners_tree.specs.scanners.TextLines.{lines_of}
 use Rattle.markdown_scanners_tree.proofs.ForCallers.{lines_joined}
 use Rattle.markdown_blocks.specs.containers.Containers.{Rest, rest_at}
 use Rattle.markdown_blocks.specs.content.Content.{IsContent, Placed, content_len, joined, text_of}
-use Rattle.markdown_blocks.specs.content.Parts.{ArePartsAt, first_place, later_parts}
+use Rattle.markdown_blocks.specs.content.Parts.{AreParts, ArePartsAt, first_place, later_parts, one_part, part_at}
 use Rattle.markdown_blocks.specs.declared.blocks.BlockKind.{BlockKind}
 use Rattle.markdown_blocks.specs.declared.blocks.BlockKind.TheVariants.{Paragraph}
 use Rattle.markdown_blocks.specs.declared.containers.Container.{Container}
@@ -64,6 +64,27 @@ paragraph_front outer kept line later s words first is_rest plain content is off
     let below : offset < n = omega (arith, low, ap length content_text, short) in
     ap (λ l. get_or l offset 0) content_text ∙ get_or-take n (words.text ++ more) offset 0 below ∙ get_or_append_left words.text more 0 offset inside
 
+-- the content of a paragraph of one line whose text begins so is in one part
+paragraph_line : (outer : List Container) (kept : ℕ) (line : List ℕ) (s : LineState) (words : Rest) → first_place kept outer line ≡ s
+    → words ≡ rest_at s → prefix_len is_space_or_tab words.text ≡ 0 → (offset : ℕ) → offset ≡ (after_space 4 s).place
+    → AreParts Paragraph outer kept (line ∷ []) (one_part offset words.text)
+paragraph_line outer kept line s words first is_rest plain offset at =
+    let t = after_space 4 s in
+    let text = ap (λ (w : Rest). w.text) is_rest in
+    let none : prefix_len is_space_or_tab (unscanned t) ≡ 0 = ap (prefix_len is_space_or_tab) (sym text) ∙ plain in
+    let further : t.place + prefix_len is_space_or_tab (unscanned t) ≡ t.place = omega (arith, none) in
+    let own : unscanned (after_all_space t) ≡ words.text = ap (λ n. drop n t.bytes) further ∙ sym text in
+    let there : (after_all_space t).place ≡ offset = further ∙ sym at in
+    let parts : part_at (after_all_space t) ∷ [] ≡ one_part offset words.text =
+    ap (λ n. one_part n (unscanned (after_all_space t))) there ∙ ap (one_part offset) own in
+    subst (λ z. ArePartsAt Paragraph outer z (length line) [] (one_part offset words.text)) (sym first)
+    ([], inr (refl, λ before last is left. left), sym parts)
+
+no_more : (lines : List (List ℕ)) → length lines ≡ 1 → drop 1 lines ≡ []
+no_more [] one = absurd (omega (arith, one))
+no_more (line ∷ []) one = refl
+no_more (line ∷ (more ∷ lines)) one = absurd (omega (arith, one))
+
 -- the text of a block and of its first row
 pub text_holds : (page : List ℕ) (kind : BlockKind) (outer : List Container) (kept : ℕ) (part : Part) (others : List (List ℕ)) (passed : ℕ) → part.lines ≢ []
     → lines_of (drop part.start page) ≡ part.lines ++ others
@@ -87,6 +108,13 @@ text_holds page kind outer kept part others passed some stands b =
           paragraph_front outer kept first (drop 1 part.lines) s part.words b.is_first b.is_rest plain content
           (subst (λ k. IsContent k outer kept (first ∷ drop 1 part.lines) content) paragraph
           (subst (λ ls. IsContent kind outer kept ls content) lines is));
+      line = λ paragraph plain one.
+          (let offset = (leaf_of kind part).place - part.start in
+          let only : lines_of (take (length (concat part.lines)) (drop part.start page)) ≡ first ∷ [] =
+          lines ∙ ap (λ ls. first ∷ ls) (no_more part.lines one) in
+          subst (λ ls. AreParts kind outer kept ls (one_part offset part.words.text)) (sym only)
+          (subst (λ k. AreParts k outer kept (first ∷ []) (one_part offset part.words.text)) (sym paragraph)
+          (paragraph_line outer kept first s part.words b.is_first b.is_rest plain offset (omega (arith, words, size, inside)))));
     }
   where
     place_of_first : List TextAt → ℕ

@@ -22,6 +22,10 @@ pub record Part : Type 0 where
   pub place : ℕ
   pub bytes : List ℕ
 
+-- bytes alone, from this offset on
+abbrev pub one_part : ℕ → List ℕ → List Part
+one_part offset bytes = record { columns = 0; place = offset; bytes = bytes } ∷ []
+
 -- what is left of a line
 abbrev pub part_at : LineState → Part
 part_at s = record { columns = s.pending; place = s.place; bytes = unscanned s }

@@ -1,11 +1,12 @@
 -- Blocks of a page stand in order: where each begins and ends, and where containers do. (CommonMark 0.31.2, chapter 3, "Blocks and
 -- inlines", and chapter 5)
-use Rattle.std.specs.Prelude.{ℕ, suc, ◌+◌, ◌≤◌, ◌<◌, ◌≡◌, ◌≢◌, List, [], ◌∷◌, ◌++◌, length, take, drop, slice_index, ⊤}
+use Rattle.std.specs.Prelude.{ℕ, suc, ◌+◌, ◌-◌, ◌≤◌, ◌<◌, ◌≡◌, ◌≢◌, List, [], ◌∷◌, ◌++◌, length, take, drop, slice_index, ⊤}
 use Rattle.std.specs.List.{prefix_len}
 use Rattle.markdown_scanners_tree.specs.Bytes.{is_space_or_tab}
 use Rattle.markdown_scanners_tree.specs.scanners.TextLines.{lines_of}
 use Rattle.markdown_blocks.specs.containers.Containers.{settled}
 use Rattle.markdown_blocks.specs.content.Content.{IsContent, Placed}
+use Rattle.markdown_blocks.specs.content.Parts.{AreParts, one_part}
 use Rattle.markdown_blocks.specs.declared.blocks.BlockKind.{BlockKind}
 use Rattle.markdown_blocks.specs.declared.blocks.BlockKind.TheVariants.{Indented, Html, Paragraph}
 use Rattle.markdown_blocks.specs.declared.containers.Container.{Container}
@@ -80,7 +81,8 @@ HoldsContent page outer kept passed block =
     → content_from block.kind passed block.place ≤ block.start + slice_index content.places offset
 
 -- The text of a leaf block in these containers stands in its lines from its place on. If it is a table, so does the first of its rows; if
--- it is a paragraph whose text begins with neither a space nor a tab, the content begins with that text. (4.8)
+-- it is a paragraph whose text begins with neither a space nor a tab, the content begins with that text, and with one line has no other
+-- part. (4.8)
 pub record HoldsText (page : List ℕ) (outer : List Container) (kept : ℕ) (block : LeafBlock) : Type 0 where
   pub within : block.place + length block.text ≤ block_end block
   pub row : (row : TextAt) (later : List TextAt) → rows_of kept outer (lines_of (take block.bytes (drop block.start page))) ≡ row ∷ later
@@ -88,6 +90,8 @@ pub record HoldsText (page : List ℕ) (outer : List Container) (kept : ℕ) (bl
   pub front : block.kind ≡ Paragraph → prefix_len is_space_or_tab block.text ≡ 0 → (content : Placed)
       → IsContent block.kind outer kept (lines_of (take block.bytes (drop block.start page))) content → (offset : ℕ)
       → offset < length content.text → offset < length block.text → slice_index content.text offset ≡ slice_index block.text offset
+  pub line : block.kind ≡ Paragraph → prefix_len is_space_or_tab block.text ≡ 0 → block.lines ≡ 1
+      → AreParts block.kind outer kept (lines_of (take block.bytes (drop block.start page))) (one_part (block.place - block.start) block.text)
 
 -- the same of each leaf block among nodes in these containers, of which the line goes on with so many, and where so many bytes of the
 -- page are passed before them

@@ -1,5 +1,5 @@
 //! The parts of a leaf block's lines that are its content, one after the other.
-ghost use Rattle.std.specs.Prelude.{◌≡◌, ◌↔◌, ◌+◌, ◌-◌, ◌<◌, ◌≤◌, List, ℕ, true, drop, length, take, IsTrue, None, Some};
+ghost use Rattle.std.specs.Prelude.{◌≡◌, ◌↔◌, ◌++◌, ◌+◌, ◌-◌, ◌<◌, ◌≤◌, List, ℕ, true, drop, length, take, IsTrue, None, Some};
 ghost use Rattle.markdown_scanners_tree.specs.scanners.TextLines.{lines_of};
 ghost use Rattle.markdown_blocks.specs.blocks.Leaves.{ClosesFence, In};
 ghost use Rattle.markdown_blocks.specs.containers.Containers.{all_extensions, begun_at};
@@ -166,21 +166,36 @@ impl<'a> Parts<'a> {
 // it is all, as of most kinds, the lines are not read, and more are answered than there are.
 #[inline(always)]
 fn count_inner(lines: &[u8], first: Taken, kind: BlockKind, outer: &Outer) -> usize
+    requires { first.bytes ≤ length lines.now }
     ensures { AreInner kind outer.now.containers (lines_of (drop first.bytes lines.now))
         (take (result - first.lines) (lines_of (drop first.bytes lines.now))) }
 {
     if is_all_content(kind) {
         return usize::MAX;
     }
+    read_inner(lines, first, kind, outer).lines
+}
+
+/// What is read of the lines with those after the first that are content: all, or all but the last.
+#[inline(always)]
+pub(crate) fn read_inner(lines: &[u8], first: Taken, kind: BlockKind, outer: &Outer) -> Taken
+    requires { first.bytes ≤ length lines.now }
+    ensures inner { (inner : List (List ℕ))
+        × AreInner kind outer.now.containers (lines_of (drop first.bytes lines.now)) inner
+        × (inner ≡ take (result.lines - first.lines) (lines_of (drop first.bytes lines.now)))
+        × (lines_of (drop first.bytes lines.now) ≡ inner ++ lines_of (drop result.bytes lines.now)) }
+    ensures forward { first.bytes ≤ result.bytes }
+    ensures within { result.bytes ≤ length lines.now }
+{
     let mut read = first;
     while let Some((line, more)) = read.next(lines) {
         let is_last = more.bytes == lines.len();
         if is_left_out(line, is_last, kind, outer) {
-            return read.lines;
+            return read;
         }
         read = more;
     }
-    read.lines
+    read
 }
 
 // Whether all lines of a block of this kind are content, the last one too.
@@ -216,7 +231,7 @@ fn is_closing_fence(line: &[u8], count: usize, byte: u8, outer: &Outer) -> bool
     }
 }
 
-/// The place in a block's first line after its containers.
+/// The position in a block's first line after its containers.
 #[inline(always)]
 pub(crate) fn first_place<'a>(
     line: &'a [u8],
@@ -238,7 +253,7 @@ pub(crate) fn first_place<'a>(
     start
 }
 
-// Passes the marker of a container that begins at the place, if one does.
+// Passes the marker of a container that begins at the position, if one does.
 fn pass_marker<'a>(line: &'a [u8], start: &mut LineStart<'a>) -> bool
     requires { start.old.bytes ≡ line.now }
     ensures passed { IsTrue result → (container : Container)
@@ -258,7 +273,7 @@ fn pass_marker<'a>(line: &'a [u8], start: &mut LineStart<'a>) -> bool
     true
 }
 
-// The place in a later line of a block after its containers.
+// The position in a later line of a block after its containers.
 #[inline(always)]
 fn later_place<'a>(line: &'a [u8], kind: BlockKind, outer: &Outer) -> LineStart<'a>
     ensures place { result ≡ later_place kind outer.now.containers line.now }
@@ -275,8 +290,8 @@ fn later_place<'a>(line: &'a [u8], kind: BlockKind, outer: &Outer) -> LineStart<
     }
 }
 
-// The place in a line of code or HTML after the containers that it goes on with. Of a blank line no
-// more containers are tried than it has space for.
+// The position in a line of code or HTML after the containers that it goes on with. Of a blank line
+// no more containers are tried than it has space for.
 fn place_inside<'a>(line: &'a [u8], containers: &[Container]) -> LineStart<'a>
     ensures place { result ≡ place_inside containers.now line.now }
     ensures bytes { result.bytes ≡ line.now }

@@ -15,7 +15,7 @@ use Rattle.markdown_blocks.proofs.content.content_of.Goals as goal
 
 pub returns-clause-lent : goal.returns-clause-lent
 returns-clause-lent c = λ parts are run.
-    absurd (c.in_default.ensures.none (subst AreOneRun
+    absurd (c.in_default-run_of.ensures.none (subst AreOneRun
     (one_list_of_parts c.args.kind c.args.containers.now c.args.kept (lines_of c.args.lines.now) parts
     (parts_left c.of-parts.result) are (rw c.new-outer.ensures at c.of-parts.ensures.parts)) run))
 
@@ -33,24 +33,62 @@ built_utf8 (Err e) kind outer kept lines parts are is = tt
 built_utf8 (Ok content) kind outer kept lines parts are is =
     content_utf8 kind outer kept lines content (record { parts = parts; are_parts = are; is_content = is })
 
+-- what is whole lines
+pub slice_bounds-lent-count : goal.slice_bounds-lent-count
+slice_bounds-lent-count c = (c.in-Some.ensures c.args.kept).2.0
+
+pub slice_bounds-lent-start : goal.slice_bounds-lent-start
+slice_bounds-lent-start c = (c.in-Some.ensures c.args.kept).2.0
+
+pub slice_bounds-lent-end : goal.slice_bounds-lent-end
+slice_bounds-lent-end c = (c.in-Some.ensures c.args.kept).2.1
+
+pub returns-in-Some-clause-content : goal.returns-in-Some-clause-content
+returns-in-Some-clause-content c =
+    let whole = c.in-Some.ensures c.args.kept in
+    record {
+      parts = whole.0;
+      are_parts = rw c.new-outer.ensures at whole.1;
+      is_content = c.lent.ensures whole.0 whole.2.2;
+    }
+
 pub returns-in-Some-clause-bytes : goal.returns-in-Some-clause-bytes
 returns-in-Some-clause-bytes c =
-    let parts = parts_left c.of-parts.result in
-    let run = subst (λ ls. IsRun ls parts c.in-Some.begin c.in-Some.end) c.of-parts.ensures.lines c.in-Some.ensures.run in
+    let whole = c.in-Some.ensures c.args.kept in
     content_bytes c.args.kind c.args.containers.now c.args.kept c.args.lines.now c.lent.result (record {
-      parts = parts;
-      are_parts = rw c.new-outer.ensures at c.of-parts.ensures.parts;
-      is_content = c.lent.ensures parts run.2;
+      parts = whole.0;
+      are_parts = rw c.new-outer.ensures at whole.1;
+      is_content = c.lent.ensures whole.0 whole.2.2;
     })
 
 pub returns-in-Some-clause-utf8 : goal.returns-in-Some-clause-utf8
 returns-in-Some-clause-utf8 c =
-    let parts = parts_left c.of-parts.result in
-    let run = subst (λ ls. IsRun ls parts c.in-Some.begin c.in-Some.end) c.of-parts.ensures.lines c.in-Some.ensures.run in
+    let whole = c.in-Some.ensures c.args.kept in
     content_utf8 c.args.kind c.args.containers.now c.args.kept c.args.lines.now c.lent.result (record {
+      parts = whole.0;
+      are_parts = rw c.new-outer.ensures at whole.1;
+      is_content = c.lent.ensures whole.0 whole.2.2;
+    })
+
+-- what is one run
+pub returns-in-Some-run_of-clause-bytes : goal.returns-in-Some-run_of-clause-bytes
+returns-in-Some-run_of-clause-bytes c =
+    let parts = parts_left c.of-parts.result in
+    let run = subst (λ ls. IsRun ls parts c.in-Some-run_of.begin c.in-Some-run_of.end) c.of-parts.ensures.lines c.in-Some-run_of.ensures.run in
+    content_bytes c.args.kind c.args.containers.now c.args.kept c.args.lines.now c.lent-in-Some-run_of.result (record {
       parts = parts;
       are_parts = rw c.new-outer.ensures at c.of-parts.ensures.parts;
-      is_content = c.lent.ensures parts run.2;
+      is_content = c.lent-in-Some-run_of.ensures parts run.2;
+    })
+
+pub returns-in-Some-run_of-clause-utf8 : goal.returns-in-Some-run_of-clause-utf8
+returns-in-Some-run_of-clause-utf8 c =
+    let parts = parts_left c.of-parts.result in
+    let run = subst (λ ls. IsRun ls parts c.in-Some-run_of.begin c.in-Some-run_of.end) c.of-parts.ensures.lines c.in-Some-run_of.ensures.run in
+    content_utf8 c.args.kind c.args.containers.now c.args.kept c.args.lines.now c.lent-in-Some-run_of.result (record {
+      parts = parts;
+      are_parts = rw c.new-outer.ensures at c.of-parts.ensures.parts;
+      is_content = c.lent-in-Some-run_of.ensures parts run.2;
     })
 
 pub returns-clause-bytes : goal.returns-clause-bytes
