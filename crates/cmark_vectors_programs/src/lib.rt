@@ -1,6 +1,9 @@
-//! Tests of `page_blocks`, of `markdown_inlines`, and of the uses of the library, through their public calls.
+//! Tests of `page_blocks`, `markdown_inlines`, `markdown_events` and `markdown_html`, and of the uses of the library, through their
+//! public calls.
 #![tactic(auto)]
 
+#[cfg(test)]
+mod addresses;
 #[cfg(test)]
 mod asserts;
 #[cfg(test)]
@@ -19,6 +22,8 @@ mod inlines;
 mod lists;
 #[cfg(test)]
 mod no_tables;
+#[cfg(test)]
+mod page_events;
 #[cfg(test)]
 mod runs;
 #[cfg(test)]

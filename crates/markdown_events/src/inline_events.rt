@@ -226,7 +226,8 @@ fn push_piece<'a>(
 ) -> Result<(), AllocError>
     requires source { IsSource source.now piece }
     requires parts { HasParts piece.kind source.now piece }
-    ensures { OnOk result ((here : List RangedEvent) × ArePieceEvents piece.kind source.now piece here
+    ensures { OnOk result ((here : List RangedEvent)
+        × ArePieceEvents piece.kind source.now piece here
         × (writer.new ≡ with_events here writer.old)) }
 {
     let (start, end) = (piece.start, piece.end);

@@ -7,7 +7,7 @@ use markdown_values::strings::CowStr;
 use memchr::memchr;
 use std::alloc::{AllocError, Global};
 
-/// The text with U+FFFD in the place of each U+0000. One without U+0000 is lent as it is.
+/// The text with U+FFFD instead of each U+0000. One without U+0000 is lent as it is.
 pub fn with_replacements(alloc: Global, text: &str) -> Result<CowStr<'_>, AllocError>
     ensures { IfOk result (λ read. cow_text read ≡ with_replacements text.now) }
 {

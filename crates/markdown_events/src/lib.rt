@@ -15,8 +15,6 @@ mod page;
 pub mod parser;
 mod parts;
 mod settings;
-#[cfg(test)]
-mod tests;
 pub mod text_merge;
 pub mod text_merge_stream;
 mod writer;

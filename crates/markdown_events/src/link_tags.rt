@@ -55,7 +55,7 @@ fn label_of<'a>(
         → IsWrittenTarget source.now targets link.now.text link.now.target name target
         → cow_text label ≡ name) }
 {
-    // The place after the bracket of a label is within it.
+    // The offset after the bracket of a label is within it.
     let _text = source.text();
     match &link.target {
         LinkTarget::Inline(..) => Ok(CowStr::from("")),
@@ -66,7 +66,7 @@ fn label_of<'a>(
     }
 }
 
-// The label that stands from a place up to its right bracket.
+// The label that stands from an offset up to its right bracket.
 fn label_at<'a>(
     alloc: Global,
     source: &Source<'a, '_>,
@@ -79,12 +79,12 @@ fn label_at<'a>(
     if let Some(run) = source.run() {
         return read_label(alloc, run, place);
     }
-    // It begins at the place, where no white space stands before it.
+    // It begins at the offset, where no white space stands before it.
     let label = read_label(alloc, source.text(), place)?;
     source.lend(alloc, label, place)
 }
 
-// The label that stands in a text from a place up to its right bracket.
+// The label that stands in a text from an offset up to its right bracket.
 fn read_label<'t>(alloc: Global, text: &'t str, place: usize) -> Result<CowStr<'t>, AllocError>
     requires { IsCharBoundary text.now place }
     ensures { IfOk result (λ label. (close : ℕ) (name : List ℕ)

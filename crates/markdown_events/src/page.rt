@@ -8,8 +8,6 @@ pub(crate) mod levels;
 pub(crate) mod open_elements;
 pub(crate) mod ready;
 pub(crate) mod source;
-#[cfg(test)]
-mod span_tests;
 pub(crate) mod spans;
 pub(crate) mod table_events;
 pub(crate) mod task_events;

@@ -10,7 +10,7 @@ use markdown_values::strings::CowStr;
 use std::alloc::{AllocError, Global};
 use std::str::from_utf8;
 
-/// What stands in a text from one place up to another, at both of which it may be cut.
+/// What stands in a text from one offset up to another, at both of which it may be cut.
 pub(crate) fn part(text: &str, start: usize, end: usize) -> &str
     requires begins { IsCharBoundary text.now start }
     requires ends { IsCharBoundary text.now end }

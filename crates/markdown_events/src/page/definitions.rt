@@ -43,7 +43,8 @@ impl<'a> PageDefinitions<'a> {
     /// their backslash escapes and character references resolved. Each run of white space in the
     /// label is one space, and none stands at its ends; its case doesn't matter.
     ///
-    /// Memory is asked for the label's case folding, and for a text that isn't a run of the page.
+    /// Memory is asked for the case folding of a label that is not ASCII or longer than 32 bytes, and for a
+    /// text that isn't a run of the page.
     ///
     /// # Errors
     ///

@@ -1,11 +1,15 @@
 //! The content of a leaf block of a page, and what it holds: lines, or inlines.
-ghost use Rattle.std.specs.Prelude.{◌≡◌, ◌≤◌, [], Bool, List, ℕ, length, take, drop, map, slice_index, IfOk, IfSome};
+ghost use Rattle.std.specs.Prelude.{◌≡◌, ◌≤◌, [], Bool, List, ℕ, length, take, drop, map, slice_index, IfOk, IfSome, IsTrue};
+ghost use Rattle.std.specs.List.{prefix_len};
 ghost use Rattle.markdown_values.specs.strings.Text.{cow_text};
 ghost use Rattle.markdown_values.specs.values.Events.{event_view};
+ghost use Rattle.markdown_scanners_tree.specs.Bytes.{is_space_or_tab};
 ghost use Rattle.markdown_scanners_tree.specs.scanners.TextLines.{lines_of};
 ghost use Rattle.markdown_blocks.specs.content.Content.{IsContent, StandsFrom};
 ghost use Rattle.markdown_blocks.specs.events.Events.{seen_leaf};
+ghost use Rattle.markdown_blocks.specs.declared.blocks.BlockKind.TheVariants.{Paragraph};
 ghost use Rattle.markdown_blocks.specs.laws.Characters.{IsCutOut};
+ghost use Rattle.markdown_blocks.specs.laws.Order.{HoldsText};
 ghost use Rattle.markdown_events.specs.InlineEvents.{seen_event};
 ghost use Rattle.markdown_events.specs.page.LeafEvents.{AreLineEvents, AreTextEvents, line_events, lines_in_page, page_range, placed};
 ghost use Rattle.markdown_events.specs.page.LeafContent.{CanPlace, EndWithin, LieInBlock, line_event};
@@ -14,8 +18,9 @@ use crate::definitions::Definitions;
 use crate::elements::{InlineMemory, take_room};
 use crate::inline_events::source_events;
 use crate::page::source::Source;
+use markdown_blocks::blocks::BlockKind;
 use markdown_blocks::containers::Container;
-use markdown_blocks::content::{Content, content_of};
+use markdown_blocks::content::{Content, content_of, line_content};
 use markdown_blocks::events::Leaf;
 use markdown_inlines::extensions::InlineExtensions;
 use markdown_scanners_tree::scanners::scan_line;
@@ -34,9 +39,10 @@ pub(crate) fn text_events<'a, D: Definitions<'a>>(
     definitions: &D,
     containers: &[Container],
     kept: usize,
-    leaf: Leaf,
+    leaf: Leaf<'a>,
 ) -> Result<Vec<(Event<'a>, Range<usize>)>, AllocError>
     requires cut_out { IsCutOut page.now (seen_leaf leaf) }
+    requires text { HoldsText page.now containers.now kept (seen_leaf leaf) }
     ensures events { IfOk result (λ events. (is_tight : Bool) → AreTextEvents page.now
         (record { asked = extensions; targets = D.targets definitions.now })
         (record { containers = containers.now; kept = kept; is_tight = is_tight })
@@ -58,10 +64,11 @@ pub(crate) fn code_events<'a>(
     page: &'a str,
     containers: &[Container],
     kept: usize,
-    leaf: Leaf,
+    leaf: Leaf<'a>,
     is_html: bool,
 ) -> Result<Vec<(Event<'a>, Range<usize>)>, AllocError>
     requires cut_out { IsCutOut page.now (seen_leaf leaf) }
+    requires text { HoldsText page.now containers.now kept (seen_leaf leaf) }
     ensures events { IfOk result (λ events. (is_tight : Bool) → AreLineEvents page.now
         (record { containers = containers.now; kept = kept; is_tight = is_tight })
         (seen_leaf leaf.entry) (line_event is_html) (map seen_event events.items)) }
@@ -84,15 +91,33 @@ pub(crate) fn content_in<'a>(
     page: &'a str,
     containers: &[Container],
     kept: usize,
-    leaf: Leaf,
+    leaf: Leaf<'a>,
 ) -> Result<Content<'a>, AllocError>
+    requires text { HoldsText page.now containers.now kept (seen_leaf leaf) }
     ensures content { IfOk result (λ content. IsContent leaf.entry.kind containers.now kept
         (lines_in_page page.now (seen_leaf leaf.entry)) content) }
     ensures places { IfOk result (λ content. CanPlace leaf.entry.start content) }
 {
+    if is_plain_line(leaf) {
+        let offset = leaf.place.saturating_sub(leaf.start);
+        return Ok(line_content(alloc, leaf.text, offset));
+    }
     let lines = lines_in(page.as_bytes(), leaf);
     let content = content_of(alloc, lines, leaf.kind, containers, kept)?;
     Ok(content)
+}
+
+// Whether it is a paragraph of one line, whose text begins with neither a space nor a tab.
+#[inline(always)]
+fn is_plain_line(leaf: Leaf) -> bool
+    ensures paragraph { IsTrue result → leaf.entry.kind ≡ Paragraph }
+    ensures line { IsTrue result → leaf.entry.lines ≡ 1 }
+    ensures plain { IsTrue result → prefix_len is_space_or_tab leaf.entry.text.now ≡ 0 }
+{
+    if leaf.lines != 1 || matches!(leaf.text, [b' ' | b'\t', ..]) {
+        return false;
+    }
+    matches!(leaf.kind, BlockKind::Paragraph)
 }
 
 /// The lines of the page that a leaf block has.

@@ -7,6 +7,7 @@ ghost use Rattle.markdown_values.specs.values.Tags.{tag_view};
 ghost use Rattle.markdown_blocks.specs.events.Events.{seen_leaf};
 ghost use Rattle.markdown_blocks.specs.info.Info.{info_of};
 ghost use Rattle.markdown_blocks.specs.laws.Characters.{IsCutOut};
+ghost use Rattle.markdown_blocks.specs.laws.Order.{HoldsText};
 ghost use Rattle.markdown_events.specs.InlineEvents.{ranged, seen_event};
 ghost use Rattle.markdown_events.specs.Meanings.{IsMeaning};
 ghost use Rattle.markdown_events.specs.page.InPage.{HasAsciiFence};
@@ -46,6 +47,7 @@ pub(crate) fn leaf_events<'a, D: Definitions<'a>>(
 ) -> Result<Vec<(Event<'a>, Range<usize>)>, AllocError>
     requires cut_out { IsCutOut page.now (seen_leaf leaf) }
     requires fence { HasAsciiFence leaf.kind }
+    requires text { HoldsText page.now containers.now kept (seen_leaf leaf) }
     ensures events { IfOk result (λ events. AreLeafEvents page.now
         (record { asked = extensions; targets = D.targets definitions.now })
         (record { containers = containers.now; kept = kept; is_tight = is_tight })

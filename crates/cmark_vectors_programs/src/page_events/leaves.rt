@@ -1,6 +1,6 @@
 //! The events of the leaf blocks of examples of CommonMark 0.31.2, chapters 2, 4 and 5.
-use super::event_lines::leaf_lines;
-use crate::event_reader::PageSetting;
+use super::lines::leaf_lines;
+use markdown_events::event_reader::PageSetting;
 use std::process::Abort;
 
 // A page, and a line for each event of its leaf blocks: its range, what it is, and its texts, in

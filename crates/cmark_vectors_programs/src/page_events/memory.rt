@@ -1,6 +1,6 @@
 //! Pages whose memory is refused. `rt try --test --fail-alloc N -- memory` refuses each test its N-th
 //! request for memory: a call that is refused is made again, and gives what it would have given.
-use crate::event_reader::{EventReader, PageSetting};
+use markdown_events::event_reader::{EventReader, PageSetting};
 use markdown_inlines::extensions::InlineExtensions;
 use markdown_values::values::{Event, Tag, TagEnd};
 use std::alloc::Global;

@@ -1,7 +1,7 @@
 //! The events of task list items: examples 279 and 280 of GitHub Flavored Markdown 0.29, section 5.3,
 //! and pages by the words of that section.
-use super::event_lines::leaf_lines;
-use crate::event_reader::PageSetting;
+use super::lines::leaf_lines;
+use markdown_events::event_reader::PageSetting;
 use std::process::Abort;
 
 // A page, and a line for each of its events but those of lists, items and block quotes: its range, what

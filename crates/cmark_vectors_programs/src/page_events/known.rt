@@ -1,6 +1,6 @@
 //! Where the labels of a page lead.
-use crate::definitions::PageDefinitions;
-use crate::event_reader::EventReader;
+use markdown_events::definitions::PageDefinitions;
+use markdown_events::event_reader::EventReader;
 use std::alloc::{AllocError, Global};
 use std::process::Abort;
 

@@ -1,7 +1,7 @@
 //! What tests show of events: a line for each with its range, what it is, and its texts, in which a
 //! dollar sign stands for a line ending.
 use super::{DEFINED, Page};
-use crate::event_reader::{EventReader, PageSetting};
+use markdown_events::event_reader::{EventReader, PageSetting};
 use markdown_values::strings::CowStr;
 use markdown_values::values::{
     Alignment, CodeBlockKind, Event, HeadingLevel, LinkType, Tag, TagEnd,
@@ -11,7 +11,7 @@ use std::ops::Range;
 
 // The events of a page but those of lists, items and block quotes, of up to a hundred. Labels that it
 // doesn't define lead as `DEFINED` says.
-pub(crate) fn leaf_lines(
+pub(super) fn leaf_lines(
     alloc: Global,
     page: &str,
     setting: PageSetting,
@@ -39,13 +39,13 @@ fn is_container(event: &Event) -> bool {
     matches!(tag, TagEnd::List(_) | TagEnd::Item | TagEnd::BlockQuote(_))
 }
 
-pub(crate) fn push_line(out: &mut String, event: &(Event, Range<usize>)) -> Result<(), AllocError> {
+pub(super) fn push_line(out: &mut String, event: &(Event, Range<usize>)) -> Result<(), AllocError> {
     write!(out, "{}..{} ", event.1.start, event.1.end)?;
     push_event(out, &event.0)?;
     out.push('\n')
 }
 
-pub(crate) fn push_event(out: &mut String, event: &Event) -> Result<(), AllocError> {
+fn push_event(out: &mut String, event: &Event) -> Result<(), AllocError> {
     match event {
         Event::Start(tag) => push_start(out, tag),
         Event::End(end) => push_words(out, "end ", end_name(*end)),
@@ -138,7 +138,7 @@ fn type_name(link_type: LinkType) -> &'static str {
     }
 }
 
-pub(crate) fn end_name(end: TagEnd) -> &'static str {
+pub(super) fn end_name(end: TagEnd) -> &'static str {
     match end {
         TagEnd::Paragraph => "paragraph",
         TagEnd::Heading(HeadingLevel::H1) => "heading 1",
