@@ -27,7 +27,7 @@ def under(name, shown):
     return re.sub(rb"(?m)^-:", lambda _: name.encode() + b":", shown)
 
 
-FORMS = b"usage: cmark_links [--gfm] [--wikilinks] [--] [FILE ..]\n       cmark_links -h | --help | --version\n"
+FORMS = b"usage: cmark_links [--json] [--check] [--gfm] [--wikilinks] [--] [FILE ..]\n       cmark_links -h | --help | --version\n"
 USAGE, COMPLAINTS = usage_of(Links.program, FORMS), complaints_of(Links.program, FORMS)
 UNREAD, NAMED = unread_of(Links), named_of(Links, b"", under)
 
@@ -35,14 +35,25 @@ A_PAGE = Links("a page", "", b"# [a](b)\n\nc <de:f>\n", b'-:1:3: link inline "b"
 A_TABLE = Links("a table", "--gfm", b"|[a](b)|\n|-|\n", b'-:1:2: link inline "b" ""\n')
 A_WIKILINK = Links("a wikilink", "--wikilinks", b"[[a]]\n", b'-:1:1: link wikilink "a" ""\n')
 
+AN_OBJECT = Links(
+    "an object",
+    "--json",
+    b'[a]( "\xc3\xa4")\n',
+    b'{"file":"-","line":1,"column":1,"start":0,"end":10,"element":"link","type":"inline","destination":"\\u0022\xc3\xa4\\u0022","title":""}\n',
+)
+A_FAULT = Links("a label", "", b"a\n[b][c]\n", b'-:2:1: label not defined "c"\n')
+
 # One of each form.
-PLAIN = [A_PAGE, A_TABLE, A_WIKILINK]
+PLAIN = [A_PAGE, A_TABLE, A_WIKILINK, AN_OBJECT, A_FAULT]
 
 SMALL = [
     *PLAIN,
     Links("an image that is defined", "", b"![a]\n\n[a]: b 'c'\n", b'-:1:1: image shortcut "b" "c" "a"\n'),
     Links("a reference in a list", "", b"- [x][ a]\n\n[A]: &amp;\n", b'-:1:3: link reference "&" "" "a"\n'),
+    Links("labels", "", b"[a]: b\n[A]: c\n", b'-:1:1: label not used "a"\n-:2:1: label defined before "A"\n'),
+    Links("an object of a label", "--json", b"[a][]\n", b'{"file":"-","line":1,"column":1,"fault":"label not defined","text":"a"}\n'),
     Links("not UTF-8", "", b"\xff\n", b"-: not UTF-8\n"),
+    Links("an object of what is not UTF-8", "--json", b"\xff\n", b'{"file":"-","error":"not UTF-8"}\n'),
     Links("no page", "", b"", b""),
 ]
 

@@ -1,11 +1,13 @@
 //! Prints the links of pages of Markdown.
 #![tactic(auto)]
 
+use page_links::checks::FindsFiles;
 use page_links::program::run_program;
 use page_programs::files::OpensFiles;
 use program_faults::{Reason, StepWriter, complain, reason_of};
+use std::alloc::AllocError;
 use std::env;
-use std::fs::File;
+use std::fs::{self, File};
 use std::io::{self, ErrorKind};
 use std::process::ExitCode;
 
@@ -25,6 +27,21 @@ impl OpensFiles for SystemFiles<'_> {
         match File::open(self.0, name) {
             Ok(file) => Ok(file),
             Err(error) => Err(reason_of(error.kind())),
+        }
+    }
+}
+
+impl FindsFiles for SystemFiles<'_> {
+    ghost use Rattle.std.specs.Prelude.{⊤};
+
+    ghost finds = { λ _ _ _. ⊤ };
+
+    // What can't be looked at is not there.
+    fn is_there(&self, path: &str) -> Result<bool, AllocError> {
+        match fs::exists(self.0, path) {
+            Ok(is_there) => Ok(is_there),
+            Err(error) if error.kind() == ErrorKind::OutOfMemory => Err(AllocError),
+            Err(_) => Ok(false),
         }
     }
 }
@@ -64,6 +81,7 @@ fn main(rt: HostRuntime) -> ExitCode {
     ExitCode::from(run_program(
         rt.alloc(),
         &words,
+        &SystemFiles(&rt),
         &mut rt.stdin(),
         &mut SystemFiles(&rt),
         &mut rt.stdout(),

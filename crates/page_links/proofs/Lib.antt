@@ -1,4 +1,11 @@
+mod AnchorLemmas
+mod CheckingLemmas
+mod DefinitionLemmas
+mod LabelSetLemmas
 mod LawLemmas
 mod LinkLemmas
 mod OffsetLemmas
 mod PositionLemmas
+mod TargetLemmas
+mod TextLemmas
+mod WordLemmas

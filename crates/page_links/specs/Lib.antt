@@ -1,5 +1,14 @@
+pub mod anchors
+pub mod checking
+pub mod checks
+pub mod definitions
+pub mod headings
+pub mod label_set
+pub mod labels
 pub mod links
 pub mod page
 pub mod positions
 pub mod printing
+pub mod reports
+pub mod targets
 pub mod words

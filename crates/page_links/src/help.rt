@@ -2,7 +2,7 @@
 
 /// What is written on standard error after the name of an option that is not known.
 pub const USAGE: &str = "
-usage: cmark_links [--gfm] [--wikilinks] [--] [FILE ..]
+usage: cmark_links [--json] [--check] [--gfm] [--wikilinks] [--] [FILE ..]
        cmark_links -h | --help | --version
 ";
 
@@ -11,7 +11,7 @@ pub const VERSION: &str = "cmark_links 0.1.0\n";
 
 /// What `--help` prints.
 pub const HELP: &str = "\
-usage: cmark_links [--gfm] [--wikilinks] [--] [FILE ..]
+usage: cmark_links [--json] [--check] [--gfm] [--wikilinks] [--] [FILE ..]
        cmark_links -h | --help | --version
 
 Prints a line for each link, image and autolink of a page of Markdown, in order:
@@ -37,9 +37,34 @@ All three stand in quotation marks. Each byte of them that is a quotation mark, 
 printable ASCII is printed as \\u00 and two hexadecimal digits. Of a page that is not UTF-8 one line
 is printed instead, FILE: not UTF-8.
 
+After the links come the labels that are wrong, at the references that use them, and then at the
+definitions:
+
+  FILE:LINE:COLUMN: label not defined \"LABEL\"      it has no definition
+  FILE:LINE:COLUMN: label defined before \"LABEL\"   it has one before, and this one is passed over
+  FILE:LINE:COLUMN: label not used \"LABEL\"         no link uses it
+
+Of labels that have no definition only [text][LABEL] and [LABEL][] are printed, as they would be
+links if all labels were defined: [LABEL] alone is ordinary text in most pages.
+
+  --json           prints each line as a JSON object: file, line and column; of a link start and
+                   end, the bytes of the page before it and before what follows it, element, which
+                   is link or image, type, which is HOW, destination, title and label; of a label
+                   fault and text; of a page that is not UTF-8 file and error
+  --check          prints only what is wrong, and no links: the labels, and then the links that lead
+                   nowhere, as no such file \"DESTINATION\" where that is relative and its file is not
+                   there, and as no such heading \"DESTINATION\" where that is a #FRAGMENT alone that
+                   no heading of the page makes
   --gfm            reads pages with the tables, strikethrough and task list items of GitHub Flavored
                    Markdown
   --wikilinks      reads wikilinks
+
+A relative destination leads from the folder of its page, without its query and fragment, and with
+its percent-encoded bytes decoded. Destinations with a scheme or a slash at the front, autolinks and
+wikilinks are not looked for, and the network is never asked. A heading makes the fragment that it
+makes on GitHub: its text, without that of images, in lower case, each space a hyphen, and no other
+characters but letters, marks, digits, hyphens and underscores; one that was made before has -1
+after it, then -2, and so on. Anchors of raw HTML are not read.
 
 FILE is a page; - is standard input, and so is no FILE. The lines of the pages follow one another.
 After the word -- all words are files.
@@ -48,6 +73,6 @@ A page is read whole before its lines are printed. Where a page can't be read, m
 the output can't be written, the program stops and says why on standard error, unless the reader of
 the output has left.
 
-The status is 0 where all is printed, 2 for an option that is not known, and 3 where the program
-stopped.
+The status is 0 where all is printed, 1 where --check has printed anything, 2 for an option that is
+not known, and 3 where the program stopped.
 ";

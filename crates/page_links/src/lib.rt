@@ -1,10 +1,19 @@
 //! The links of a page of Markdown, and what `cmark_links` prints of them.
 #![tactic(auto)]
 
+pub mod anchors;
+mod checking;
+pub mod checks;
+pub mod definitions;
+mod headings;
 pub mod help;
+mod label_set;
+pub mod labels;
 pub mod links;
 pub mod page;
 pub mod positions;
 mod printing;
 pub mod program;
+pub mod reports;
+mod targets;
 mod words;

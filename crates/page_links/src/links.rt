@@ -42,7 +42,8 @@ pub fn links_of_page<'a>(
     setting: PageSetting,
 ) -> Result<Vec<PageLink<'a>>, AllocError>
     ensures links { IfOk result (λ links. AreLinksOf page.now setting (map seen_link links.items)) }
-    ensures starts { IfOk result (λ links. AreStarted page.now setting (map seen_link links.items)) }
+    ensures starts { IfOk result (λ links. AreStarted page.now setting
+        (map seen_link links.items)) }
     ensures rise { IfOk result (λ links.
         RiseFrom 0 (length page.now) (map seen_link links.items)) }
 {
@@ -54,8 +55,8 @@ pub fn links_of_page<'a>(
     Ok(links)
 }
 
-// Adds the link that an event starts, if it starts one.
-fn push_link<'a>(
+/// Adds the link that an event starts, if it starts one.
+pub(crate) fn push_link<'a>(
     links: &mut Vec<PageLink<'a>>,
     event: (Event<'a>, Range<usize>),
 ) -> Result<(), AllocError>

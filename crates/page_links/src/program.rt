@@ -1,5 +1,5 @@
 //! What the program does with its words, its input and its output.
-ghost use Rattle.std.specs.Prelude.{◌≡◌, ◌≢◌, ◌⊎◌, ℕ, List, IfSome, IsSome, Some, None, codes};
+ghost use Rattle.std.specs.Prelude.{◌≡◌, ◌≢◌, ◌⊎◌, [], true, false, ℕ, List, IfSome, IsSome, Some, None, codes};
 ghost use Rattle.std.specs.Io.KnownBytes.{Appends};
 ghost use Rattle.program_faults.specs.Steps.{HasRefused, AreGiven};
 ghost use Rattle.program_faults.specs.declared.reasons.Reason.{Reason};
@@ -9,37 +9,41 @@ ghost use Rattle.page_programs.specs.Words.{pages_of, request_of, unknown_of};
 ghost use Rattle.page_programs.specs.declared.stops.Stop.{Stop};
 ghost use Rattle.page_programs.specs.declared.words.Request.TheVariants.{Pages, Help, Version};
 ghost use Rattle.page_events.specs.page.Printed.{is_unwritten};
+ghost use Rattle.page_links.specs.checking.Checking.{ChecksAll, is_reported, status_of};
 ghost use Rattle.page_links.specs.page.Printed.{IsPrintedTo, by_name};
-ghost use Rattle.page_links.specs.words.Words.{own_options, setting_of};
+ghost use Rattle.page_links.specs.words.Words.{form_of, is_check, own_options, setting_of};
 
+use crate::checking::{Checks, check_operands};
+use crate::checks::FindsFiles;
 use crate::help::{HELP, USAGE, VERSION};
-use crate::page::list_of_page;
-use crate::words::setting_of;
+use crate::page::{LinkForm, list_of_page};
+use crate::words::{OPTIONS, form_of, is_check, setting_of};
 use markdown_events::event_reader::PageSetting;
 use page_programs::files::OpensFiles;
 use page_programs::pages::PrintsPages;
 use page_programs::program;
 use page_programs::reading::read_page;
 use page_programs::says::Says;
-use page_programs::stops::Stop;
+use page_programs::stops::{Stop, report_stop};
 use page_programs::writing::write_text;
 use program_faults::{Reason, StepReader, StepWriter};
 use std::alloc::{AllocError, Global};
 
 /// Runs the program on its words, without its name, and answers its status.
 ///
-/// 0: done. 2: an option that is not known, and nothing is read. 3: a page that can't be opened or
-/// read, memory that is refused, or output that can't be written; there it stops. Each page is read
-/// whole before its lines are written.
-pub fn run_program<R: StepReader, F: OpensFiles, W: StepWriter, V: StepWriter>(
+/// 0: done. 1: `--check`, and something is printed. 2: an option that is not known, and nothing is
+/// read. 3: a page that can't be opened or read, memory that is refused, or output that can't be
+/// written; there it stops. Each page is read whole before its lines are written.
+pub fn run_program<L: FindsFiles, R: StepReader, F: OpensFiles, W: StepWriter, V: StepWriter>(
     alloc: Global,
     words: &[&str],
+    finder: &L,
     input: &mut R,
     files: &mut F,
     output: &mut W,
     faults: &mut V,
 ) -> u8
-    ensures status { (result ≡ 0) ⊎ ((result ≡ 2) ⊎ (result ≡ 3)) }
+    ensures status { (result ≡ 0) ⊎ ((result ≡ 1) ⊎ ((result ≡ 2) ⊎ (result ≡ 3))) }
 
     // An option that is not known.
     ensures only_unknown { result ≡ 2 → IsSome (unknown_of own_options words.now) }
@@ -57,27 +61,46 @@ pub fn run_program<R: StepReader, F: OpensFiles, W: StepWriter, V: StepWriter>(
     ensures unread { (request_of words.now ≡ Help) ⊎ (request_of words.now ≡ Version) →
         (input.new ≡ input.old) × (files.new ≡ files.old) }
 
-    // Pages: all of their links and images, and no others.
-    ensures printed { result ≡ 0 → request_of words.now ≡ Pages →
-        PrintsAll by_name (IsPrintedTo (setting_of words.now)) is_unwritten
+    // Pages: all of their links and images, and no others, and what is reported of their labels.
+    ensures printed { result ≡ 0 → request_of words.now ≡ Pages → is_check words.now ≡ false →
+        PrintsAll by_name (IsPrintedTo (form_of words.now) (setting_of words.now)) is_unwritten
         R.remaining R.reads F.opens F.File.remaining F.File.reads
         (pages_of words.now)
         input.old files.old (W.contents output.old)
         input.new files.new (W.contents output.new) None }
 
-    // At status 0 nothing is written to the faults; at 3 the reason is, as far as they take it.
-    ensures done { result ≡ 0 → faults.new ≡ faults.old }
+    // Pages that are checked: all that is reported of them; the status says whether anything is.
+    ensures checked { (result ≡ 0) ⊎ (result ≡ 1) → is_check words.now ≡ true →
+        (text : List ℕ)
+        × ChecksAll (L.finds finder.now) (form_of words.now) (setting_of words.now)
+        R.remaining R.reads F.opens F.File.remaining F.File.reads (pages_of words.now)
+        input.old files.old [] input.new files.new text None
+        × Appends (W.contents output.old) (W.contents output.new) text
+        × (result ≡ status_of (is_reported text)) }
+    ensures only_checked { result ≡ 1 → is_check words.now ≡ true }
+
+    // At status 0 and 1 nothing is written to the faults; at 3 the reason is, as far as they take
+    // it.
+    ensures done { (result ≡ 0) ⊎ (result ≡ 1) → faults.new ≡ faults.old }
     ensures stopped { result ≡ 3 → (name : List ℕ) × (stop : Stop)
         × AreGiven V.writes faults.old (stop_parts (codes "cmark_links") name stop) faults.new
         × IfWrite stop (λ why. why ≢ Reason.Interrupted → HasRefused W.writes why output.new)
         × ((request_of words.now ≡ Help) ⊎ (request_of words.now ≡ Version) → IsWrite stop)
-        × (request_of words.now ≡ Pages →
-        PrintsAll by_name (IsPrintedTo (setting_of words.now)) is_unwritten
+        × (request_of words.now ≡ Pages → is_check words.now ≡ false →
+        PrintsAll by_name (IsPrintedTo (form_of words.now) (setting_of words.now)) is_unwritten
         R.remaining R.reads F.opens F.File.remaining F.File.reads
         (pages_of words.now)
         input.old files.old (W.contents output.old)
-        input.new files.new (W.contents output.new) (Some (name, stop))) }
+        input.new files.new (W.contents output.new) (Some (name, stop)))
+        × (is_check words.now ≡ true → (text : List ℕ)
+        × ChecksAll (L.finds finder.now) (form_of words.now) (setting_of words.now)
+        R.remaining R.reads F.opens F.File.remaining F.File.reads (pages_of words.now)
+        input.old files.old [] input.new files.new text (Some (name, stop))
+        × (¬ IsWrite stop → Appends (W.contents output.old) (W.contents output.new) text)) }
 {
+    if is_check(words) {
+        return run_checks(alloc, words, finder, input, files, output, faults);
+    }
     let says = Says {
         name: "cmark_links",
         usage: USAGE,
@@ -85,24 +108,66 @@ pub fn run_program<R: StepReader, F: OpensFiles, W: StepWriter, V: StepWriter>(
         version: VERSION,
     };
     let links = Links {
+        form: form_of(words),
         setting: setting_of(words),
     };
     program::run_program(
-        alloc,
-        &says,
-        &["--gfm", "--wikilinks"],
-        &links,
-        words,
-        input,
-        files,
-        output,
-        faults,
+        alloc, &says, OPTIONS, &links, words, input, files, output, faults,
     )
 }
 
-// What prints the links of pages, which are read in this way.
+// Checks the pages that the words name, and answers the status.
+fn run_checks<L: FindsFiles, R: StepReader, F: OpensFiles, W: StepWriter, V: StepWriter>(
+    alloc: Global,
+    words: &[&str],
+    finder: &L,
+    input: &mut R,
+    files: &mut F,
+    output: &mut W,
+    faults: &mut V,
+) -> u8
+    ensures status { (result ≡ 0) ⊎ ((result ≡ 1) ⊎ (result ≡ 3)) }
+    ensures checked { (result ≡ 0) ⊎ (result ≡ 1) → (text : List ℕ)
+        × ChecksAll (L.finds finder.now) (form_of words.now) (setting_of words.now)
+        R.remaining R.reads F.opens F.File.remaining F.File.reads (pages_of words.now)
+        input.old files.old [] input.new files.new text None
+        × Appends (W.contents output.old) (W.contents output.new) text
+        × (result ≡ status_of (is_reported text)) }
+    ensures done { (result ≡ 0) ⊎ (result ≡ 1) → faults.new ≡ faults.old }
+    ensures stopped { result ≡ 3 → (name : List ℕ) × (stop : Stop)
+        × AreGiven V.writes faults.old (stop_parts (codes "cmark_links") name stop) faults.new
+        × IfWrite stop (λ why. why ≢ Reason.Interrupted → HasRefused W.writes why output.new)
+        × (text : List ℕ)
+        × ChecksAll (L.finds finder.now) (form_of words.now) (setting_of words.now)
+        R.remaining R.reads F.opens F.File.remaining F.File.reads (pages_of words.now)
+        input.old files.old [] input.new files.new text (Some (name, stop))
+        × (¬ IsWrite stop → Appends (W.contents output.old) (W.contents output.new) text) }
+{
+    let checks = Checks {
+        finder,
+        form: form_of(words),
+        setting: setting_of(words),
+    };
+    match check_operands(alloc, &checks, words, input, files, output) {
+        Ok(found) => status_of(found),
+        Err((name, stop)) => {
+            report_stop("cmark_links", faults, name, stop);
+            3
+        }
+    }
+}
+
+// The status of a run that is done: whether anything is printed.
+fn status_of(found: bool) -> u8
+    ensures { result ≡ status_of found }
+{
+    u8::from(found)
+}
+
+// What prints the links of pages in this form, which are read in this way.
 #[derive(Drop)]
 struct Links {
+    form: LinkForm,
     setting: PageSetting,
 }
 
@@ -112,7 +177,7 @@ impl PrintsPages for Links {
 
     ghost titles = { λ _ _. by_name };
 
-    ghost prints = { λ it. IsPrintedTo it.setting };
+    ghost prints = { λ it. IsPrintedTo it.form it.setting };
 
     ghost begins = { λ _ _ _ _ old new. new ≡ old };
 
@@ -128,7 +193,7 @@ impl PrintsPages for Links {
         output: &mut W,
     ) -> Result<(), Stop> {
         let page = read_page(alloc, input)?;
-        let text = list_of_page(alloc, title, &page, self.setting)?;
+        let text = list_of_page(alloc, title, &page, self.setting, self.form)?;
         write_text(output, text.as_str())
     }
 }

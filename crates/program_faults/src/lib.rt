@@ -52,7 +52,8 @@ impl Fault {
 pub fn report_fault<V: StepWriter>(faults: &mut V, fault: Fault) -> u8
     ensures status { result ≡ 3 }
     ensures given { IsGiven V.writes faults.old (fault_line fault) faults.new }
-    ensures line { AppendsPrefix (V.contents faults.old) (V.contents faults.new) (fault_line fault) }
+    ensures line { AppendsPrefix (V.contents faults.old) (V.contents faults.new)
+        (fault_line fault) }
 {
     complain(faults, fault.line());
     3

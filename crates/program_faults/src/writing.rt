@@ -9,7 +9,8 @@ use crate::steps::StepWriter;
 
 /// Writes a text whole, as `write_bytes` does its bytes.
 pub fn write_whole<W: StepWriter>(output: &mut W, text: &str) -> Result<(), Reason>
-    ensures written { OnOk result (Appends (W.contents output.old) (W.contents output.new) text.now) }
+    ensures written { OnOk result (Appends (W.contents output.old)
+        (W.contents output.new) text.now) }
     ensures front { AppendsPrefix (W.contents output.old) (W.contents output.new) text.now }
     ensures refused { IfErr result (λ reason. reason ≢ Reason.Interrupted
         → HasRefused W.writes reason output.new) }
@@ -20,7 +21,8 @@ pub fn write_whole<W: StepWriter>(output: &mut W, text: &str) -> Result<(), Reas
 /// Writes bytes whole, or answers why it can't; then the writer has taken a part at their front. A
 /// write that a signal interrupts is made again.
 pub fn write_bytes<W: StepWriter>(output: &mut W, bytes: &[u8]) -> Result<(), Reason>
-    ensures written { OnOk result (Appends (W.contents output.old) (W.contents output.new) bytes.now) }
+    ensures written { OnOk result (Appends (W.contents output.old)
+        (W.contents output.new) bytes.now) }
     ensures front { AppendsPrefix (W.contents output.old) (W.contents output.new) bytes.now }
     ensures refused { IfErr result (λ reason. reason ≢ Reason.Interrupted
         → HasRefused W.writes reason output.new) }

@@ -1,9 +1,13 @@
 -- What the words of the command line ask for, beside what those of each program ask for.
-use Rattle.std.specs.Prelude.{ℕ, List, [], ◌∷◌, codes}
+use Rattle.std.specs.Prelude.{ℕ, Bool, true, false, ◌&&◌, List, [], ◌∷◌, codes, is_none, if◌then◌else◌}
 use Rattle.std.specs.Borrow.{Bor}
 use Rattle.markdown_inlines.specs.declared.extensions.InlineExtensions.{InlineExtensions}
 use Rattle.markdown_events.specs.declared.event_reader.PageSetting.{PageSetting}
-use Rattle.page_programs.specs.Words.{asks}
+use Rattle.page_programs.specs.Words.{asks, request_of, unknown_of}
+use Rattle.page_programs.specs.declared.words.Request.{Request}
+use Rattle.page_programs.specs.declared.words.Request.TheVariants.{Pages}
+use Rattle.page_links.specs.declared.printing.LinkForm.{LinkForm}
+use Rattle.page_links.specs.declared.printing.LinkForm.TheVariants as Form
 
 abbrev pub gfm : List ℕ
 gfm = codes "--gfm"
@@ -11,9 +15,15 @@ gfm = codes "--gfm"
 abbrev pub wikilinks : List ℕ
 wikilinks = codes "--wikilinks"
 
+abbrev pub json : List ℕ
+json = codes "--json"
+
+abbrev pub check : List ℕ
+check = codes "--check"
+
 -- the options that the program has of its own
 abbrev pub own_options : List (List ℕ)
-own_options = gfm ∷ wikilinks ∷ []
+own_options = json ∷ check ∷ gfm ∷ wikilinks ∷ []
 
 -- the extensions of GitHub Flavored Markdown are on where `--gfm` asks for them, wikilinks where a word of their own does
 abbrev pub inlines_of : List (Bor (List ℕ)) → InlineExtensions
@@ -21,3 +31,15 @@ inlines_of words = record { strikethrough = asks gfm words; wikilinks = asks wik
 
 abbrev pub setting_of : List (Bor (List ℕ)) → PageSetting
 setting_of words = record { tables = asks gfm words; tasks = asks gfm words; inlines = inlines_of words }
+
+-- a line is a JSON object where `--json` asks for that
+abbrev pub form_of : List (Bor (List ℕ)) → LinkForm
+form_of words = if asks json words then Form.Json else Form.Words
+
+abbrev pub is_pages : Request → Bool
+is_pages Pages = true
+is_pages request = false
+
+-- pages are checked where no option is unknown, `--check` asks for that, and neither the help nor the version is asked for
+abbrev pub is_check : List (Bor (List ℕ)) → Bool
+is_check words = is_none (unknown_of own_options words) && (asks check words && is_pages (request_of words))

@@ -8,6 +8,6 @@ use Rattle.page_links.proofs.page.push_list.Given as goal
 abbrev pub invariant-loop-link : goal.invariant-loop-link
 invariant-loop-link l = record {
   is_line : IsLineOf l.page l.line;
-  written : string_bytes l.text ++ list_of l.name l.page (map seen_link (drop l.link-index l.links))
-      ≡ string_bytes l.fn.text ++ list_of l.name l.page (map seen_link l.links);
+  written : string_bytes l.text ++ list_of l.form l.name l.page (map seen_link (drop l.link-index l.links))
+      ≡ string_bytes l.fn.text ++ list_of l.form l.name l.page (map seen_link l.links);
 }

@@ -1,5 +1,5 @@
 use Rattle.std.proofs.Common.{◌++◌, codes, ap, ◌∙◌}
-use Rattle.page_links.proofs.page.line_of_none.Goals as goal
+use Rattle.page_links.proofs.page.words_of_none.Goals as goal
 
 pub returns : goal.returns
 returns c =

@@ -1,0 +1,58 @@
+use Rattle.std.proofs.Common.{refl, sym, ◌∙◌}
+use Rattle.std.specs.Prelude.{Some, None}
+use Rattle.std.proofs.lemmas.Result.{IfOk-weaker, IfErr-weaker}
+use Rattle.page_programs.specs.Runs.{from_input, from_file, not_opened}
+use Rattle.std.specs.Io.KnownBytes.{Appends}
+use Rattle.page_links.proofs.CheckingLemmas.{page_checked, page_stopped}
+use Rattle.page_links.proofs.checking.check_named.Goals as goal
+
+pub returns-then-eq-clause-checked : goal.returns-then-eq-clause-checked
+returns-then-eq-clause-checked g c =
+    IfOk-weaker c.check_page.result _ _
+    (λ found all. (
+      all.0,
+      λ before. from_input _ _ _ _ _ _ _ (sym c.eq.ensures ∙ c.if-eq.true) (all.1 before),
+      all.2,
+      all.3,
+    ))
+    (page_checked (g.L.FindsFiles.finds c.args.checks.now.finder.now) c.args.checks.now.form c.args.checks.now.setting g.R.Read.remaining
+    g.R.StepReader.reads c.args.name.now c.args.input.now c.check_page.new.input
+    (λ text. Appends (g.W.Write.contents c.args.output.now) (g.W.Write.contents c.check_page.new.output) text) c.check_page.result
+    c.check_page.ensures.printed c.check_page.ensures.read c.check_page.ensures.ended c.check_page.ensures.reads)
+
+pub returns-then-eq-clause-stopped : goal.returns-then-eq-clause-stopped
+returns-then-eq-clause-stopped g c =
+    IfErr-weaker c.check_page.result _ _
+    (λ stop all. (λ before. from_input _ _ _ _ _ _ _ (sym c.eq.ensures ∙ c.if-eq.true) (all.0 before), all.1))
+    (page_stopped (g.L.FindsFiles.finds c.args.checks.now.finder.now) c.args.checks.now.form c.args.checks.now.setting g.R.Read.remaining
+    g.R.StepReader.reads c.args.name.now c.args.input.now c.check_page.new.input _ c.check_page.result
+    c.check_page.ensures.unwritten c.check_page.ensures.failed c.check_page.ensures.reads)
+
+pub returns-in-Err-clause-stopped : goal.returns-in-Err-clause-stopped
+returns-in-Err-clause-stopped g c =
+    (λ before. not_opened _ _ _ _ _ c.in-Err.reason (sym c.eq.ensures ∙ c.if-eq.false) c.in-Err.ensures, λ _. refl)
+
+pub returns-clause-checked : goal.returns-clause-checked
+returns-clause-checked g c =
+    IfOk-weaker c.check_page-2.result _ _
+    (λ found all. (
+      all.0,
+      λ before. from_file _ _ _ _ _ _ _ c.in-Ok.file c.check_page-2.new.input (sym c.eq.ensures ∙ c.if-eq.false) c.in-Ok.ensures (all.1 before),
+      all.2,
+      all.3,
+    ))
+    (page_checked (g.L.FindsFiles.finds c.args.checks.now.finder.now) c.args.checks.now.form c.args.checks.now.setting g.F.File.Read.remaining
+    g.F.File.StepReader.reads c.args.name.now c.in-Ok.file c.check_page-2.new.input
+    (λ text. Appends (g.W.Write.contents c.args.output.now) (g.W.Write.contents c.check_page-2.new.output) text) c.check_page-2.result
+    c.check_page-2.ensures.printed c.check_page-2.ensures.read c.check_page-2.ensures.ended c.check_page-2.ensures.reads)
+
+pub returns-clause-stopped : goal.returns-clause-stopped
+returns-clause-stopped g c =
+    IfErr-weaker c.check_page-2.result _ _
+    (λ stop all. (
+      λ before. from_file _ _ _ _ _ _ _ c.in-Ok.file c.check_page-2.new.input (sym c.eq.ensures ∙ c.if-eq.false) c.in-Ok.ensures (all.0 before),
+      all.1,
+    ))
+    (page_stopped (g.L.FindsFiles.finds c.args.checks.now.finder.now) c.args.checks.now.form c.args.checks.now.setting g.F.File.Read.remaining
+    g.F.File.StepReader.reads c.args.name.now c.in-Ok.file c.check_page-2.new.input _ c.check_page-2.result
+    c.check_page-2.ensures.unwritten c.check_page-2.ensures.failed c.check_page-2.ensures.reads)

@@ -1,0 +1,82 @@
+-- What is reported of the labels of a page.
+use Rattle.std.specs.Prelude.{ℕ, Bool, true, false, ◌&&◌, not, ◌≡◌, List, [], ◌∷◌, ◌++◌, Some, None, map, nat_eq, if◌then◌else◌}
+use Rattle.std.specs.Cmp.Lexicographic.{pointwise}
+use Rattle.std.specs.List.{filter_map, flat_map, list_any}
+use Rattle.markdown_values.specs.declared.values.LinkType.{LinkType}
+use Rattle.markdown_values.specs.declared.values.LinkType.TheVariants as Kind
+use Rattle.markdown_scanners_tree.specs.linklabel.Key.{label_key}
+use Rattle.markdown_blocks.specs.link_definitions.LinkDefinitions.{Target}
+use Rattle.markdown_events.specs.Targets.{Targets}
+use Rattle.markdown_events.specs.InlineEvents.{RangedEvent}
+use Rattle.markdown_events.specs.declared.event_reader.PageSetting.{PageSetting}
+use Rattle.markdown_events.specs.page.PageEvents.{ArePageEventsWith}
+use Rattle.page_links.specs.declared.reports.Fault.{Fault}
+use Rattle.page_links.specs.declared.reports.Fault.TheVariants.{NotDefined, NotUsed, DefinedBefore}
+use Rattle.page_links.specs.definitions.Definitions.{AreDefinitionsIn, Defined}
+use Rattle.page_links.specs.links.Links.{Seen, link_of}
+use Rattle.page_links.specs.reports.Reports.{Reported}
+
+-- ---- labels
+
+-- Two labels match where their case foldings are equal. (CommonMark 0.31.2, section 6.3)
+abbrev pub matches : List ℕ → List ℕ → Bool
+matches one other = pointwise nat_eq (label_key one) (label_key other)
+
+-- one of these labels matches
+abbrev pub is_among : List (List ℕ) → List ℕ → Bool
+is_among labels label = list_any (λ one. matches one label) labels
+
+abbrev pub labels_of : List Seen → List (List ℕ)
+labels_of links = map (λ it. it.label) links
+
+abbrev pub labels_defined : List Defined → List (List ℕ)
+labels_defined defined = map (λ it. it.label) defined
+
+-- ---- labels that are used and not defined
+
+-- a label stands in brackets of its own after the text, or an empty pair follows it: a label alone is ordinary text in most pages
+abbrev pub is_full_or_collapsed : LinkType → Bool
+is_full_or_collapsed Kind.Reference = true
+is_full_or_collapsed Kind.Collapsed = true
+is_full_or_collapsed kind = false
+
+-- every label leads somewhere, where the page does not define it
+abbrev pub everywhere : Targets
+everywhere label = Some (record { destination = []; title = None })
+
+-- The links that a page would have if every label were defined.
+pub record AreLinksIfDefined (page : List ℕ) (setting : PageSetting) (links : List Seen) : Type 0 where
+  pub events : List RangedEvent
+  pub are_events : ArePageEventsWith page setting everywhere events
+  pub are_links : links ≡ filter_map link_of events
+
+-- what is reported of such a link, where the page defines these labels
+abbrev pub not_defined : List (List ℕ) → Seen → List Reported
+not_defined labels it =
+    if is_full_or_collapsed it.link_type && not (is_among labels it.label)
+    then record { offset = it.range.start; fault = NotDefined; text = it.label } ∷ [] else []
+
+-- ---- labels that are defined twice, or not used
+
+-- what is reported of a definition, where links use these labels and these are defined before it: of each label the first one counts (4.7)
+abbrev pub of_definition : List (List ℕ) → List (List ℕ) → Defined → List Reported
+of_definition used before it =
+    if is_among before it.label then record { offset = it.offset; fault = DefinedBefore; text = it.label } ∷ []
+    else if is_among used it.label then []
+    else record { offset = it.offset; fault = NotUsed; text = it.label } ∷ []
+
+-- the same of each, after definitions of these labels
+abbrev pub of_definitions : List (List ℕ) → List (List ℕ) → List Defined → List Reported
+of_definitions used before [] = []
+of_definitions used before (it ∷ later) =
+    of_definition used before it ++ of_definitions used (before ++ it.label ∷ []) later
+
+-- ---- a page
+
+-- What is reported of the labels of a page that has these links.
+pub record AreLabelReports (page : List ℕ) (setting : PageSetting) (links : List Seen) (reports : List Reported) : Type 0 where
+  pub defined : List Defined
+  pub are_defined : AreDefinitionsIn page setting defined
+  pub asked : List Seen
+  pub are_asked : AreLinksIfDefined page setting asked
+  pub are_reports : reports ≡ flat_map (not_defined (labels_defined defined)) asked ++ of_definitions (labels_of links) [] defined

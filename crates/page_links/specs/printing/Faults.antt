@@ -1,0 +1,35 @@
+-- The lines that are printed of faults, in words and as JSON.
+use Rattle.std.specs.Prelude.{ℕ, List, [], ◌∷◌, ◌++◌, codes}
+use Rattle.std.specs.Fmt.{decimal}
+use Rattle.markdown_scanners_tree.specs.Ascii.{line_feed}
+use Rattle.page_events.specs.json.Json.{member, text_member, word_json}
+use Rattle.page_events.specs.printing.Lines.{quoted}
+use Rattle.page_links.specs.declared.positions.Position.{Position}
+use Rattle.page_links.specs.declared.printing.LinkForm.{LinkForm}
+use Rattle.page_links.specs.declared.printing.LinkForm.TheVariants.{Words, Json}
+use Rattle.page_links.specs.declared.reports.Fault.{Fault}
+use Rattle.page_links.specs.declared.reports.Fault.TheVariants.{NotDefined, NotUsed, DefinedBefore, NoFile, NoAnchor}
+use Rattle.page_links.specs.printing.Lines.{file_member, position_members, position_words}
+use Rattle.page_links.specs.reports.Reports.{Reported}
+
+abbrev pub fault_words : Fault → List ℕ
+fault_words NotDefined = codes "label not defined"
+fault_words NotUsed = codes "label not used"
+fault_words DefinedBefore = codes "label defined before"
+fault_words NoFile = codes "no such file"
+fault_words NoAnchor = codes "no such heading"
+
+-- the line of a fault that is there in the page of this name
+abbrev pub fault_line : List ℕ → Position → Reported → List ℕ
+fault_line name position it = position_words name position ++ (fault_words it.fault ++ (quoted it.text ++ line_feed ∷ []))
+
+-- its object
+abbrev pub fault_json : List ℕ → Position → Reported → List ℕ
+fault_json name position it =
+    file_member name ++ (position_members position ++ (member (codes "fault") (word_json (fault_words it.fault))
+    ++ (text_member (codes "text") it.text ++ codes "}\n")))
+
+-- what is printed of it in this form
+abbrev pub fault_in : LinkForm → List ℕ → Position → Reported → List ℕ
+fault_in Words = fault_line
+fault_in Json = fault_json

@@ -1,0 +1,27 @@
+//! What is reported of a page.
+
+/// What is wrong.
+#[derive(Clone, Copy, Debug)]
+pub enum Fault {
+    /// A label is used that the page doesn't define.
+    NotDefined,
+    /// A label is defined that no link of the page uses.
+    NotUsed,
+    /// A label has a definition before this one, which is passed over.
+    DefinedBefore,
+    /// A link leads to a file that is not there.
+    NoFile,
+    /// A link leads to an anchor of its page that no heading makes.
+    NoAnchor,
+}
+
+/// What is reported of a page.
+#[derive(Debug, Drop)]
+pub struct Report {
+    /// How many bytes of the page stand before what is wrong.
+    pub offset: usize,
+    /// What is wrong.
+    pub fault: Fault,
+    /// The label that is wrong, or the destination.
+    pub text: String,
+}
