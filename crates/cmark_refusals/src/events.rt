@@ -1,7 +1,7 @@
 //! Events, each of which owns or lends a text or holds a tag.
+use crate::printing::{Copied, MadeOf, print_consuming, print_copy};
 use crate::stop::Stop;
 use crate::tags::{TagKind, tag};
-use crate::telling::{Copied, MadeOf, tell_consuming, tell_copy};
 use crate::texts::{Held, Holding, OF_30};
 use markdown_values::strings::CowStr;
 use markdown_values::values::Event;
@@ -20,7 +20,7 @@ pub(crate) fn run(alloc: Global, output: Stdout, case: EventCase) -> Result<(), 
     match case {
         EventCase::Clone => clone_all(alloc, output),
         EventCase::IntoStatic => all_into_static(alloc, output),
-        EventCase::StartClone => tell_copy(alloc, output, start(alloc, Holding::Owned)),
+        EventCase::StartClone => print_copy(alloc, output, start(alloc, Holding::Owned)),
         EventCase::StartIntoStatic => {
             into_static(
                 alloc,
@@ -38,7 +38,7 @@ fn into_static(
     first: Result<Event<'static>, AllocError>,
     second: Result<Event<'static>, AllocError>,
 ) -> Result<(), Stop> {
-    tell_consuming::<Event<'static>, Event<'static>>(alloc, output, OF_30, first, second)
+    print_consuming::<Event<'static>, Event<'static>>(alloc, output, OF_30, first, second)
 }
 
 impl Copied for Event<'static> {
@@ -94,7 +94,7 @@ fn event(alloc: Global, kind: Kind, holding: Holding) -> Result<Event<'static>, 
 // Each event of one owned text is copied.
 fn clone_all(alloc: Global, output: Stdout) -> Result<(), Stop> {
     for kind in KINDS {
-        tell_copy(alloc, output, event(alloc, kind, Holding::Owned))?;
+        print_copy(alloc, output, event(alloc, kind, Holding::Owned))?;
     }
     Ok(())
 }

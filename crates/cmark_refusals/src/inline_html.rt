@@ -1,6 +1,6 @@
 //! Tags over lines, and runs of scans of inline HTML.
+use crate::printing::{MadeOf, print_reading};
 use crate::stop::Stop;
-use crate::telling::{MadeOf, tell_reading};
 use markdown_scanners_tree::inline_html::{HtmlRun, run_inline_html};
 use markdown_scanners_tree::scanners::scan_html_block_inner;
 use std::alloc::{AllocError, Global};
@@ -49,13 +49,13 @@ impl MadeOf<&[u8]> for Found {
 
 /// A tag over two lines.
 pub(crate) fn tag(alloc: Global, output: Stdout) -> Result<(), Stop> {
-    tell_reading::<&[u8], Found>(alloc, output, "<foo bar>", b"<foo\n> bar>")
+    print_reading::<&[u8], Found>(alloc, output, "<foo bar>", b"<foo\n> bar>")
 }
 
 /// A tag whose text has 900 bytes.
 pub(crate) fn tag_of_900_bytes(alloc: Global, output: Stdout) -> Result<(), Stop> {
     let data = attributes(alloc)?;
-    tell_reading::<&[u8], Found>(alloc, output, "448 attributes", data.as_bytes())
+    print_reading::<&[u8], Found>(alloc, output, "448 attributes", data.as_bytes())
 }
 
 fn attributes(alloc: Global) -> Result<String, AllocError> {
@@ -75,5 +75,5 @@ impl MadeOf<&[usize]> for HtmlRun {
 
 /// Places up to one that is refused.
 pub(crate) fn run(alloc: Global, output: Stdout) -> Result<(), Stop> {
-    tell_reading::<&[usize], HtmlRun>(alloc, output, TEXT, &PLACES)
+    print_reading::<&[usize], HtmlRun>(alloc, output, TEXT, &PLACES)
 }

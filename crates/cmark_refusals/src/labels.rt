@@ -1,7 +1,7 @@
 //! Link labels.
 use crate::no_memory::texts::hash_of;
+use crate::printing::{MadeOf, print, print_consuming, print_reading, print_ready};
 use crate::stop::Stop;
-use crate::telling::{MadeOf, tell, tell_consuming, tell_reading, tell_ready};
 use crate::texts::boxed;
 use markdown_scanners_tree::linklabel::{LinkLabel, scan_link_label_bytes, scan_link_label_rest};
 use markdown_values::strings::CowStr;
@@ -34,19 +34,19 @@ impl<'a> MadeOf<&'a [u8]> for Option<(usize, CowStr<'a>)> {
 /// A label that doesn't stand in its text as it is.
 pub(crate) fn short(alloc: Global, output: Stdout) -> Result<(), Stop> {
     let text = "hello\r\nworld\r\n]";
-    tell_reading::<&str, Label<'_>>(alloc, output, "hello world", text)
+    print_reading::<&str, Label<'_>>(alloc, output, "hello world", text)
 }
 
 /// A label that doesn't stand as it is in its bytes, which are no text.
 pub(crate) fn in_bytes(alloc: Global, output: Stdout) -> Result<(), Stop> {
     let bytes: &[u8] = b"hello\r\nworld\r\n]\xff";
-    tell_reading::<&[u8], Label<'_>>(alloc, output, "hello world", bytes)
+    print_reading::<&[u8], Label<'_>>(alloc, output, "hello world", bytes)
 }
 
 /// A label of 900 bytes.
 pub(crate) fn of_900_bytes(alloc: Global, output: Stdout) -> Result<(), Stop> {
     let text = two_words(alloc)?;
-    tell_reading::<&str, Label<'_>>(alloc, output, "two words", text.as_str())
+    print_reading::<&str, Label<'_>>(alloc, output, "two words", text.as_str())
 }
 
 // Words of 450 and 449 bytes, with two spaces between them.
@@ -78,18 +78,18 @@ impl MadeOf<CowStr<'static>> for NewLabel<'static> {
 /// The label of an owned text, which takes no memory of its own.
 pub(crate) fn new(alloc: Global, output: Stdout) -> Result<(), Stop> {
     let (first, second) = (boxed(alloc, STREET), boxed(alloc, STREET));
-    tell_consuming::<CowStr<'static>, NewLabel<'static>>(alloc, output, STREET, first, second)
+    print_consuming::<CowStr<'static>, NewLabel<'static>>(alloc, output, STREET, first, second)
 }
 
 /// Labels are read and compared without memory.
 pub(crate) fn compared(alloc: Global, output: Stdout) -> Result<(), Stop> {
     let (one, other) = two_labels(alloc)?;
-    tell_compared(output, &one, &other)
+    print_compared(output, &one, &other)
 }
 
-fn tell_compared(output: Stdout, one: &LinkLabel<'_>, other: &LinkLabel<'_>) -> Result<(), Stop> {
-    tell_ready(output)?;
-    tell(output, compared_labels(one, other))
+fn print_compared(output: Stdout, one: &LinkLabel<'_>, other: &LinkLabel<'_>) -> Result<(), Stop> {
+    print_ready(output)?;
+    print(output, compared_labels(one, other))
 }
 
 fn two_labels(alloc: Global) -> Result<(LinkLabel<'static>, LinkLabel<'static>), AllocError> {

@@ -1,6 +1,6 @@
 //! Runs of calls on a line, and delimiter rows.
+use crate::printing::{MadeOf, print_reading};
 use crate::stop::Stop;
-use crate::telling::{MadeOf, tell_reading};
 use markdown_scanners_tree::line::{LineCall, LineRun, run_line};
 use markdown_scanners_tree::scanners::scan_table_head;
 use markdown_values::values::Alignment;
@@ -31,7 +31,7 @@ impl MadeOf<&[LineCall]> for LineRun {
 /// Calls of each kind, more than a few answers, and a rest that is longer than what is left of the
 /// line.
 pub(crate) fn run(alloc: Global, output: Stdout) -> Result<(), Stop> {
-    tell_reading::<&[LineCall], LineRun>(alloc, output, LINE, &CALLS)
+    print_reading::<&[LineCall], LineRun>(alloc, output, LINE, &CALLS)
 }
 
 const ROW: &str = "|-|:-|-:|:-:|-|:-|-:|:-:|-|:-|-:|:-:|-|:-|-:|:-:|-|:-|\n";
@@ -48,5 +48,5 @@ impl MadeOf<&[u8]> for Row {
 /// A row of eighteen columns.
 pub(crate) fn table_head(alloc: Global, output: Stdout) -> Result<(), Stop> {
     let row = ROW.as_bytes();
-    tell_reading::<&[u8], Row>(alloc, output, "18 columns", row)
+    print_reading::<&[u8], Row>(alloc, output, "18 columns", row)
 }

@@ -1,4 +1,4 @@
-//! Makes each call that may want memory, so that memory can be refused to it from outside: tells
+//! Makes each call that may want memory, so that memory can be refused to it from outside: prints
 //! where it is refused and what is left then, makes it again, and prints its answer.
 #![tactic(auto)]
 
@@ -8,9 +8,9 @@ mod inline_html;
 mod labels;
 mod lines;
 mod no_memory;
+mod printing;
 mod stop;
 mod tags;
-mod telling;
 mod texts;
 mod trees;
 mod unescaping;

@@ -2,7 +2,7 @@
 use std::alloc::AllocError;
 use std::io::Error;
 
-/// A refusal that the case doesn't tell of, a write that failed, or a name that no case has.
+/// A refusal that the case doesn't print, a write that failed, or a name that no case has.
 #[derive(Clone, Copy)]
 pub(crate) enum Stop {
     Memory,

@@ -1,6 +1,6 @@
 //! Kinds of code blocks, and tags, with all that owns memory in them.
+use crate::printing::{Copied, MadeOf, print_consuming, print_copy};
 use crate::stop::Stop;
-use crate::telling::{Copied, MadeOf, tell_consuming, tell_copy};
 use crate::texts::{Held, Holding, OF_30};
 use markdown_values::strings::CowStr;
 use markdown_values::values::{Alignment, CodeBlockKind, HeadingLevel, LinkType, Tag};
@@ -28,15 +28,15 @@ pub(crate) enum TagCase {
 
 pub(crate) fn run(alloc: Global, output: Stdout, case: TagCase) -> Result<(), Stop> {
     match case {
-        TagCase::KindClone => tell_copy(alloc, output, fenced(alloc, Holding::Owned)),
+        TagCase::KindClone => print_copy(alloc, output, fenced(alloc, Holding::Owned)),
         TagCase::KindIntoStatic => kind_into_static(alloc, output),
-        TagCase::Clone(kind) => tell_copy(alloc, output, tag(alloc, kind, Holding::Owned)),
+        TagCase::Clone(kind) => print_copy(alloc, output, tag(alloc, kind, Holding::Owned)),
         TagCase::IntoStatic(kind) => into_static(alloc, output, kind),
     }
 }
 
 fn kind_into_static(alloc: Global, output: Stdout) -> Result<(), Stop> {
-    tell_consuming::<CodeBlockKind<'static>, CodeBlockKind<'static>>(
+    print_consuming::<CodeBlockKind<'static>, CodeBlockKind<'static>>(
         alloc,
         output,
         OF_30,
@@ -46,7 +46,7 @@ fn kind_into_static(alloc: Global, output: Stdout) -> Result<(), Stop> {
 }
 
 fn into_static(alloc: Global, output: Stdout, kind: TagKind) -> Result<(), Stop> {
-    tell_consuming::<Tag<'static>, Tag<'static>>(
+    print_consuming::<Tag<'static>, Tag<'static>>(
         alloc,
         output,
         OF_30,

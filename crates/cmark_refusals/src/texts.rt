@@ -1,6 +1,6 @@
 //! Texts: cases of `CowStr`.
+use crate::printing::{Copied, MadeOf, print_consuming, print_copy};
 use crate::stop::Stop;
-use crate::telling::{Copied, MadeOf, tell_consuming, tell_copy};
 use markdown_values::strings::{CowStr, InlineStr};
 use std::alloc::{AllocError, Global};
 use std::fmt;
@@ -103,7 +103,7 @@ impl MadeOf<CowStr<'static>> for Text<'static> {
 pub(crate) fn run(alloc: Global, output: Stdout, case: TextCase) -> Result<(), Stop> {
     match case {
         TextCase::FromString => from_string(alloc, output),
-        TextCase::Clone => tell_copy(alloc, output, owned(alloc)),
+        TextCase::Clone => print_copy(alloc, output, owned(alloc)),
         TextCase::IntoString => into_string(alloc, output),
         TextCase::IntoStatic => into_static(alloc, output),
     }
@@ -112,26 +112,26 @@ pub(crate) fn run(alloc: Global, output: Stdout, case: TextCase) -> Result<(), S
 // An owned text keeps the memory of its `String`.
 fn from_string(alloc: Global, output: Stdout) -> Result<(), Stop> {
     let (first, second) = (string(alloc), string(alloc));
-    tell_consuming::<String, CowStr<'static>>(alloc, output, OF_30, first, second)
+    print_consuming::<String, CowStr<'static>>(alloc, output, OF_30, first, second)
 }
 
 // A borrowed text and an inlined one become a `String`.
 fn into_string(alloc: Global, output: Stdout) -> Result<(), Stop> {
-    tell_string(alloc, output, OF_30, Ok(lent()), Ok(lent()))?;
-    tell_string(alloc, output, "藏", Ok(inlined()), Ok(inlined()))
+    print_string(alloc, output, OF_30, Ok(lent()), Ok(lent()))?;
+    print_string(alloc, output, "藏", Ok(inlined()), Ok(inlined()))
 }
 
-fn tell_string(
+fn print_string(
     alloc: Global,
     output: Stdout,
     state: &str,
     first: Result<CowStr<'static>, AllocError>,
     second: Result<CowStr<'static>, AllocError>,
 ) -> Result<(), Stop> {
-    tell_consuming::<CowStr<'static>, String>(alloc, output, state, first, second)
+    print_consuming::<CowStr<'static>, String>(alloc, output, state, first, second)
 }
 
 // A long borrowed text is owned.
 fn into_static(alloc: Global, output: Stdout) -> Result<(), Stop> {
-    tell_consuming::<CowStr<'static>, Text<'static>>(alloc, output, OF_30, Ok(lent()), Ok(lent()))
+    print_consuming::<CowStr<'static>, Text<'static>>(alloc, output, OF_30, Ok(lent()), Ok(lent()))
 }

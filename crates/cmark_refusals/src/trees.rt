@@ -1,8 +1,8 @@
 //! Trees, whose nodes, spine and focus are printed before each call and where it is refused.
 ghost use Rattle.std.specs.Prelude.{◌≡◌, length, IfOk, IsSome};
 
+use crate::printing::{MadeOf, print, print_reading, print_ready};
 use crate::stop::Stop;
-use crate::telling::{MadeOf, tell, tell_reading, tell_ready};
 use markdown_values::tree::{Tree, TreeIndex};
 use std::alloc::{AllocError, Global};
 use std::io::{Stdout, Write};
@@ -48,7 +48,7 @@ impl MadeOf<Capacity> for bool {
 
 /// A new tree.
 pub(crate) fn with_capacity(alloc: Global, output: Stdout) -> Result<(), Stop> {
-    tell_reading::<Capacity, bool>(alloc, output, "no tree", Capacity(5))
+    print_reading::<Capacity, bool>(alloc, output, "no tree", Capacity(5))
 }
 
 fn append_named(alloc: Global, tree: &mut Tree<Named>, name: &str) -> Result<TreeIndex, AllocError>
@@ -89,7 +89,7 @@ fn full(alloc: Global) -> Result<(Tree<Named>, TreeIndex), AllocError>
     Ok((tree, first))
 }
 
-fn tell_link(mut output: Stdout, link: Option<TreeIndex>) -> Result<(), Stop> {
+fn print_link(mut output: Stdout, link: Option<TreeIndex>) -> Result<(), Stop> {
     match link {
         Some(ix) => write!(output, " {}", ix.get())?,
         None => output.write_all(b" -")?,
@@ -102,7 +102,7 @@ const MANY: usize = 10;
 
 // The focus, the spine from the root, and the nodes from the first: each with its item, its child
 // and its next sibling.
-fn tell_tree(
+fn print_tree(
     mut output: Stdout,
     word: &str,
     tree: &Tree<Named>,
@@ -111,20 +111,20 @@ fn tell_tree(
     requires { first ≡ 1 }
 {
     write!(output, "{word} focus")?;
-    tell_link(output, tree.cur())?;
+    print_link(output, tree.cur())?;
     write!(output, " spine")?;
     for ix in tree.walk_spine() {
-        tell_link(output, Some(*ix))?;
+        print_link(output, Some(*ix))?;
     }
     for k in 0..MANY {
-        tell_node(output, tree, first + k)?;
+        print_node(output, tree, first + k)?;
     }
     writeln!(output)?;
     Ok(())
 }
 
 // The node at this index, if there is one.
-fn tell_node(mut output: Stdout, tree: &Tree<Named>, ix: TreeIndex) -> Result<(), Stop> {
+fn print_node(mut output: Stdout, tree: &Tree<Named>, ix: TreeIndex) -> Result<(), Stop> {
     let Some(node) = tree.get(ix) else {
         return Ok(());
     };
@@ -133,20 +133,20 @@ fn tell_node(mut output: Stdout, tree: &Tree<Named>, ix: TreeIndex) -> Result<()
         None => "-",
     };
     write!(output, " node {} {name}", ix.get())?;
-    tell_link(output, node.child)?;
-    tell_link(output, node.next)
+    print_link(output, node.child)?;
+    print_link(output, node.next)
 }
 
 // What a call may use or change, before the call.
-fn tell_before(output: Stdout, tree: &Tree<Named>, first: TreeIndex) -> Result<(), Stop>
+fn print_before(output: Stdout, tree: &Tree<Named>, first: TreeIndex) -> Result<(), Stop>
     requires { first ≡ 1 }
 {
-    tell_tree(output, "before", tree, first)?;
-    tell_ready(output)
+    print_tree(output, "before", tree, first)?;
+    print_ready(output)
 }
 
 // The index that a call answers, and the tree after it.
-fn tell_after(
+fn print_after(
     output: Stdout,
     ix: TreeIndex,
     tree: &Tree<Named>,
@@ -154,8 +154,8 @@ fn tell_after(
 ) -> Result<(), Stop>
     requires { first ≡ 1 }
 {
-    tell(output, ix)?;
-    tell_tree(output, "after", tree, first)
+    print(output, ix)?;
+    print_tree(output, "after", tree, first)
 }
 
 /// A node is appended after the focus, and as the only child of a parent.
@@ -198,15 +198,15 @@ fn add_fifth(
     requires { first ≡ 1 }
 {
     let item = item_named(alloc, "E")?;
-    tell_before(output, tree, first)?;
+    print_before(output, tree, first)?;
     let ix = match add(tree, item, adding) {
         Ok(ix) => ix,
         Err(_) => {
-            tell_tree(output, "refused", tree, first)?;
+            print_tree(output, "refused", tree, first)?;
             add(tree, item_named(alloc, "E")?, adding)?
         }
     };
-    tell_after(output, ix, tree, first)
+    print_after(output, ix, tree, first)
 }
 
 fn add(tree: &mut Tree<Named>, item: Named, adding: Adding) -> Result<TreeIndex, AllocError> {
@@ -253,54 +253,54 @@ fn push_focus(output: Stdout, tree: &mut Tree<Named>, first: TreeIndex) -> Resul
     requires first { first ≡ 1 }
     requires focus { IsSome tree.old.focus }
 {
-    tell_before(output, tree, first)?;
+    print_before(output, tree, first)?;
     let ix = match tree.push() {
         Ok(ix) => ix,
         Err(_) => {
-            tell_tree(output, "refused", tree, first)?;
+            print_tree(output, "refused", tree, first)?;
             tree.push()?
         }
     };
-    tell_after(output, ix, tree, first)
+    print_after(output, ix, tree, first)
 }
 
 /// A tree is copied, with its items. The answer is the copy, and the tree that was copied.
 pub(crate) fn clone(alloc: Global, output: Stdout) -> Result<(), Stop> {
     let (tree, first) = full(alloc)?;
-    tell_clone(output, &tree, first)
+    print_clone(output, &tree, first)
 }
 
-fn tell_clone(output: Stdout, tree: &Tree<Named>, first: TreeIndex) -> Result<(), Stop>
+fn print_clone(output: Stdout, tree: &Tree<Named>, first: TreeIndex) -> Result<(), Stop>
     requires { first ≡ 1 }
 {
-    tell_before(output, tree, first)?;
+    print_before(output, tree, first)?;
     let copy = match tree.clone() {
         Ok(copy) => copy,
         Err(_) => {
-            tell_tree(output, "refused", tree, first)?;
+            print_tree(output, "refused", tree, first)?;
             tree.clone()?
         }
     };
-    tell_tree(output, "copy", &copy, first)?;
-    tell_tree(output, "after", tree, first)
+    print_tree(output, "copy", &copy, first)?;
+    print_tree(output, "after", tree, first)
 }
 
 /// The nodes are printed in order.
 pub(crate) fn in_order(alloc: Global, output: Stdout) -> Result<(), Stop> {
     let (tree, first) = full(alloc)?;
-    tell_in_order(output, &tree, first)
+    print_in_order(output, &tree, first)
 }
 
-fn tell_in_order(output: Stdout, tree: &Tree<Named>, first: TreeIndex) -> Result<(), Stop>
+fn print_in_order(output: Stdout, tree: &Tree<Named>, first: TreeIndex) -> Result<(), Stop>
     requires { first ≡ 1 }
 {
-    tell_before(output, tree, first)?;
+    print_before(output, tree, first)?;
     match tree.in_order() {
-        Ok(order) => tell(output, order)?,
+        Ok(order) => print(output, order)?,
         Err(_) => {
-            tell_tree(output, "refused", tree, first)?;
-            tell(output, tree.in_order()?)?;
+            print_tree(output, "refused", tree, first)?;
+            print(output, tree.in_order()?)?;
         }
     }
-    tell_tree(output, "after", tree, first)
+    print_tree(output, "after", tree, first)
 }

@@ -1,6 +1,6 @@
 //! Escapes and references.
+use crate::printing::{MadeOf, print_reading};
 use crate::stop::Stop;
-use crate::telling::{MadeOf, tell_reading};
 use crate::texts::Text;
 use markdown_scanners_tree::scanners::{EntityTable, unescape};
 use markdown_values::strings::CowStr;
@@ -31,11 +31,11 @@ impl<'a> MadeOf<&'a str> for Text<'a> {
 /// An escape, a reference and a line ending of two bytes.
 pub(crate) fn short(alloc: Global, output: Stdout) -> Result<(), Stop> {
     let text = "a\\*b &amp;lt; &#x1F354; &no; c\r";
-    tell_reading::<&str, Text<'_>>(alloc, output, "a\\*b &amp;lt; ..", text)
+    print_reading::<&str, Text<'_>>(alloc, output, "a\\*b &amp;lt; ..", text)
 }
 
 /// A text whose meaning has 900 bytes.
 pub(crate) fn of_900_bytes(alloc: Global, output: Stdout) -> Result<(), Stop> {
     let source = "&amp;".repeat(alloc, 900)?;
-    tell_reading::<&str, Text<'_>>(alloc, output, "900 references", source.as_str())
+    print_reading::<&str, Text<'_>>(alloc, output, "900 references", source.as_str())
 }

@@ -25,7 +25,8 @@ pub fn is_break(line: &[u8]) -> bool
 /// look there again.
 #[tactic(auto, using(markdown_scanners_tree::proofs::ForCallers::thematic_breaks))]
 pub fn break_free(text: &[u8]) -> Option<usize>
-    ensures free { IfSome result (λ place. (k : ℕ) → k < place → ¬ IsThematicBreak (drop k text.now)) }
+    ensures free { IfSome result (λ place. (k : ℕ) → k < place
+        → ¬ IsThematicBreak (drop k text.now)) }
     ensures far { IfSome result (λ place. place ≡ break_length text.now) }
     ensures none { IfNone result (IsThematicBreak text.now) }
 {
@@ -64,7 +65,8 @@ pub fn marker_length(line: &[u8]) -> Option<usize>
 pub fn table_columns(alloc: Global, line: &[u8]) -> Result<Option<Vec<Alignment>>, AllocError>
     ensures found { IfOk result (λ found. IfSome found (λ columns.
         (n : ℕ) × IsDelimiterRow line.now n columns.items)) }
-    ensures some_column { IfOk result (λ found. IfSome found (λ columns. 0 < length columns.items)) }
+    ensures some_column { IfOk result
+        (λ found. IfSome found (λ columns. 0 < length columns.items)) }
     ensures none { IfOk result (λ found. IfNone found (
         (n : ℕ) (columns : _) → ¬ IsDelimiterRow line.now n columns)) }
 {
@@ -90,7 +92,8 @@ pub fn column_width(alloc: Global, line: &[u8], width: usize) -> Result<Option<u
 
 /// How many columns the table has whose delimiter row the line is.
 pub fn column_count(alloc: Global, line: &[u8]) -> Result<Option<usize>, AllocError>
-    ensures found { IfOk result (λ found. IfSome found (λ count. (n : ℕ) × (columns : List Alignment)
+    ensures found { IfOk result (λ found. IfSome found
+        (λ count. (n : ℕ) × (columns : List Alignment)
         × IsDelimiterRow line.now n columns × (length columns ≡ count))) }
     ensures none { IfOk result (λ found. IfNone found (
         (n : ℕ) (columns : _) → ¬ IsDelimiterRow line.now n columns)) }

@@ -28,7 +28,8 @@ pub fn heading_text(line: &[u8]) -> Option<&[u8]>
 /// The level that a line gives to the text above it, where the line is the underline of a heading.
 pub fn level_above(line: &[u8]) -> Option<HeadingLevel>
     ensures found { IfSome result (λ level. (n : ℕ) × IsSetextUnderline line.now n level) }
-    ensures none { IfNone result ((n : ℕ) (level : HeadingLevel) → ¬ IsSetextUnderline line.now n level) }
+    ensures none { IfNone result ((n : ℕ) (level : HeadingLevel)
+        → ¬ IsSetextUnderline line.now n level) }
 {
     let (_, level) = scan_setext_heading(line)?;
     Some(level)

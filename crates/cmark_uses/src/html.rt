@@ -35,8 +35,10 @@ pub fn inline_html(alloc: Global, text: &[u8]) -> Result<Vec<(usize, usize)>, Al
 
 /// The ends of the inline HTML after these openers, each outside what was found before it, and the bytes passed over.
 pub fn html_ends(alloc: Global, text: &[u8], places: &[usize]) -> Result<HtmlRun, AllocError>
-    ensures ends { IfOk result (λ run. run.answers.items ≡ run_answers (new_run text.now) places.now) }
-    ensures bound { IfOk result (λ run. run.passed ≤ 4 * length text.now + 8 * length run.answers.items) }
+    ensures ends { IfOk result (λ run. run.answers.items
+        ≡ run_answers (new_run text.now) places.now) }
+    ensures bound { IfOk result (λ run.
+        run.passed ≤ 4 * length text.now + 8 * length run.answers.items) }
 {
     run_inline_html(alloc, text, places)
 }

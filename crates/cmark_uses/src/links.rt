@@ -27,7 +27,8 @@ pub const FEW_ENTITIES: EntityTable = EntityTable {
 /// characters.
 pub fn raw_destination(text: &str, start: usize) -> Option<(usize, &str)>
     requires { 0 < start → IsCharBoundary text.now start }
-    ensures found { SomeExactly (λ (r : ℕ × List ℕ). IsLinkDestination 32 (drop start text.now) r.0 r.1)
+    ensures found { SomeExactly (λ (r : ℕ × List ℕ). IsLinkDestination 32
+        (drop start text.now) r.0 r.1)
         (option_map (λ r. (r.0, r.1.now)) result) }
 {
     scan_link_dest(text, start, DEPTH)

@@ -54,7 +54,8 @@ fn block_length(text: &[u8]) -> usize
 /// The blocks of a page, which together are the page: fenced code up to its closing fence, and other lines up to one that
 /// is blank or interrupts a paragraph.
 pub fn blocks_of(alloc: Global, page: &[u8]) -> Result<Vec<&[u8]>, AllocError>
-    ensures parts { IfOk result (λ blocks. concat (map (λ block. block.now) blocks.items) ≡ page.now) }
+    ensures parts { IfOk result (λ blocks. concat (map (λ block. block.now) blocks.items)
+        ≡ page.now) }
 {
     let mut blocks = Vec::new(alloc);
     let mut rest = page;

@@ -73,7 +73,7 @@ module _ (skips : List Skip) (bytes : List ℕ) where
             (let same : Some found ≡ Some skip = rw front at returned in
             let is : found ≡ skip = cc in
             (sym is, subst (λ n. is_ascii_front rest n ≡ true) is front))
-        | inr other ↦ absurd (let lacks = rw other at returned in cc)
+        | inr other ↦ absurd (let none = rw other at returned in cc)
       ]
 
   pub returned_front : (rest : List ℕ) (skip : ℕ) → ReturnedAscii skips bytes rest skip → IsAsciiFront rest skip

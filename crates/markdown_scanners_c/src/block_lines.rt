@@ -276,7 +276,8 @@ fn opened_returned(
 
 // Those that its line goes on with.
 fn kept_returned(alloc: Global, containers: &[Container]) -> Result<Vec<Block>, AllocError>
-    ensures { IfOk result (λ returned. returned.items ≡ map (λ c. open_returned c 0) containers.now) }
+    ensures { IfOk result (λ returned. returned.items
+        ≡ map (λ c. open_returned c 0) containers.now) }
 {
     containers
         .iter()

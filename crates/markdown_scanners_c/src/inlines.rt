@@ -166,7 +166,8 @@ fn inlines_returned(
     inlines: &[Found],
 ) -> Result<Vec<Inline>, AllocError>
     requires { AreRoomy links.now }
-    ensures { IfOk result (λ returned. returned.items ≡ map (inline_returned links.now) inlines.now) }
+    ensures { IfOk result (λ returned. returned.items
+        ≡ map (inline_returned links.now) inlines.now) }
 {
     let mut returned = Vec::new(alloc);
     for inline in inlines {

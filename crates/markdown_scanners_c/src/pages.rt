@@ -107,7 +107,8 @@ pub extern "C" fn mds_scan_blocks(alloc: Global, page: &[u8], blocks: &mut [Bloc
 
 // The blocks of a page.
 fn returned_blocks(alloc: Global, page: &[u8]) -> Result<Vec<Block>, AllocError>
-    ensures { IfOk result (λ returned. (events : List Event) × IsEventsOf no_extensions page.now events
+    ensures { IfOk result (λ returned. (events : List Event)
+        × IsEventsOf no_extensions page.now events
         × (returned.items ≡ map event_returned events)) }
 {
     let mut returned = Vec::new(alloc);

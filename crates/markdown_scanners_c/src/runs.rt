@@ -55,7 +55,8 @@ fn write_numbers(numbers: &[usize], buffer: &mut [usize], done: u32) -> u32
 // The ends that are found at the places in turn, and the reason why one is refused, if one is.
 fn ends_of(alloc: Global, bytes: &[u8], places: &[usize]) -> Result<(Vec<usize>, u32), AllocError>
     ensures ends { IfOk result (λ r. r.0.items ≡ run_ends bytes.now places.now) }
-    ensures status { IfOk result (λ r. r.1 ≡ stop_status (run_stop (new_run bytes.now) 0 places.now)) }
+    ensures status { IfOk result (λ r. r.1
+        ≡ stop_status (run_stop (new_run bytes.now) 0 places.now)) }
     ensures budget { IfOk result (λ r. bytes_passed bytes.now (take (length r.0.items) places.now)
         ≤ 4 * length bytes.now + 8 * length r.0.items) }
     ensures count { IfOk result (λ r. length r.0.items ≤ length places.now) }

@@ -163,7 +163,8 @@ fn column_of(start: usize, place: usize) -> u128
 
 // Adds what stands at the front of a line.
 fn push_front(text: &mut String, form: Form, front: Front) -> Result<(), AllocError>
-    ensures { OnOk result (string_bytes text.new ≡ string_bytes text.old ++ front_printed form front) }
+    ensures { OnOk result (string_bytes text.new ≡ string_bytes text.old
+        ++ front_printed form front) }
 {
     match form {
         Form::Words => write!(text, "{} {} {} ", front.first, front.last, front.depth),

@@ -146,7 +146,8 @@ fn print_page<R: StepReader, W: StepWriter>(
     output: &mut W,
 ) -> Result<(), Stop>
     ensures printed { IfOk result (λ _. IfSome (R.remaining input.old) (λ bytes.
-        IsPrintedTo extensions form title.now bytes (W.contents output.old) (W.contents output.new))) }
+        IsPrintedTo extensions form title.now bytes (W.contents output.old)
+        (W.contents output.new))) }
     ensures read { IfOk result (λ _. IsAtEnd (R.remaining input.new)) }
     ensures ended { IfOk result (λ _. HasEnded R.reads input.new) }
     ensures begun { IfErr result (λ stop. ¬ IsWrite stop →

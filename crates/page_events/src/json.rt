@@ -6,8 +6,8 @@ ghost use Rattle.markdown_events.specs.InlineEvents.{seen_event};
 ghost use Rattle.page_blocks.specs.json.Json.{truth};
 ghost use Rattle.page_events.specs.json.Json.{event_json, event_kind, event_members, member};
 
-mod elements;
-mod values;
+pub mod elements;
+pub mod values;
 
 use crate::json::elements::{push_element, push_start};
 use crate::json::values::{push_plain, push_text};

@@ -3,7 +3,7 @@
 
 pub mod elements;
 pub mod help;
-mod json;
+pub mod json;
 pub mod page;
 mod printing;
 pub mod program;

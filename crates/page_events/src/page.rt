@@ -62,7 +62,8 @@ fn lines_of_text(
     setting: PageSetting,
     form: EventForm,
 ) -> Result<String, AllocError>
-    ensures { IfOk result (λ text. (events : List RangedEvent) × ArePageEvents page.now setting events
+    ensures { IfOk result (λ text. (events : List RangedEvent)
+        × ArePageEvents page.now setting events
         × (string_bytes text ≡ flat_map (line_in form) events)) }
 {
     let mut reader = EventReader::with_setting(alloc, page, setting)?;

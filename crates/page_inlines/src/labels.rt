@@ -7,7 +7,7 @@ use markdown_blocks::link_definitions::LinkDefinitions;
 use markdown_inlines::links::Labels;
 use std::alloc::{AllocError, Global};
 
-/// The labels that a page defines. Memory is asked for by the case folding of each that is looked up.
+/// The labels that a page defines. Memory is asked for by the case foldings of long ones that are looked up.
 #[derive(Drop)]
 pub(crate) struct PageLabels<'a> {
     definitions: LinkDefinitions<'a>,

@@ -41,7 +41,8 @@ pub(crate) fn changes_of<W: CellWidths>(
 ) -> Result<Vec<usize>, AllocError>
     requires { becomes_other made.now ≡ not (bytes_eq (made_text page.now made.now) page.now) }
     ensures { IfOk result (λ heads. heads.items
-        ≡ changes_of (W.width widths.now) page.now (map mark_view marks.now) (made_text page.now made.now)) }
+        ≡ changes_of (W.width widths.now) page.now (map mark_view marks.now)
+        (made_text page.now made.now)) }
 {
     if !becomes_other(made) {
         return Ok(Vec::new(alloc));
@@ -82,7 +83,8 @@ fn push_changed<W: CellWidths>(
     later: &[Mark],
 ) -> Result<(), AllocError>
     ensures { OnOk result (heads.new.items ≡ heads.old.items
-        ++ changed_at (W.width widths.now) page.now (mark_view mark.now) (map mark_view later.now)) }
+        ++ changed_at (W.width widths.now) page.now (mark_view mark.now)
+        (map mark_view later.now)) }
 {
     let Mark::Table(alignments) = mark else {
         return Ok(());

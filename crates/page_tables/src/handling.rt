@@ -156,9 +156,11 @@ fn replace_with<F: ReplacesFiles>(
     page: &[u8],
     files: &mut F,
 ) -> Result<(), Reason>
-    requires { becomes_other look.now.made ≡ not (bytes_eq (made_text page.now look.now.made) page.now) }
+    requires { becomes_other look.now.made
+        ≡ not (bytes_eq (made_text page.now look.now.made) page.now) }
     ensures replaced { IfOk result (λ _.
-        IsReplaced F.holds name.now page.now (made_text page.now look.now.made) files.old files.new) }
+        IsReplaced F.holds name.now page.now
+        (made_text page.now look.now.made) files.old files.new) }
     ensures stands { IfErr result (λ _. AreKept F.holds files.old files.new) }
 {
     if !look.changes() {

@@ -60,7 +60,8 @@ pub fn look_at_page(
     page: &[u8],
     checks: bool,
 ) -> Result<Look, AllocError>
-    ensures said { IfOk result (λ look. IsSaid checks name.now page.now (made_text page.now look.made)
+    ensures said { IfOk result (λ look. IsSaid checks name.now page.now
+        (made_text page.now look.made)
         (string_bytes look.notes) (string_bytes look.lines)) }
     ensures printed { IfOk result (λ look. IsPrinted page.now (made_text page.now look.made)) }
     ensures changes { IfOk result (λ look. becomes_other look.made
@@ -74,7 +75,8 @@ pub fn look_at_page(
 
 // The same of a page that is a text.
 fn look_at_text(alloc: Global, name: &str, page: &str, checks: bool) -> Result<Look, AllocError>
-    ensures look { IfOk result (λ look. IsLook checks name.now page.now (made_text page.now look.made)
+    ensures look { IfOk result (λ look. IsLook checks name.now page.now
+        (made_text page.now look.made)
         (string_bytes look.notes) (string_bytes look.lines)) }
     ensures changes { IfOk result (λ look. becomes_other look.made
         ≡ not (bytes_eq (made_text page.now look.made) page.now)) }

@@ -55,7 +55,8 @@ pub fn run_program<R: StepReader, F: ReplacesFiles, W: StepWriter, V: StepWriter
         (input.new ≡ input.old) × (files.new ≡ files.old) }
     ensures silent { result ≡ 0 → (request_of words.now ≡ Help) ⊎ (request_of words.now ≡ Version)
         → faults.new ≡ faults.old }
-    ensures unwritten { result ≡ 3 → (request_of words.now ≡ Help) ⊎ (request_of words.now ≡ Version)
+    ensures unwritten { result ≡ 3 → (request_of words.now ≡ Help)
+        ⊎ (request_of words.now ≡ Version)
         → (why : Reason) × AreGiven V.writes faults.old
         (stop_parts (codes "cmark_tables") [] (Stop.Write why)) faults.new
         × (why ≢ Reason.Interrupted → HasRefused W.writes why output.new) }
@@ -93,7 +94,8 @@ pub fn run_program<R: StepReader, F: ReplacesFiles, W: StepWriter, V: StepWriter
 // Prints a text that is no page's, and answers the status.
 fn print_words<W: StepWriter, V: StepWriter>(output: &mut W, faults: &mut V, text: &str) -> u8
     ensures status { (result ≡ 0) ⊎ (result ≡ 3) }
-    ensures written { result ≡ 0 → Appends (W.contents output.old) (W.contents output.new) text.now }
+    ensures written { result ≡ 0 → Appends (W.contents output.old)
+        (W.contents output.new) text.now }
     ensures silent { result ≡ 0 → faults.new ≡ faults.old }
     ensures refused { result ≡ 3 → (why : Reason) × AreGiven V.writes faults.old
         (stop_parts (codes "cmark_tables") [] (Stop.Write why)) faults.new

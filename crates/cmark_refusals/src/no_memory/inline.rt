@@ -3,8 +3,8 @@ ghost use Rattle.std.specs.Prelude.{◌<◌, length};
 
 use crate::inline_html::{Around, scan_tag};
 use crate::labels::label;
+use crate::printing::{print, print_made_two, print_ready, print_three, print_two};
 use crate::stop::Stop;
-use crate::telling::{tell, tell_made_two, tell_ready, tell_three, tell_two};
 use crate::texts::Text;
 use crate::unescaping::{AMPERSAND, unescaped};
 use markdown_scanners_tree::scanners::{
@@ -17,7 +17,7 @@ use std::alloc::Global;
 use std::io::Stdout;
 
 pub(crate) fn run(alloc: Global, output: Stdout) -> Result<(), Stop> {
-    tell_ready(output)?;
+    print_ready(output)?;
     references(output)?;
     links(output)?;
     links_of_bytes(output)?;
@@ -29,25 +29,25 @@ pub(crate) fn run(alloc: Global, output: Stdout) -> Result<(), Stop> {
 }
 
 fn references(output: Stdout) -> Result<(), Stop> {
-    tell_reference(output, b"&#x1F354;")?;
-    tell_reference(output, b"&amp;")?;
-    tell_reference(output, b"&#12345678;")
+    print_reference(output, b"&#x1F354;")?;
+    print_reference(output, b"&amp;")?;
+    print_reference(output, b"&#12345678;")
 }
 
-fn tell_reference(output: Stdout, bytes: &[u8]) -> Result<(), Stop>
+fn print_reference(output: Stdout, bytes: &[u8]) -> Result<(), Stop>
     requires { 0 < length bytes.now }
 {
     let (length, text) = scan_entity(bytes, &AMPERSAND);
-    tell(output, (length, text.map(Text)))
+    print(output, (length, text.map(Text)))
 }
 
 fn links(output: Stdout) -> Result<(), Stop> {
-    tell_two(
+    print_two(
         output,
         scan_wikilink_pipe("a|b]]", 0, 3),
         scan_link_dest("((a))", 0, 1),
     )?;
-    tell_two(
+    print_two(
         output,
         scan_link_dest("(((a)))", 0, 1),
         scan_autolink("https://a.b>", 0),
@@ -55,13 +55,13 @@ fn links(output: Stdout) -> Result<(), Stop> {
 }
 
 fn links_of_bytes(output: Stdout) -> Result<(), Stop> {
-    tell_three(
+    print_three(
         output,
         scan_wikilink_pipe_bytes(b"a|b]]", 3),
         scan_link_dest_bytes(b"((a)) b", 1),
         scan_autolink_bytes(b"https://a.b>"),
     )?;
-    tell_two(
+    print_two(
         output,
         scan_link_title(b"'a\n\\'b' c"),
         scan_link_title(b"(a\n\nb)"),
@@ -69,7 +69,7 @@ fn links_of_bytes(output: Stdout) -> Result<(), Stop> {
 }
 
 fn reference_definitions(output: Stdout) -> Result<(), Stop> {
-    tell_two(
+    print_two(
         output,
         scan_reference_definition(b"[a]: <b>\n'c'\n", 1),
         scan_reference_definition(b"[a]: b 'c' d", 1),
@@ -77,16 +77,16 @@ fn reference_definitions(output: Stdout) -> Result<(), Stop> {
 }
 
 fn html_blocks(output: Stdout) -> Result<(), Stop> {
-    tell_two(
+    print_two(
         output,
         starts_html_block_type_6(b"DIV>"),
         scan_html_type_7(b"<a b=\t'c'>  \n"),
     )?;
-    tell_html(output, b"<PRE>")?;
-    tell_html(output, b"a --> b")?;
-    tell_html(output, b"</td/>")?;
-    tell_html(output, b"<b c> \n")?;
-    tell_two(
+    print_html(output, b"<PRE>")?;
+    print_html(output, b"a --> b")?;
+    print_html(output, b"</td/>")?;
+    print_html(output, b"<b c> \n")?;
+    print_two(
         output,
         HtmlBlockKind::Comment.ends_before_blank(),
         HtmlBlockKind::TagAlone.ends_before_blank(),
@@ -94,12 +94,12 @@ fn html_blocks(output: Stdout) -> Result<(), Stop> {
 }
 
 fn tags(alloc: Global, output: Stdout) -> Result<(), Stop> {
-    tell_made_two(
+    print_made_two(
         output,
         scan_tag(alloc, Around::Nothing, b"<foo bar>"),
         scan_tag(alloc, Around::Nothing, b"</a\n>"),
     )?;
-    tell_made_two(
+    print_made_two(
         output,
         scan_tag(alloc, Around::Quote, b"<a\nb\nc>"),
         scan_tag(alloc, Around::Quote, b"</a\n\n> >"),
@@ -108,16 +108,16 @@ fn tags(alloc: Global, output: Stdout) -> Result<(), Stop> {
 
 // The kind of the HTML block that begins there, by its number, and whether the line ends a comment,
 // and a block with a name.
-fn tell_html(output: Stdout, bytes: &[u8]) -> Result<(), Stop> {
+fn print_html(output: Stdout, bytes: &[u8]) -> Result<(), Stop> {
     let kind = scan_html_block_start(bytes);
     let kind = kind.and_then(|kind| HtmlBlockKind::from_number(kind.number()));
     let comment = ends_html_block(bytes, HtmlBlockKind::Comment);
     let named = ends_html_block(bytes, HtmlBlockKind::BlockName);
-    tell(output, (kind, comment, named))
+    print(output, (kind, comment, named))
 }
 
 fn unchanged(alloc: Global, output: Stdout) -> Result<(), Stop> {
-    tell_made_two(
+    print_made_two(
         output,
         unescaped(alloc, "plain & simple", true),
         scan_table_head(alloc, b"| a |"),
@@ -125,6 +125,6 @@ fn unchanged(alloc: Global, output: Stdout) -> Result<(), Stop> {
 }
 
 fn labels(alloc: Global, output: Stdout) -> Result<(), Stop> {
-    tell_made_two(output, label(alloc, "a\\ ]"), label(alloc, " a b ]"))?;
-    tell_made_two(output, label(alloc, "a  b"), label(alloc, "a\n\nb]"))
+    print_made_two(output, label(alloc, "a\\ ]"), label(alloc, " a b ]"))?;
+    print_made_two(output, label(alloc, "a  b"), label(alloc, "a\n\nb]"))
 }

@@ -1,6 +1,6 @@
 //! Inline HTML under a guard, counted or not, and runs of scans step by step.
+use crate::printing::{print, print_ready, print_three, print_two};
 use crate::stop::Stop;
-use crate::telling::{tell, tell_ready, tell_three, tell_two};
 use markdown_scanners_tree::inline_html::{
     CountedText, HtmlScanGuard, InlineHtmlRun, scan_inline_html_comment,
     scan_inline_html_comment_counted, scan_inline_html_counted, scan_inline_html_processing,
@@ -9,7 +9,7 @@ use markdown_scanners_tree::inline_html::{
 use std::io::Stdout;
 
 pub(crate) fn run(output: Stdout) -> Result<(), Stop> {
-    tell_ready(output)?;
+    print_ready(output)?;
     guarded(output)?;
     counted(output)?;
     counted_scans(output)?;
@@ -25,16 +25,16 @@ fn guarded(output: Stdout) -> Result<(), Stop> {
     let cdata = (cdata, guard.cdata);
     let processing = scan_inline_html_processing(b"<?>", 2, &mut guard);
     let processing = (processing, guard.processing, guard.declaration);
-    tell_three(output, comment, cdata, processing)
+    print_three(output, comment, cdata, processing)
 }
 
 fn counted(output: Stdout) -> Result<(), Stop> {
     let mut text = CountedText::new(b"<!a-->b");
     let opener = (text.len(), text.opener_before(2));
-    tell_two(output, opener, text.look(2))?;
+    print_two(output, opener, text.look(2))?;
     let starts = text.starts(3, b"-->");
     let end = text.find(b"-->", 0);
-    tell_three(output, starts, end, text.passed())
+    print_three(output, starts, end, text.passed())
 }
 
 fn counted_scans(output: Stdout) -> Result<(), Stop> {
@@ -45,7 +45,7 @@ fn counted_scans(output: Stdout) -> Result<(), Stop> {
     let mut text = CountedText::new(b"<?a?>");
     let processing = scan_inline_html_processing_counted(&mut text, 2, &mut guard);
     let processing = (processing, guard.processing, text.passed());
-    tell_two(output, comment, processing)
+    print_two(output, comment, processing)
 }
 
 fn counted_either(output: Stdout) -> Result<(), Stop> {
@@ -53,13 +53,13 @@ fn counted_either(output: Stdout) -> Result<(), Stop> {
     let mut text = CountedText::new(b"<!-->");
     let none = scan_inline_html_counted(&mut text, 3, &mut guard);
     let found = scan_inline_html_counted(&mut text, 2, &mut guard);
-    tell_three(output, none, found, text.passed())
+    print_three(output, none, found, text.passed())
 }
 
 fn steps(output: Stdout) -> Result<(), Stop> {
     let mut run = InlineHtmlRun::new(b"<!-- a <!-- b --> <!-- c");
     for place in [2, 9, 2, 20, 1] {
-        tell(output, run.step(place))?;
+        print(output, run.step(place))?;
     }
-    tell(output, (run.passed(), run.steps()))
+    print(output, (run.passed(), run.steps()))
 }

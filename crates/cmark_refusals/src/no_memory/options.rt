@@ -1,12 +1,12 @@
 //! Options.
+use crate::printing::{print_ready, print_three, print_two};
 use crate::stop::Stop;
-use crate::telling::{tell_ready, tell_three, tell_two};
 use bitflags::Flags;
 use markdown_values::values::Options;
 use std::io::Stdout;
 
 pub(crate) fn run(output: Stdout) -> Result<(), Stop> {
-    tell_ready(output)?;
+    print_ready(output)?;
     made(output)?;
     asked(output)?;
     combined(output)?;
@@ -14,7 +14,7 @@ pub(crate) fn run(output: Stdout) -> Result<(), Stop> {
 }
 
 fn made(output: Stdout) -> Result<(), Stop> {
-    tell_three(
+    print_three(
         output,
         (Options::empty().bits(), Options::all().bits()),
         (
@@ -31,7 +31,7 @@ fn made(output: Stdout) -> Result<(), Stop> {
 fn asked(output: Stdout) -> Result<(), Stop> {
     let old = Options::ENABLE_OLD_FOOTNOTES;
     let new = Options::ENABLE_FOOTNOTES;
-    tell_three(
+    print_three(
         output,
         (Options::empty().is_empty(), Options::all().is_all()),
         (new.contains(old), new.intersects(old)),
@@ -42,12 +42,12 @@ fn asked(output: Stdout) -> Result<(), Stop> {
 fn combined(output: Stdout) -> Result<(), Stop> {
     let six = Options::ENABLE_TABLES.union(Options::ENABLE_FOOTNOTES);
     let old = Options::ENABLE_OLD_FOOTNOTES;
-    tell_two(
+    print_two(
         output,
         (six.bits(), six.intersection(old).bits()),
         old.difference(Options::ENABLE_FOOTNOTES).bits(),
     )?;
-    tell_two(
+    print_two(
         output,
         six.symmetric_difference(old).bits(),
         six.complement().bits(),
@@ -61,5 +61,5 @@ fn changed(output: Stdout) -> Result<(), Stop> {
     let three = options.bits();
     options.remove(Options::ENABLE_TABLES);
     options.toggle(Options::ENABLE_MATH);
-    tell_two(output, three, options.bits())
+    print_two(output, three, options.bits())
 }

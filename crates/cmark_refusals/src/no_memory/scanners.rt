@@ -1,6 +1,6 @@
 //! Scanners of lines.
+use crate::printing::{print, print_ready, print_three, print_two};
 use crate::stop::Stop;
-use crate::telling::{tell, tell_ready, tell_three, tell_two};
 use markdown_scanners_tree::scanners::{
     calc_indent, interrupts_paragraph, is_ascii_punctuation, is_ascii_whitespace,
     is_ascii_whitespace_no_nl, line_head, scan_atx_heading, scan_blank_line, scan_blockquote_start,
@@ -11,7 +11,7 @@ use markdown_scanners_tree::scanners::{
 use std::io::Stdout;
 
 pub(crate) fn run(output: Stdout) -> Result<(), Stop> {
-    tell_ready(output)?;
+    print_ready(output)?;
     classes(output)?;
     runs(output)?;
     endings(output)?;
@@ -24,38 +24,38 @@ fn classes(output: Stdout) -> Result<(), Stop> {
     for byte in [b'\n', b' ', b'-', b'a'] {
         let space = is_ascii_whitespace(byte);
         let no_ending = is_ascii_whitespace_no_nl(byte);
-        tell(output, (space, no_ending, is_ascii_punctuation(byte)))?;
+        print(output, (space, no_ending, is_ascii_punctuation(byte)))?;
     }
     Ok(())
 }
 
 fn runs(output: Stdout) -> Result<(), Stop> {
     let is_a = |byte: u8| byte == b'a';
-    tell_two(output, scan_ch(b"ab", b'a'), scan_ch_repeat(b"aab", b'a'))?;
-    tell_three(
+    print_two(output, scan_ch(b"ab", b'a'), scan_ch_repeat(b"aab", b'a'))?;
+    print_three(
         output,
         scan_while(b"aab", is_a),
         scan_rev_while(b"baa", is_a),
         scan_whitespace_no_nl(b" \tx"),
     )?;
-    tell(output, scan_spaces_and_tabs(b" \t\x0bx"))
+    print(output, scan_spaces_and_tabs(b" \t\x0bx"))
 }
 
 fn endings(output: Stdout) -> Result<(), Stop> {
-    tell_three(
+    print_three(
         output,
         scan_eol(b"\rx"),
         scan_blank_line(b"\r\r\n"),
         scan_line(b"a\r\nb"),
     )?;
-    tell(output, line_head(b"a\r\nb").len())?;
-    tell_three(
+    print(output, line_head(b"a\r\nb").len())?;
+    print_three(
         output,
         scan_lines(b"a\r\n\nb").count(),
         scan_nextline(b"a\rb\nc"),
         scan_blockquote_start(b"> "),
     )?;
-    tell_three(
+    print_three(
         output,
         scan_hrule(b"* * *\n"),
         scan_hrule(b"- -x-"),
@@ -64,7 +64,7 @@ fn endings(output: Stdout) -> Result<(), Stop> {
 }
 
 fn headings(output: Stdout) -> Result<(), Stop> {
-    tell_two(
+    print_two(
         output,
         scan_atx_heading(b"###"),
         scan_setext_heading(b"==  \nx"),
@@ -72,12 +72,12 @@ fn headings(output: Stdout) -> Result<(), Stop> {
 }
 
 fn fences(output: Stdout) -> Result<(), Stop> {
-    tell_two(
+    print_two(
         output,
         scan_code_fence(b"~~~a`"),
         scan_closing_code_fence(b"````  \n", b'`', 3),
     )?;
-    tell_two(
+    print_two(
         output,
         scan_metadata_block(b"---\na: b\n---\n", true, false),
         scan_closing_metadata_block(b"--- \n", b'-'),
@@ -85,12 +85,12 @@ fn fences(output: Stdout) -> Result<(), Stop> {
 }
 
 fn items(output: Stdout) -> Result<(), Stop> {
-    tell_two(
+    print_two(
         output,
         interrupts_paragraph(b"  1. a"),
         interrupts_paragraph(b"-\n"),
     )?;
-    tell_two(
+    print_two(
         output,
         scan_listitem(b"-   x"),
         scan_listitem(b"1844674407370955161615!"),

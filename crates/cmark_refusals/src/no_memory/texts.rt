@@ -1,6 +1,8 @@
 //! Texts.
+use crate::printing::{
+    MadeOf, print, print_made, print_made_two, print_ready, print_ready_consuming,
+};
 use crate::stop::Stop;
-use crate::telling::{MadeOf, tell, tell_made, tell_made_two, tell_ready, tell_ready_consuming};
 use crate::texts::{OF_30, Text, boxed, owned};
 use markdown_values::strings::{CowStr, InlineStr};
 use std::alloc::{AllocError, Global};
@@ -15,49 +17,49 @@ const OF_23: &str = "0123456789abcdefghijklm";
 
 /// Texts that lie in the value itself, and copies of these and of borrowed ones.
 pub(crate) fn run(alloc: Global, output: Stdout) -> Result<(), Stop> {
-    tell_ready(output)?;
-    tell_inlined(output, OF_22)?;
-    tell_inlined(output, OF_23)?;
-    tell_letter(output)?;
-    tell_copied(alloc, output, CowStr::from(OF_30))?;
-    tell_copied(alloc, output, CowStr::from('藏'))?;
-    tell_made_two(
+    print_ready(output)?;
+    print_inlined(output, OF_22)?;
+    print_inlined(output, OF_23)?;
+    print_letter(output)?;
+    print_copied(alloc, output, CowStr::from(OF_30))?;
+    print_copied(alloc, output, CowStr::from('藏'))?;
+    print_made_two(
         output,
         Text::made_of(alloc, CowStr::from('a')),
         Text::made_of(alloc, CowStr::from(OF_22)),
     )
 }
 
-fn tell_copied(alloc: Global, output: Stdout, text: CowStr<'static>) -> Result<(), Stop> {
-    tell_made(output, copied(alloc, &text))
+fn print_copied(alloc: Global, output: Stdout, text: CowStr<'static>) -> Result<(), Stop> {
+    print_made(output, copied(alloc, &text))
 }
 
 /// A copy of an owned text that fits in the value itself.
 pub(crate) fn copied_short(alloc: Global, output: Stdout) -> Result<(), Stop> {
     let text = boxed(alloc, OF_22)?;
-    tell_ready(output)?;
-    tell_copied(alloc, output, text)
+    print_ready(output)?;
+    print_copied(alloc, output, text)
 }
 
 /// An owned text, which borrows nothing.
 pub(crate) fn static_owned(alloc: Global, output: Stdout) -> Result<(), Stop> {
-    tell_ready_consuming::<CowStr<'static>, Text<'static>>(alloc, output, owned(alloc))
+    print_ready_consuming::<CowStr<'static>, Text<'static>>(alloc, output, owned(alloc))
 }
 
 /// An owned text hands its memory on.
 pub(crate) fn owned_string(alloc: Global, output: Stdout) -> Result<(), Stop> {
     let text = boxed(alloc, OF_15);
-    tell_ready_consuming::<CowStr<'static>, String>(alloc, output, text)
+    print_ready_consuming::<CowStr<'static>, String>(alloc, output, text)
 }
 
-fn tell_inlined(output: Stdout, text: &str) -> Result<(), Stop> {
+fn print_inlined(output: Stdout, text: &str) -> Result<(), Stop> {
     match InlineStr::try_from(text) {
-        Ok(text) => tell(output, (text.as_str(), text.copy() == text)),
-        Err(_) => tell(output, "too long"),
+        Ok(text) => print(output, (text.as_str(), text.copy() == text)),
+        Err(_) => print(output, "too long"),
     }
 }
 
-fn tell_letter(mut output: Stdout) -> Result<(), Stop> {
+fn print_letter(mut output: Stdout) -> Result<(), Stop> {
     let letter = InlineStr::from('🍔');
     let is_same_hash = hash_of(&letter) == hash_of(&letter.as_str());
     writeln!(output, "{letter} {is_same_hash}")?;

@@ -4,8 +4,8 @@ ghost use Rattle.std.specs.Prelude.{◌≡◌, ◌<◌, ◌+◌, ◌∷◌, [], 
 ghost use Rattle.markdown_values.specs.tree.Truncate.{first_other, CanCut};
 ghost use Rattle.cmark_refusals.specs.Spans.{spans_of, IsParent};
 
+use crate::printing::{print, print_ready, print_three};
 use crate::stop::Stop;
-use crate::telling::{tell, tell_ready, tell_three};
 use markdown_values::tree::{SpanItem, Tree, TreeIndex};
 use std::alloc::{AllocError, Global};
 use std::io::Stdout;
@@ -85,16 +85,16 @@ fn nested(alloc: Global) -> Result<(Tree<Span>, [TreeIndex; 4]), AllocError>
 /// The calls that look, and those that change links.
 pub(crate) fn run(alloc: Global, output: Stdout) -> Result<(), Stop> {
     let (mut tree, indices) = nested(alloc)?;
-    tell_nested(output, &mut tree, indices)
+    print_nested(output, &mut tree, indices)
 }
 
-fn tell_nested(output: Stdout, tree: &mut Tree<Span>, indices: [TreeIndex; 4]) -> Result<(), Stop>
+fn print_nested(output: Stdout, tree: &mut Tree<Span>, indices: [TreeIndex; 4]) -> Result<(), Stop>
     requires count { length tree.old.nodes ≡ 5 }
     requires indices { indices ≡ 1 ∷ 2 ∷ 3 ∷ 4 ∷ [] }
 {
     let [a, b, c, d] = indices;
-    tell_ready(output)?;
-    tell_spine(output, tree)?;
+    print_ready(output)?;
+    print_spine(output, tree)?;
     cut_below(output, tree, b, c)?;
     link(output, tree, b, c, d)?;
     leave(output, tree, a)
@@ -110,7 +110,7 @@ fn cut_below(output: Stdout, tree: &mut Tree<Span>, b: TreeIndex, c: TreeIndex) 
     let changed = (tree[c].item.end, tree[c].next);
     let parent = tree.pop();
     tree.truncate_to_parent(c);
-    tell_three(output, changed, parent, (tree.cur(), tree[b].next))
+    print_three(output, changed, parent, (tree.cur(), tree[b].next))
 }
 
 fn link(
@@ -127,24 +127,24 @@ fn link(
 {
     tree.set_child(d, Some(c));
     tree.set_next(b, None);
-    tell(output, (tree[d].child, tree[b].next))
+    print(output, (tree[d].child, tree[b].next))
 }
 
 fn leave(output: Stdout, tree: &mut Tree<Span>, a: TreeIndex) -> Result<(), Stop>
     requires { a < length tree.old.nodes }
 {
-    tell(output, tree.next_sibling(a))?;
+    print(output, tree.next_sibling(a))?;
     tree.reset();
-    tell_spine(output, tree)
+    print_spine(output, tree)
 }
 
-fn tell_spine(output: Stdout, tree: &Tree<Span>) -> Result<(), Stop> {
-    tell(output, tree.cur())?;
+fn print_spine(output: Stdout, tree: &Tree<Span>) -> Result<(), Stop> {
+    print(output, tree.cur())?;
     for ix in tree.walk_spine() {
-        tell(output, ix.get())?;
+        print(output, ix.get())?;
     }
     let above = (tree.peek_up(), tree.peek_grandparent());
-    tell_three(output, tree.spine_len(), above, tree.is_empty())
+    print_three(output, tree.spine_len(), above, tree.is_empty())
 }
 
 fn index_after(ix: TreeIndex) -> Option<TreeIndex> {
@@ -159,8 +159,8 @@ fn index_before(ix: TreeIndex) -> Option<TreeIndex> {
 pub(crate) fn indices(alloc: Global, output: Stdout) -> Result<(), Stop> {
     let mut tree = Tree::with_capacity(alloc, 2)?;
     let ix = tree.append(covering(0, 9))?;
-    tell_ready(output)?;
-    tell(output, (ix.get(), index_after(ix), index_before(ix)))
+    print_ready(output)?;
+    print(output, (ix.get(), index_after(ix), index_before(ix)))
 }
 
 /// The last node goes.
@@ -169,15 +169,15 @@ pub(crate) fn remove_node(alloc: Global, output: Stdout) -> Result<(), Stop> {
     tree.append(covering(0, 9))?;
     tree.push()?;
     tree.append(covering(0, 8))?;
-    tell_removed(output, &mut tree)
+    print_removed(output, &mut tree)
 }
 
-fn tell_removed(output: Stdout, tree: &mut Tree<Span>) -> Result<(), Stop>
+fn print_removed(output: Stdout, tree: &mut Tree<Span>) -> Result<(), Stop>
     requires { IfSome (last tree.old.spine) (IsLastLinkedFromAlone tree.old) }
 {
-    tell_ready(output)?;
-    tell(output, tree.remove_node())?;
-    tell_spine(output, tree)
+    print_ready(output)?;
+    print(output, tree.remove_node())?;
+    print_spine(output, tree)
 }
 
 // A node that is the parent of none.
@@ -195,7 +195,7 @@ fn cut(alloc: Global, output: Stdout, child: Span, end: usize) -> Result<Tree<Sp
 {
     let mut tree = parent(alloc)?;
     tree.append(child)?;
-    tell_ready(output)?;
+    print_ready(output)?;
     tree.truncate_siblings(end);
     Ok(tree)
 }
@@ -204,7 +204,7 @@ fn cut(alloc: Global, output: Stdout, child: Span, end: usize) -> Result<Tree<Sp
 pub(crate) fn truncate_siblings(alloc: Global, output: Stdout) -> Result<(), Stop> {
     let tree = cut(alloc, output, covering(3, 8), 4)?;
     if let Some(ix) = tree.cur() {
-        tell(output, (ix, tree[ix].item.start, tree[ix].item.end))?;
+        print(output, (ix, tree[ix].item.start, tree[ix].item.end))?;
     }
-    tell_spine(output, &tree)
+    print_spine(output, &tree)
 }

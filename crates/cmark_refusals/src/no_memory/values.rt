@@ -1,7 +1,9 @@
 //! Kinds, levels, links, tags and events.
+use crate::printing::{
+    Seen, copy_of, print, print_made, print_ready, print_ready_consuming, print_seen,
+};
 use crate::stop::Stop;
 use crate::tags::{TagKind, fenced, tag};
-use crate::telling::{Seen, copy_of, tell, tell_made, tell_ready, tell_ready_consuming, tell_seen};
 use crate::texts::{Holding, lent};
 use markdown_values::strings::CowStr;
 use markdown_values::values::{
@@ -12,11 +14,11 @@ use std::io::{Stdout, Write};
 
 /// The calls that look, and copies of what owns nothing.
 pub(crate) fn run(alloc: Global, output: Stdout) -> Result<(), Stop> {
-    tell_ready(output)?;
+    print_ready(output)?;
     kinds(alloc, output)?;
     levels(output)?;
     numbers(output)?;
-    tell(output, LinkType::Collapsed.to_unknown())?;
+    print(output, LinkType::Collapsed.to_unknown())?;
     tags(alloc, output)?;
     events(alloc, output)
 }
@@ -24,7 +26,7 @@ pub(crate) fn run(alloc: Global, output: Stdout) -> Result<(), Stop> {
 /// The tag of a table, which borrows nothing.
 pub(crate) fn static_table(alloc: Global, output: Stdout) -> Result<(), Stop> {
     let table = tag(alloc, TagKind::Table, Holding::Owned);
-    tell_ready_consuming::<Tag<'static>, Tag<'static>>(alloc, output, table)
+    print_ready_consuming::<Tag<'static>, Tag<'static>>(alloc, output, table)
 }
 
 impl Seen<(bool, bool)> for CodeBlockKind<'static> {
@@ -39,16 +41,19 @@ impl Seen<TagEnd> for Tag<'static> {
     }
 }
 
-fn tell_kind(output: Stdout, made: Result<CodeBlockKind<'static>, AllocError>) -> Result<(), Stop> {
-    tell_seen::<CodeBlockKind<'static>, (bool, bool)>(output, made)
+fn print_kind(
+    output: Stdout,
+    made: Result<CodeBlockKind<'static>, AllocError>,
+) -> Result<(), Stop> {
+    print_seen::<CodeBlockKind<'static>, (bool, bool)>(output, made)
 }
 
 fn kinds(alloc: Global, output: Stdout) -> Result<(), Stop> {
     let indented = Ok(CodeBlockKind::Indented);
-    tell_kind(output, copy_of(alloc, indented))?;
-    tell_kind(output, copy_of(alloc, fenced(alloc, Holding::Lent)))?;
+    print_kind(output, copy_of(alloc, indented))?;
+    print_kind(output, copy_of(alloc, fenced(alloc, Holding::Lent)))?;
     let letter = CodeBlockKind::Fenced(CowStr::from('r'));
-    tell_kind(output, letter.into_static(alloc))
+    print_kind(output, letter.into_static(alloc))
 }
 
 fn levels(mut output: Stdout) -> Result<(), Stop> {
@@ -66,9 +71,9 @@ fn numbers(output: Stdout) -> Result<(), Stop> {
         BlockQuoteKind::Note.number(),
         BlockQuoteKind::from_number(6),
     );
-    tell(output, kinds)?;
+    print(output, kinds)?;
     let alignments = (Alignment::Right.number(), Alignment::from_number(0));
-    tell(output, alignments)
+    print(output, alignments)
 }
 
 fn list_end(alloc: Global) -> Result<TagEnd, AllocError> {
@@ -76,21 +81,21 @@ fn list_end(alloc: Global) -> Result<TagEnd, AllocError> {
 }
 
 fn tags(alloc: Global, output: Stdout) -> Result<(), Stop> {
-    tell_seen::<Tag<'static>, TagEnd>(output, lent_link(alloc))?;
-    tell_made(output, list_end(alloc))?;
-    tell_made(output, copy_of(alloc, lent_link(alloc)))
+    print_seen::<Tag<'static>, TagEnd>(output, lent_link(alloc))?;
+    print_made(output, list_end(alloc))?;
+    print_made(output, copy_of(alloc, lent_link(alloc)))
 }
 
 fn lent_link(alloc: Global) -> Result<Tag<'static>, AllocError> {
     tag(alloc, TagKind::Link, Holding::Lent)
 }
 
-fn tell_event(output: Stdout, made: Result<Event<'static>, AllocError>) -> Result<(), Stop> {
-    tell_made(output, made)
+fn print_event(output: Stdout, made: Result<Event<'static>, AllocError>) -> Result<(), Stop> {
+    print_made(output, made)
 }
 
 fn events(alloc: Global, output: Stdout) -> Result<(), Stop> {
-    tell_event(output, copy_of(alloc, Ok(Event::Text(lent()))))?;
-    tell_event(output, Event::TaskListMarker(true).into_static(alloc))?;
-    tell_event(output, copy_of(alloc, Ok(Event::End(TagEnd::Table))))
+    print_event(output, copy_of(alloc, Ok(Event::Text(lent()))))?;
+    print_event(output, Event::TaskListMarker(true).into_static(alloc))?;
+    print_event(output, copy_of(alloc, Ok(Event::End(TagEnd::Table))))
 }

@@ -72,7 +72,7 @@ fn push_held(alloc: Global, text: &mut String, tag: &Tag) -> Result<(), AllocErr
             dest_url,
             title,
             id,
-        } => push_link(alloc, text, *link_type, dest_url, title, id),
+        } => push_link_members(alloc, text, *link_type, dest_url, title, id),
         _ => Ok(()),
     }
 }
@@ -131,8 +131,12 @@ fn push_columns(
     push_array(alloc, text, "columns", alignments)
 }
 
-// Adds how a link or an image is written, where it leads, its title, and its label.
-fn push_link(
+/// Adds how a link or an image is written, where it leads, its title, and its label.
+///
+/// # Errors
+///
+/// `AllocError` where memory is refused.
+pub fn push_link_members(
     alloc: Global,
     text: &mut String,
     kind: LinkType,

@@ -49,7 +49,11 @@ pub(crate) fn push_plain(text: &mut String, name: &str, value: &str) -> Result<(
 }
 
 /// Adds a word that needs no escape as a member of this name.
-pub(crate) fn push_word(text: &mut String, name: &str, word: &str) -> Result<(), AllocError>
+///
+/// # Errors
+///
+/// `AllocError` where memory is refused.
+pub fn push_word(text: &mut String, name: &str, word: &str) -> Result<(), AllocError>
     ensures { OnOk result (string_bytes text.new
         ≡ string_bytes text.old ++ member name.now (word_json word.now)) }
 {
