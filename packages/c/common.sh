@@ -13,8 +13,8 @@ shared=out/$shared_name
 packed_programs=(cmark_html cmark_links cmark_tables cmark_blocks cmark_scan)
 earlier_name=libmarkdown_scanners.so.${version%%.*} # of programs that were linked before
 script=$(basename "$0")
-room=$(mktemp -d)
-trap 'rm -rf "$room"' EXIT
+scratch=$(mktemp -d)
+trap 'rm -rf "$scratch"' EXIT
 
 stop() {
     echo "packages/c/$script: $*" >&2
@@ -40,8 +40,8 @@ is_old() {
 prove() {
     need rt
     echo "proving and building markdown_scanners_c, and what it stands on: some twenty minutes from nothing"
-    (cd "$crate" && rt lib ${JOBS:+--jobs "$JOBS"} 2>&1) | tee "$room/said" || stop "the crate was not built"
-    { sha256sum <"$made" && rt version && tail -n 30 "$room/said"; } >"$proof"
+    (cd "$crate" && rt lib ${JOBS:+--jobs "$JOBS"} 2>&1) | tee "$scratch/said" || stop "the crate was not built"
+    { sha256sum <"$made" && rt version && tail -n 30 "$scratch/said"; } >"$proof"
 }
 
 # is_recorded: what rt said is of the archive that is there.

@@ -55,18 +55,18 @@ def loaded(name, path):
 
 
 def run(*words):
-    done = subprocess.run([str(it) for it in words], stdout=subprocess.PIPE, stderr=subprocess.STDOUT, text=True)
+    done = subprocess.run([str(word) for word in words], stdout=subprocess.PIPE, stderr=subprocess.STDOUT, text=True)
     if done.returncode:
         stop(f"{words[0]} fails:\n{done.stdout}")
     return done.stdout
 
 
-def keeping(toolchain, room):
+def keeping(toolchain, scratch):
     """A toolchain whose clang keeps the code that it is given, and where it keeps it."""
-    other, kept = room / "toolchain", room / "module.bc"
+    other, kept = scratch / "toolchain", scratch / "module.bc"
     (other / "bin").mkdir(parents=True)
-    for it in [it for it in toolchain.iterdir() if it.name != "bin"] + list((toolchain / "bin").iterdir()):
-        (other / it.relative_to(toolchain)).symlink_to(it)
+    for path in [path for path in toolchain.iterdir() if path.name != "bin"] + list((toolchain / "bin").iterdir()):
+        (other / path.relative_to(toolchain)).symlink_to(path)
     (other / "bin/clang").unlink()
     (other / "bin/clang").write_text(KEEPS.format(kept=kept, clang=toolchain / "bin/clang"))
     (other / "bin/clang").chmod(0o755)
@@ -75,22 +75,22 @@ def keeping(toolchain, room):
 
 def libraries_of(tree, kit):
     """The words by which `rattle build` is given the libraries of the crate: those of the tree, which are built there, and the kit's."""
-    ours = [it for it in made_of(CRATE) if it != CRATE]
-    folders = {it: tree / "crates" / it / "out/rlib" for it in ours}
-    built = {it: folders.get(it, kit / "rlibs") / f"{it}.rlib" for it in ["std", *libraries()[CRATE]]}
+    ours = [crate for crate in made_of(CRATE) if crate != CRATE]
+    folders = {crate: tree / "crates" / crate / "out/rlib" for crate in ours}
+    built = {crate: folders.get(crate, kit / "rlibs") / f"{crate}.rlib" for crate in ["std", *libraries()[CRATE]]}
     words = [word for name, folder in built.items() for word in ("--extern", f"{name}={folder}")]
     return words + [word for folder in [kit / "rlibs", *folders.values()] for word in ("-L", f"dependency={folder}")]
 
 
-def lowered(tree, room):
+def lowered(tree, scratch):
     """The crate as LLVM code."""
     kit = Path(shutil.which("rattle")).resolve().parent.parent
     toolchain = kit / "toolchain"
-    other, kept = keeping(toolchain, room)
+    other, kept = keeping(toolchain, scratch)
     os.chdir(tree / "crates" / CRATE)
     logic = ["--antt-project", kit / "rattle/logic/antt-project.json", "--logic-built", kit / "logic_built", "--links", f"{CRATE}="]
     words = ["--crate-name", CRATE, "src/lib.rt", *libraries_of(tree, kit), *logic, "--crate-type", "staticlib", "--cpu=x86-64"]
-    run("rattle", "build", *words, "--toolchain", other, "--backend", "llvm", "--incremental", "out/incremental", "-o", room / "archive.a")
+    run("rattle", "build", *words, "--toolchain", other, "--backend", "llvm", "--incremental", "out/incremental", "-o", scratch / "archive.a")
     if not kept.is_file():
         stop("the kit has given its clang no LLVM code")
     return kept, toolchain
@@ -129,29 +129,29 @@ def version_section():
     return section("proved_markdown", (TOP / "VERSION").read_text().strip())
 
 
-def text_of(code, toolchain, room):
+def text_of(code, toolchain, scratch):
     """The LLVM code for wasm64, as a text."""
-    text = room / "module.ll"
+    text = scratch / "module.ll"
     run(toolchain / "bin/clang", "-S", "-emit-llvm", "-Xclang", "-disable-llvm-passes", "-x", "ir", code, "-o", text)
     text.write_text(retargeted(text.read_text()))
     return text
 
 
-def linked(text, toolchain, room, features):
+def linked(text, toolchain, scratch, features):
     """The bytes of a module with a 64-bit memory."""
-    made, module = room / "module.o", room / "module.wasm"
+    made, module = scratch / "module.o", scratch / "module.wasm"
     how = [f"--target={TARGET}", "-Werror", *features, "-Os", "-ffunction-sections", "-fdata-sections"]
     run(toolchain / "bin/clang", *how, "-x", "ir", text, "-c", "-o", made)
-    (room / "imports").write_text("rattle_alloc\nrattle_realloc\nrattle_dealloc\n")
+    (scratch / "imports").write_text("rattle_alloc\nrattle_realloc\nrattle_dealloc\n")
     words = ["-flavor", "wasm", "-mwasm64", "--no-entry", "--stack-first", "--gc-sections", "--strip-all", "--fatal-warnings"]
-    words += [f"--allow-undefined-file={room / 'imports'}", *[f"--export={it}" for it in ("__heap_base", *functions())]]
+    words += [f"--allow-undefined-file={scratch / 'imports'}", *[f"--export={name}" for name in ("__heap_base", *functions())]]
     run(toolchain / "bin/ld.lld", *words, made, "-o", module)
     return module.read_bytes()
 
 
-def narrowed(made, room):
+def narrowed(made, scratch):
     """The bytes of the module with a 32-bit memory that wasm-opt makes of this one."""
-    before, after = room / "before.wasm", room / "after.wasm"
+    before, after = scratch / "before.wasm", scratch / "after.wasm"
     before.write_bytes(made)
     run("wasm-opt", *LOWERS, before, "-o", after)
     return after.read_bytes()
@@ -159,19 +159,19 @@ def narrowed(made, room):
 
 def main(tree, folder, bits):
     with tempfile.TemporaryDirectory() as name:
-        room = Path(name)
-        code, toolchain = lowered(tree, room)
-        text = text_of(code, toolchain, room)
+        scratch = Path(name)
+        code, toolchain = lowered(tree, scratch)
+        text = text_of(code, toolchain, scratch)
         if "64" in bits:
-            (folder / WIDE).write_bytes(linked(text, toolchain, room, WIDE_FEATURES) + version_section())
+            (folder / WIDE).write_bytes(linked(text, toolchain, scratch, WIDE_FEATURES) + version_section())
         if "32" in bits:
             beside = section("proved_markdown64", WIDE) if "64" in bits else b""
-            (folder / NARROW).write_bytes(narrowed(linked(text, toolchain, room, FEATURES), room) + version_section() + beside)
+            (folder / NARROW).write_bytes(narrowed(linked(text, toolchain, scratch, FEATURES), scratch) + version_section() + beside)
 
 
 if __name__ == "__main__":
     parser = argparse.ArgumentParser(description=__doc__, formatter_class=argparse.RawDescriptionHelpFormatter)
-    parser.add_argument("tree", metavar="TREE", type=lambda it: Path(it).resolve())
-    parser.add_argument("folder", metavar="FOLDER", type=lambda it: Path(it).resolve())
+    parser.add_argument("tree", metavar="TREE", type=lambda path: Path(path).resolve())
+    parser.add_argument("folder", metavar="FOLDER", type=lambda path: Path(path).resolve())
     parser.add_argument("bits", metavar="32|64", nargs="+", choices=["32", "64"])
     main(**vars(parser.parse_args()))

@@ -11,15 +11,15 @@ static void stop(const char *why) {
 
 /* All of the standard input, and in `*length` how many bytes it has. */
 static char *read_page(size_t *length) {
-    size_t room = 0;
+    size_t capacity = 0;
     char *page = NULL;
     do {
-        room = 2 * room + 4096;
-        page = realloc(page, room);
+        capacity = 2 * capacity + 4096;
+        page = realloc(page, capacity);
         if (!page)
             stop("out of memory");
-        *length += fread(page + *length, 1, room - *length, stdin);
-    } while (*length == room);
+        *length += fread(page + *length, 1, capacity - *length, stdin);
+    } while (*length == capacity);
     if (ferror(stdin))
         stop("the input can't be read");
     return page;

@@ -23,20 +23,20 @@ static uint8_t *grown(uint8_t *old, size_t size) {
 
 /* All of the standard input, and in `*length` how many bytes it has. */
 static uint8_t *read_page(size_t *length) {
-    size_t room = 0;
+    size_t capacity = 0;
     uint8_t *page = NULL;
     do {
-        room = 2 * room + 4096;
-        page = grown(page, room);
-        *length += fread(page + *length, 1, room - *length, stdin);
-    } while (*length == room);
+        capacity = 2 * capacity + 4096;
+        page = grown(page, capacity);
+        *length += fread(page + *length, 1, capacity - *length, stdin);
+    } while (*length == capacity);
     if (ferror(stdin))
         stop("the input can't be read");
     return page;
 }
 
-static struct mds_text html_of(const uint8_t *page, size_t length, bool is_safe, uint8_t *html, size_t room) {
-    return is_safe ? mds_safe_html(page, length, OPTIONS, NULL, 0, html, room) : mds_html(page, length, OPTIONS, html, room);
+static struct mds_text html_of(const uint8_t *page, size_t length, bool is_safe, uint8_t *html, size_t capacity) {
+    return is_safe ? mds_safe_html(page, length, OPTIONS, NULL, 0, html, capacity) : mds_html(page, length, OPTIONS, html, capacity);
 }
 
 int main(int count, char **words) {

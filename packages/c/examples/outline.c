@@ -92,9 +92,9 @@ static void define(struct found *all, size_t line, struct text text) {
     struct entry entry = {.line = line};
     read_label(text, 0, &entry);
     struct text raw = {text.bytes + found.destination_start, found.destination_length};
-    size_t room = raw.length + raw.length / 5;
-    uint8_t *target = grown(NULL, room);
-    entry.target = made(target, mds_unescape(raw.bytes, raw.length, false, target, room));
+    size_t capacity = raw.length + raw.length / 5;
+    uint8_t *target = grown(NULL, capacity);
+    entry.target = made(target, mds_unescape(raw.bytes, raw.length, false, target, capacity));
     add(&all->definitions, entry);
 }
 
@@ -191,9 +191,9 @@ static struct text text_of(
     struct mds_text found = {MDS_TOO_SHORT, 0, block->bytes};
     uint8_t *buffer = NULL;
     while (found.status == MDS_TOO_SHORT) {
-        size_t room = found.length;
-        buffer = grown(buffer, room);
-        found = mds_block_content(page.bytes, page.length, block, open, depth, kept, buffer, room);
+        size_t capacity = found.length;
+        buffer = grown(buffer, capacity);
+        found = mds_block_content(page.bytes, page.length, block, open, depth, kept, buffer, capacity);
     }
     return made(buffer, found);
 }

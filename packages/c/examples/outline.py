@@ -109,7 +109,7 @@ class Outline:
 
     def read_block(self, page, block):
         """Reads a heading, a definition, a paragraph or a table, which has its lines for a text. (4.2, 4.3, 4.7, 4.8)"""
-        line, text = block.line + 1, b"\n".join(it.rstrip() for it in block.content().splitlines())
+        line, text = block.line + 1, b"\n".join(row.rstrip() for row in block.content().splitlines())
         if block.level:
             self.output.append(b"%d: %b %b\n" % (line, b"#" * block.level, text.replace(b"\n", b" ")))
         if block.kind == mds.BlockKind.DEFINITION:
@@ -128,7 +128,7 @@ class Outline:
     def report(self):
         """All that is printed, and how many labels have no definition."""
         known = {key for _, _, key, _ in self.definitions}
-        missing = [it for it in self.references if it[2] not in known]
+        missing = [reference for reference in self.references if reference[2] not in known]
         for line, label, _, target in self.definitions:
             self.output.append(b"%d: [%b]: %b\n" % (line, label, target.replace(b"\n", b" ")))
         self.output += [b"%d: [%b] has no definition\n" % (line, label) for line, label, _ in missing]

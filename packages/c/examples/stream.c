@@ -10,7 +10,7 @@
 /* What is read of the page, of which so much is printed, and how many lines are; and the containers that are open. */
 struct page {
     uint8_t *text;
-    size_t printed, length, room, line;
+    size_t printed, length, text_capacity, line;
     bool has_ended;
     struct mds_block *containers;
     size_t capacity;
@@ -35,8 +35,8 @@ static void read_more(struct page *page) {
     memmove(page->text, page->text + page->printed, page->length);
     page->printed = 0;
     size_t needed = page->length + (page->length < 4096 ? 4096 : page->length);
-    if (page->room < needed)
-        page->text = grown(page->text, needed), page->room = needed;
+    if (page->text_capacity < needed)
+        page->text = grown(page->text, needed), page->text_capacity = needed;
     size_t count = fread(page->text + page->length, 1, needed - page->length, stdin);
     page->length += count, page->has_ended = page->length < needed;
     if (ferror(stdin))

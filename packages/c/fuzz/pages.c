@@ -74,14 +74,14 @@ static bool is_tag(const uint8_t *html, size_t left) {
 
 /* HTML that is written at the end of a room. */
 static void try_html(const void *text, uint32_t options, bool is_text, bool is_safe) {
-    size_t rooms[] = {below(2 * length + 2), 0};
+    size_t capacities[] = {below(2 * length + 2), 0};
     for (size_t i = 0; i < 2; i++) {
-        uint8_t *html = made_end - rooms[i];
-        struct mds_text found = is_safe ? mds_safe_html(text, length, options, NULL, 0, html, rooms[i])
-                                        : mds_html(text, length, options, html, rooms[i]);
+        uint8_t *html = made_end - capacities[i];
+        struct mds_text found = is_safe ? mds_safe_html(text, length, options, NULL, 0, html, capacities[i])
+                                        : mds_html(text, length, options, html, capacities[i]);
         if (!is_text && found.status == MDS_NOT_UTF8) return;
         if (!is_text || (found.status != MDS_OK && (i || found.status != MDS_TOO_SHORT))) stop("HTML has another status");
-        if (found.status == MDS_TOO_SHORT && found.length <= ROOM) { rooms[1] = found.length; continue; }
+        if (found.status == MDS_TOO_SHORT && found.length <= ROOM) { capacities[1] = found.length; continue; }
         if (!mds_is_utf8(html, found.length)) stop("HTML is not UTF-8");
         for (const uint8_t *at = html; is_safe && at < html + found.length; at++)
             if (*at == '<' && !is_tag(at, (size_t)(html + found.length - at))) stop("safe HTML has another tag");

@@ -403,10 +403,10 @@ static void wrong_numbers(void) {
             blocks[j].kind = j && made(8) ? (uint32_t)(1 + made(2)) : blocks[j].kind;
         }
         at_front = i % 2;
-        size_t kept = made(4) ? made(4) : SIZE_MAX, room = made(LONGEST);
+        size_t kept = made(4) ? made(4) : SIZE_MAX, capacity = made(LONGEST);
         const void *bytes = given(BYTES, page, length), *containers = given(OTHER_BYTES, blocks + 1, 3 * sizeof(*blocks));
         const void *leaf = given(LIST, blocks, sizeof(*blocks));
-        struct mds_text found = mds_block_content(bytes, length, leaf, containers, 3, kept, writable(BUFFER, room), room);
+        struct mds_text found = mds_block_content(bytes, length, leaf, containers, 3, kept, writable(BUFFER, capacity), capacity);
         bool is_ok = found.status == MDS_OK, is_returned = is_ok || found.status == MDS_TOO_SHORT;
         SAME(is_returned || found.status == MDS_BAD_KIND, true);
         SAME(is_left(BUFFER, is_ok ? found.length : 0), true);

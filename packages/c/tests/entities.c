@@ -45,9 +45,9 @@ static void look_up(const uint8_t *name, size_t length) {
 }
 
 static void resolve(const uint8_t *text, size_t length) {
-    size_t room = length + length / 5;
-    uint8_t *buffer = grown(NULL, room ? room : 1);
-    struct mds_text made = mds_unescape(text, length, false, buffer, room);
+    size_t capacity = length + length / 5;
+    uint8_t *buffer = grown(NULL, capacity ? capacity : 1);
+    struct mds_text made = mds_unescape(text, length, false, buffer, capacity);
     if (made.status != MDS_OK || made.taken != length)
         stop("a text has another status or length");
     print(buffer, made.length);
@@ -63,12 +63,12 @@ static void answer(const uint8_t *line, size_t length) {
 
 /* All of the input, in memory that it fills. */
 static uint8_t *read_all(size_t *length) {
-    size_t room = 1 << 16, count = 0;
-    uint8_t *all = grown(NULL, room);
-    for (size_t got; (got = fread(all + count, 1, room - count, stdin)) > 0;) {
+    size_t capacity = 1 << 16, count = 0;
+    uint8_t *all = grown(NULL, capacity);
+    for (size_t got; (got = fread(all + count, 1, capacity - count, stdin)) > 0;) {
         count += got;
-        if (count == room)
-            all = grown(all, room *= 2);
+        if (count == capacity)
+            all = grown(all, capacity *= 2);
     }
     if (ferror(stdin) || count == 0)
         stop("the input can't be read");

@@ -42,7 +42,7 @@ def main():
     text = HEADER.read_text()
     found = dict(examples(text))
     declared = re.findall(r"^(?!static)[\w ]+\b(mds_\w+)\(", text, re.M)
-    missing = [it for it in declared if not any(f"{it}(" in line for line in found.get(it, []))]
+    missing = [name for name in declared if not any(f"{name}(" in line for line in found.get(name, []))]
     if missing or not declared:
         sys.exit(f"examples.py: no example of {', '.join(missing) or 'any function'}")
     scopes = "\n".join(scope(lines) for lines in found.values())

@@ -2,8 +2,8 @@
 # and CMake say. packages/c/test reads this.
 # shellcheck shell=bash disable=SC2154,SC2086  # what common.sh and packages/c/test set; flags are several words
 readme_program() {
-    sed -n '/^```c$/,/^```$/p' README.md | sed '/^```/d' >"$room/level.c"
-    [ -s "$room/level.c" ] || stop "the README has no program"
+    sed -n '/^```c$/,/^```$/p' README.md | sed '/^```/d' >"$scratch/level.c"
+    [ -s "$scratch/level.c" ] || stop "the README has no program"
 }
 
 # prints_level PROGRAM KIND: the program prints what the README says; it needs the shared library where it is built with it.
@@ -21,8 +21,8 @@ has_files() {
     for name in proved_markdown markdown_scanners; do
         files+=("include/$name.h" "lib/cmake/$name/$name-config"{,-version}.cmake "lib/lib$name".{a,so} "lib/pkgconfig/$name.pc")
     done
-    printf '%s\n' "${files[@]}" "$doc/CHANGELOG.md" "$doc/LICENSE" | sort >"$room/expected"
-    (cd "$1" && find . ! -type d -printf '%P\n') | sort | diff "$room/expected" - || stop "other files are installed"
+    printf '%s\n' "${files[@]}" "$doc/CHANGELOG.md" "$doc/LICENSE" | sort >"$scratch/expected"
+    (cd "$1" && find . ! -type d -printf '%P\n') | sort | diff "$scratch/expected" - || stop "other files are installed"
     for name in libproved_markdown.so libmarkdown_scanners.so "$earlier_name"; do
         [ "$(readlink "$1/lib/$name")" = "$shared_name" ] || stop "$name is another link"
     done
@@ -35,12 +35,12 @@ by_pkg_config() {
     export PKG_CONFIG_PATH=$prefix/$libdir/pkgconfig
     [ "$(pkg-config --modversion "$name")" = "$version" ] || stop "pkg-config has another version"
     flags=$(pkg-config --cflags "$name")
-    sed "s/proved_markdown/$name/" "$room/level.c" >"$room/named.c"
+    sed "s/proved_markdown/$name/" "$scratch/level.c" >"$scratch/named.c"
     for kind in shared static; do
         links=$(pkg-config --libs "$name")
         [ $kind = shared ] || links="-Wl,-Bstatic $(pkg-config --libs --static "$name") -Wl,-Bdynamic"
-        cc -Wall -Werror $flags "$room/named.c" $links -o "$room/level" 2>"$room/faults" || { cat "$room/faults" >&2; stop "$name: no program"; }
-        prints_level "$room/level" $kind
+        cc -Wall -Werror $flags "$scratch/named.c" $links -o "$scratch/level" 2>"$scratch/faults" || { cat "$scratch/faults" >&2; stop "$name: no program"; }
+        prints_level "$scratch/level" $kind
     done
 }
 
@@ -50,48 +50,48 @@ by_earlier_name() {
     local prefix=$1 libdir=lib kind link
     by_pkg_config "$1" lib markdown_scanners
     [ "$(pkg-config --variable=libdir markdown_scanners)" = "$1/lib" ] || stop "pkg-config has another folder for the earlier name"
-    sed "s/proved_markdown/markdown_scanners/" "$room/level.c" >"$room/named.c"
+    sed "s/proved_markdown/markdown_scanners/" "$scratch/level.c" >"$scratch/named.c"
     for kind in shared static; do
         link=$1/lib/libmarkdown_scanners.a
         [ $kind = static ] || link="-L$1/lib -lmarkdown_scanners"
-        cc "-I$1/include" "$room/named.c" $link -o "$room/level" 2>"$room/faults" || { cat "$room/faults" >&2; stop "$link: no program"; }
-        prints_level "$room/level" $kind
+        cc "-I$1/include" "$scratch/named.c" $link -o "$scratch/level" 2>"$scratch/faults" || { cat "$scratch/faults" >&2; stop "$link: no program"; }
+        prints_level "$scratch/level" $kind
     done
-    mkdir -p "$room/earlier"
-    cc -shared "-Wl,-soname,$earlier_name" -x c - -o "$room/earlier/libmarkdown_scanners.so" <<<'void mds_safe_html(void) {}'
-    cc "-I$1/include" "$room/level.c" "-L$room/earlier" -lmarkdown_scanners -o "$room/level"
-    readelf -dW "$room/level" | grep -q "NEEDED.*\[$earlier_name\]" || stop "the program does not ask for the earlier name"
-    shared_name=$earlier_name prints_level "$room/level" shared
+    mkdir -p "$scratch/earlier"
+    cc -shared "-Wl,-soname,$earlier_name" -x c - -o "$scratch/earlier/libmarkdown_scanners.so" <<<'void mds_safe_html(void) {}'
+    cc "-I$1/include" "$scratch/level.c" "-L$scratch/earlier" -lmarkdown_scanners -o "$scratch/level"
+    readelf -dW "$scratch/level" | grep -q "NEEDED.*\[$earlier_name\]" || stop "the program does not ask for the earlier name"
+    shared_name=$earlier_name prints_level "$scratch/level" shared
 }
 
 # In a fresh prefix, and below DESTDIR as for /usr. Another archive of the kit may stand in the same program.
 check_installed() {
-    local prefix=$room/prefix libdir=lib runs=0
+    local prefix=$scratch/prefix libdir=lib runs=0
     readme_program
     packages/c/install "$prefix"
     has_files "$prefix"
     by_pkg_config "$prefix"
     by_earlier_name "$prefix"
-    DESTDIR=$room/stage packages/c/install /usr
-    has_files "$room/stage/usr"
-    LIBDIR=lib/machine packages/c/install "$room/machine"
-    by_pkg_config "$room/machine" lib/machine
-    grep -qx 'prefix=/usr' "$room/stage/usr/lib/pkgconfig/proved_markdown.pc" || stop "DESTDIR stands in what is installed"
-    DESTDIR=$room/stage packages/c/install --remove /usr
-    [ -z "$(find "$room/stage" ! -type d)" ] && [ -d "$room/stage/usr/lib" ] || stop "what is installed is not removed"
-    ! (LIBDIR=a/../.. packages/c/install "$prefix" 2>"$room/faults") && grep -q LIBDIR "$room/faults" || stop "a LIBDIR outside is not refused"
-    ! (packages/c/install relative 2>"$room/faults") && grep -q absolute "$room/faults" || stop "a relative PREFIX is not refused"
-    printf 'void %s(void);\nvoid %s(void) {}\n' rattle_{alloc,alloc,realloc,realloc,dealloc,dealloc} >"$room/other.c"
-    cc "-I$prefix/include" "$room/level.c" "$room/other.c" -Wl,--whole-archive "$archive" -Wl,--no-whole-archive -o "$room/level"
-    prints_level "$room/level" static
+    DESTDIR=$scratch/stage packages/c/install /usr
+    has_files "$scratch/stage/usr"
+    LIBDIR=lib/machine packages/c/install "$scratch/machine"
+    by_pkg_config "$scratch/machine" lib/machine
+    grep -qx 'prefix=/usr' "$scratch/stage/usr/lib/pkgconfig/proved_markdown.pc" || stop "DESTDIR stands in what is installed"
+    DESTDIR=$scratch/stage packages/c/install --remove /usr
+    [ -z "$(find "$scratch/stage" ! -type d)" ] && [ -d "$scratch/stage/usr/lib" ] || stop "what is installed is not removed"
+    ! (LIBDIR=a/../.. packages/c/install "$prefix" 2>"$scratch/faults") && grep -q LIBDIR "$scratch/faults" || stop "a LIBDIR outside is not refused"
+    ! (packages/c/install relative 2>"$scratch/faults") && grep -q absolute "$scratch/faults" || stop "a relative PREFIX is not refused"
+    printf 'void %s(void);\nvoid %s(void) {}\n' rattle_{alloc,alloc,realloc,realloc,dealloc,dealloc} >"$scratch/other.c"
+    cc "-I$prefix/include" "$scratch/level.c" "$scratch/other.c" -Wl,--whole-archive "$archive" -Wl,--no-whole-archive -o "$scratch/level"
+    prints_level "$scratch/level" static
     passed installed "$runs"
 }
 
 # By both names.
 check_cmake() {
-    local prefix=$room/prefix libdir=lib runs=0 cmake=$room/machine/lib/machine/cmake
+    local prefix=$scratch/prefix libdir=lib runs=0 cmake=$scratch/machine/lib/machine/cmake
     command -v cmake >/dev/null || { leave cmake cmake; return; }
-    cat >"$room/CMakeLists.txt" <<'END'
+    cat >"$scratch/CMakeLists.txt" <<'END'
 cmake_minimum_required(VERSION 3.13)
 project(level C)
 foreach(name proved_markdown markdown_scanners)
@@ -102,11 +102,11 @@ foreach(name proved_markdown markdown_scanners)
   endforeach()
 endforeach()
 END
-    by_cmake "$room/cmake" "-DCMAKE_PREFIX_PATH=$prefix"
-    prefix=$room/machine libdir=lib/machine
-    by_cmake "$room/machine/cmake" "-Dproved_markdown_DIR=$cmake/proved_markdown" "-Dmarkdown_scanners_DIR=$cmake/markdown_scanners"
-    ! cmake -S "$room" -B "$room/later" "-DCMAKE_PREFIX_PATH=$room/prefix" -DEXPECTED=$((${version%%.*} + 1)).0 >"$room/said" 2>&1 &&
-        grep -q proved_markdown-config.cmake "$room/said" || stop "CMake takes this version for another"
+    by_cmake "$scratch/cmake" "-DCMAKE_PREFIX_PATH=$prefix"
+    prefix=$scratch/machine libdir=lib/machine
+    by_cmake "$scratch/machine/cmake" "-Dproved_markdown_DIR=$cmake/proved_markdown" "-Dmarkdown_scanners_DIR=$cmake/markdown_scanners"
+    ! cmake -S "$scratch" -B "$scratch/later" "-DCMAKE_PREFIX_PATH=$scratch/prefix" -DEXPECTED=$((${version%%.*} + 1)).0 >"$scratch/said" 2>&1 &&
+        grep -q proved_markdown-config.cmake "$scratch/said" || stop "CMake takes this version for another"
     runs=$((runs + 1))
     passed cmake "$runs"
 }
@@ -114,9 +114,9 @@ END
 # by_cmake FOLDER WORD..: the programs are built there, by CMake with these words.
 by_cmake() {
     local name kind
-    cmake -S "$room" -B "$1" "${@:2}" "-DEXPECTED=$version" >"$room/said" 2>&1 && cmake --build "$1" >>"$room/said" 2>&1 ||
-        { cat "$room/said" >&2; stop "CMake fails"; }
-    grep -q 'markdown_scanners is called proved_markdown now' "$room/said" || stop "CMake does not say the new name"
+    cmake -S "$scratch" -B "$1" "${@:2}" "-DEXPECTED=$version" >"$scratch/said" 2>&1 && cmake --build "$1" >>"$scratch/said" 2>&1 ||
+        { cat "$scratch/said" >&2; stop "CMake fails"; }
+    grep -q 'markdown_scanners is called proved_markdown now' "$scratch/said" || stop "CMake does not say the new name"
     for name in proved_markdown markdown_scanners; do
         for kind in shared static; do prints_level "$1/${name}_$kind" $kind; done
     done
@@ -125,11 +125,11 @@ by_cmake() {
 # What is packed is what is installed; it says by which kit it was proved, and how; and it may stand anywhere.
 check_dist() {
     local name=proved-markdown-$version-x86_64-linux runs=0 at
-    mkdir "$room/once" "$room/again" "$room/anywhere"
-    packages/c/dist "$room/once" && packages/c/dist "$room/again"
-    cmp "$room/once/$name.tar.gz" "$room/again/$name.tar.gz" || stop "the same files are packed in two ways"
-    tar -C "$room/anywhere" -xzf "$room/once/$name.tar.gz"
-    at=$room/anywhere/$name
+    mkdir "$scratch/once" "$scratch/again" "$scratch/anywhere"
+    packages/c/dist "$scratch/once" && packages/c/dist "$scratch/again"
+    cmp "$scratch/once/$name.tar.gz" "$scratch/again/$name.tar.gz" || stop "the same files are packed in two ways"
+    tar -C "$scratch/anywhere" -xzf "$scratch/once/$name.tar.gz"
+    at=$scratch/anywhere/$name
     (cd "$at" && sha256sum --quiet --strict -c SHA256SUMS) || stop "a checksum of what is packed differs"
     [ "$(cat "$at/VERSION")" = "$version" ] && cmp LICENSE "$at/LICENSE" || stop "the version or the licence differs"
     grep -q 'rattle-kit-' "$at/PROOF" && [[ $(tail -n 1 "$at/PROOF") = logic=proved\ * ]] || stop "the proof is not recorded"
@@ -147,8 +147,8 @@ check_dist() {
 
 # prints_outline WORD..: the command prints the outline of what is packed.
 prints_outline() {
-    { echo "1: # proved-markdown $version, for Linux on x86-64" && grep -n '^## ' "$at/README.md" | sed 's/:/: /'; } >"$room/expected"
-    "$@" >"$room/printed" && cmp "$room/expected" "$room/printed" || stop "$* prints something else"
+    { echo "1: # proved-markdown $version, for Linux on x86-64" && grep -n '^## ' "$at/README.md" | sed 's/:/: /'; } >"$scratch/expected"
+    "$@" >"$scratch/printed" && cmp "$scratch/expected" "$scratch/printed" || stop "$* prints something else"
 }
 
 # The programs, in an empty environment, as the stored runs have it; the README says which C library they need.
@@ -167,9 +167,9 @@ check_packed_programs() {
 # The package, of the wheel alone, and the example on it.
 check_packed_python() {
     python3 -m pip --version >/dev/null 2>&1 || { leave packed_python pip; return; }
-    python3 -m pip install -q --root-user-action ignore --no-index --no-deps --target "$room/site" "$1"/python/proved_markdown-*.whl ||
+    python3 -m pip install -q --root-user-action ignore --no-index --no-deps --target "$scratch/site" "$1"/python/proved_markdown-*.whl ||
         stop "the wheel that is packed is not installed"
-    (unset PROVED_MARKDOWN_LIBRARY && cd "$1" && PYTHONPATH=$room/site prints_outline python3 examples/outline.py README.md)
+    (unset PROVED_MARKDOWN_LIBRARY && cd "$1" && PYTHONPATH=$scratch/site prints_outline python3 examples/outline.py README.md)
     passed packed_python 1
 }
 
@@ -178,11 +178,11 @@ check_packed_javascript() {
     local flags=()
     command -v node >/dev/null || { leave packed_javascript node; return; }
     if node --experimental-wasm-memory64 -e 0 2>/dev/null; then flags=(--no-warnings --experimental-wasm-memory64); fi
-    cat >"$room/level.mjs" <<END
+    cat >"$scratch/level.mjs" <<END
 import { load } from "$1/javascript/proved_markdown.mjs";
 console.log((await load()).text("## A heading").scanAtxHeading());
 END
-    [ "$(node "${flags[@]}" "$room/level.mjs")" = 2 ] || stop "the JavaScript package that is packed prints something else"
+    [ "$(node "${flags[@]}" "$scratch/level.mjs")" = 2 ] || stop "the JavaScript package that is packed prints something else"
     (cd "$1" && prints_outline node "${flags[@]}" javascript/examples/headings.mjs README.md)
     diff -r packages/javascript/page "$1/javascript/page" && cmp packages/javascript/index.html "$1/javascript/index.html" ||
         stop "another page is packed"
@@ -196,9 +196,10 @@ check_packed_rust() {
     (
         cd "$1/rust" || exit
         unset PROVED_MARKDOWN_LIB_DIR PKG_CONFIG_PATH
-        export CARGO_TARGET_DIR=$room/packed
+        export CARGO_TARGET_DIR=$scratch/packed
         prints_outline cargo run -q --offline --example headings ../README.md
-        cargo test -q --offline --manifest-path alias/Cargo.toml >"$room/said" 2>&1 || { cat "$room/said" >&2; stop "the earlier crate that is packed fails"; }
+        cargo test -q --offline --manifest-path alias/Cargo.toml >"$scratch/said" 2>&1 ||
+            { cat "$scratch/said" >&2; stop "the earlier crate that is packed fails"; }
     )
     passed packed_rust 1
 }

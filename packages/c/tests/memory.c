@@ -55,49 +55,49 @@ struct returned {
 };
 
 /* A call with buffers of so many bytes. */
-typedef struct returned call_with(size_t room);
+typedef struct returned call_with(size_t capacity);
 
 static struct returned of_text(struct mds_text text) {
     return (struct returned){text.status, {text.taken, text.length, 0}};
 }
 
-static struct returned escape(size_t room) {
-    return of_text(mds_unescape(OF("a&amp;b"), false, writable(BUFFER, room), room));
+static struct returned escape(size_t capacity) {
+    return of_text(mds_unescape(OF("a&amp;b"), false, writable(BUFFER, capacity), capacity));
 }
 
-static struct returned escape_in_cell(size_t room) {
-    return of_text(mds_unescape(OF("\\\\|"), true, writable(BUFFER, room), room));
+static struct returned escape_in_cell(size_t capacity) {
+    return of_text(mds_unescape(OF("\\\\|"), true, writable(BUFFER, capacity), capacity));
 }
 
-static struct returned long_escape(size_t room) {
+static struct returned long_escape(size_t capacity) {
     static char text[LONG];
     memset(text, 'a', LONG), text[LONG - 1] = '\r';
-    return of_text(mds_unescape(given(BYTES, text, LONG), LONG, false, writable(BUFFER, room), room));
+    return of_text(mds_unescape(given(BYTES, text, LONG), LONG, false, writable(BUFFER, capacity), capacity));
 }
 
 static struct returned of_label(struct mds_label label) {
     return (struct returned){label.status, {label.end, label.length, label.start}};
 }
 
-static struct returned label(size_t room) {
-    return of_label(mds_scan_link_label(OF("a  b]"), 0, false, NULL, 0, writable(BUFFER, room), room));
+static struct returned label(size_t capacity) {
+    return of_label(mds_scan_link_label(OF("a  b]"), 0, false, NULL, 0, writable(BUFFER, capacity), capacity));
 }
 
-static struct returned label_in_cell(size_t room) {
-    return of_label(mds_scan_link_label(OF("a\\|b]"), 0, true, NULL, 0, writable(BUFFER, room), room));
+static struct returned label_in_cell(size_t capacity) {
+    return of_label(mds_scan_link_label(OF("a\\|b]"), 0, true, NULL, 0, writable(BUFFER, capacity), capacity));
 }
 
-static struct returned long_label(size_t room) {
+static struct returned long_label(size_t capacity) {
     static char text[LONG];
     memset(text, 'a', LONG), text[1] = text[2] = ' ', text[LONG - 1] = ']';
     return of_label(
-        mds_scan_link_label(given(BYTES, text, LONG), LONG, 0, false, NULL, 0, writable(BUFFER, room), room));
+        mds_scan_link_label(given(BYTES, text, LONG), LONG, 0, false, NULL, 0, writable(BUFFER, capacity), capacity));
 }
 
 /* A label over lines, of which one leaves something out. */
-static struct returned label_over_lines(size_t room) {
+static struct returned label_over_lines(size_t capacity) {
     static const struct mds_skip skips[] = {{2, 2}};
-    return of_label(mds_scan_link_label(OF("a\n> b]"), 0, false, skips, 1, writable(BUFFER, room), room));
+    return of_label(mds_scan_link_label(OF("a\n> b]"), 0, false, skips, 1, writable(BUFFER, capacity), capacity));
 }
 
 static struct returned of_tag(struct mds_tag tag) {
@@ -105,214 +105,214 @@ static struct returned of_tag(struct mds_tag tag) {
 }
 
 /* A tag over lines, of which one leaves something out. */
-static struct returned tag(size_t room) {
+static struct returned tag(size_t capacity) {
     static const struct mds_skip skips[] = {{5, 2}};
-    return of_tag(mds_scan_html_tag_over_lines(OF("<foo\n> bar>"), 0, skips, 1, writable(BUFFER, room), room));
+    return of_tag(mds_scan_html_tag_over_lines(OF("<foo\n> bar>"), 0, skips, 1, writable(BUFFER, capacity), capacity));
 }
 
-static struct returned long_tag(size_t room) {
+static struct returned long_tag(size_t capacity) {
     static const struct mds_skip skips[] = {{3, 2}};
     static char text[LONG];
     memset(text, ' ', LONG), memcpy(text, "<a\n>", 4), text[LONG - 1] = '>';
     return of_tag(
-        mds_scan_html_tag_over_lines(given(BYTES, text, LONG), LONG, 0, skips, 1, writable(BUFFER, room), room));
+        mds_scan_html_tag_over_lines(given(BYTES, text, LONG), LONG, 0, skips, 1, writable(BUFFER, capacity), capacity));
 }
 
-static struct returned key(size_t room) {
-    return of_text(mds_label_key(OF("A \xe1\xba\x9e"), writable(BUFFER, room), room));
+static struct returned key(size_t capacity) {
+    return of_text(mds_label_key(OF("A \xe1\xba\x9e"), writable(BUFFER, capacity), capacity));
 }
 
-static struct returned long_key(size_t room) {
+static struct returned long_key(size_t capacity) {
     static char text[LONG];
     memset(text, 'A', LONG), memcpy(text, "\xc3\x84", 2);
-    return of_text(mds_label_key(given(BYTES, text, LONG), LONG, writable(BUFFER, room), room));
+    return of_text(mds_label_key(given(BYTES, text, LONG), LONG, writable(BUFFER, capacity), capacity));
 }
 
-static struct returned table(size_t room) {
-    return of_text(mds_scan_table_head(OF("|-|-|"), writable(BUFFER, room), room));
+static struct returned table(size_t capacity) {
+    return of_text(mds_scan_table_head(OF("|-|-|"), writable(BUFFER, capacity), capacity));
 }
 
-static struct returned wide_table(size_t room) {
+static struct returned wide_table(size_t capacity) {
     static char text[2 * MANY];
     for (size_t i = 0; i < MANY; i++)
         text[2 * i] = '-', text[2 * i + 1] = '|';
-    return of_text(mds_scan_table_head(given(BYTES, text, 2 * MANY), 2 * MANY, writable(BUFFER, room), room));
+    return of_text(mds_scan_table_head(given(BYTES, text, 2 * MANY), 2 * MANY, writable(BUFFER, capacity), capacity));
 }
 
-static struct returned of_html(const char *text, size_t length, const size_t *places, size_t count, size_t room) {
+static struct returned of_html(const char *text, size_t length, const size_t *places, size_t count, size_t capacity) {
     const uint8_t *bytes = given(BYTES, text, length);
     const size_t *list = given(LIST, places, count * sizeof(*list));
-    size_t capacity = room / sizeof(size_t), *ends = writable(BUFFER, capacity * sizeof(size_t));
-    struct mds_html_run run = mds_run_inline_html(bytes, length, list, count, ends, capacity);
+    size_t most = capacity / sizeof(size_t), *ends = writable(BUFFER, most * sizeof(size_t));
+    struct mds_html_run run = mds_run_inline_html(bytes, length, list, count, ends, most);
     return (struct returned){run.status, {run.count, 0, 0}};
 }
 
-static struct returned html_run(size_t room) {
-    return of_html("<!a><!b>", 8, (const size_t[]){2, 6}, 2, room);
+static struct returned html_run(size_t capacity) {
+    return of_html("<!a><!b>", 8, (const size_t[]){2, 6}, 2, capacity);
 }
 
-static struct returned long_html_run(size_t room) {
+static struct returned long_html_run(size_t capacity) {
     static char text[2 * MANY];
     static size_t places[MANY];
     for (size_t i = 0; i < MANY; i++)
         text[2 * i] = '<', text[2 * i + 1] = '!', places[i] = 2 * i + 2;
-    return of_html(text, 2 * MANY, places, MANY, room);
+    return of_html(text, 2 * MANY, places, MANY, capacity);
 }
 
-static struct returned of_blocks(const char *page, size_t length, size_t room) {
-    size_t capacity = room / sizeof(struct mds_block);
-    struct mds_block *blocks = writable(BUFFER, capacity * sizeof(*blocks));
-    struct mds_blocks found = mds_scan_blocks(given(BYTES, page, length), length, blocks, capacity);
+static struct returned of_blocks(const char *page, size_t length, size_t capacity) {
+    size_t most = capacity / sizeof(struct mds_block);
+    struct mds_block *blocks = writable(BUFFER, most * sizeof(*blocks));
+    struct mds_blocks found = mds_scan_blocks(given(BYTES, page, length), length, blocks, most);
     return (struct returned){found.status, {found.count, 0, 0}};
 }
 
-static struct returned blocks(size_t room) {
-    return of_blocks("> - a\n\n[b]: c\nd\n", 16, room);
+static struct returned blocks(size_t capacity) {
+    return of_blocks("> - a\n\n[b]: c\nd\n", 16, capacity);
 }
 
-static struct returned blocks_of_table(size_t room) {
-    return of_blocks("|a|b|\n|-|-|\n", 12, room);
+static struct returned blocks_of_table(size_t capacity) {
+    return of_blocks("|a|b|\n|-|-|\n", 12, capacity);
 }
 
-static struct returned deep_blocks(size_t room) {
+static struct returned deep_blocks(size_t capacity) {
     static char page[MANY / 3];
     memset(page, '>', sizeof(page));
-    return of_blocks(page, sizeof(page), room);
+    return of_blocks(page, sizeof(page), capacity);
 }
 
-static struct returned of_lists(const char *page, size_t length, size_t room) {
-    size_t capacity = room / sizeof(struct mds_list);
-    struct mds_list *lists = writable(BUFFER, capacity * sizeof(*lists));
-    struct mds_blocks found = mds_scan_lists(given(BYTES, page, length), length, lists, capacity);
+static struct returned of_lists(const char *page, size_t length, size_t capacity) {
+    size_t most = capacity / sizeof(struct mds_list);
+    struct mds_list *lists = writable(BUFFER, most * sizeof(*lists));
+    struct mds_blocks found = mds_scan_lists(given(BYTES, page, length), length, lists, most);
     return (struct returned){found.status, {found.count, 0, 0}};
 }
 
-static struct returned lists(size_t room) {
-    return of_lists("- a\n  1. b\n\n  2. c\n+ d\n", 23, room);
+static struct returned lists(size_t capacity) {
+    return of_lists("- a\n  1. b\n\n  2. c\n+ d\n", 23, capacity);
 }
 
-static struct returned many_lists(size_t room) {
+static struct returned many_lists(size_t capacity) {
     static char page[4 * MANY];
     for (size_t i = 0; i < MANY; i++)
         memcpy(page + 4 * i, i % 2 ? "- a\n" : "+ a\n", 4);
-    return of_lists(page, sizeof(page), room);
+    return of_lists(page, sizeof(page), capacity);
 }
 
-static struct returned of_line(const char *text, size_t length, size_t room) {
+static struct returned of_line(const char *text, size_t length, size_t capacity) {
     struct mds_open_blocks open = {0, 0, 0};
     struct mds_block block = {.bytes = 0};
-    size_t capacity = room / sizeof(struct mds_block);
-    struct mds_block *containers = writable(BUFFER, capacity * sizeof(*containers));
-    struct mds_line_block found = mds_block_line(given(BYTES, text, length), length, true, containers, capacity, &open, &block);
+    size_t most = capacity / sizeof(struct mds_block);
+    struct mds_block *containers = writable(BUFFER, most * sizeof(*containers));
+    struct mds_line_block found = mds_block_line(given(BYTES, text, length), length, true, containers, most, &open, &block);
     return (struct returned){found.status, {found.kept, found.depth, block.bytes}};
 }
 
-static struct returned line(size_t room) {
-    return of_line("> - [b]: c\nd\n", 13, room);
+static struct returned line(size_t capacity) {
+    return of_line("> - [b]: c\nd\n", 13, capacity);
 }
 
-static struct returned line_of_table(size_t room) {
-    return of_line("> |a|b|\n> |-|-|\n", 16, room);
+static struct returned line_of_table(size_t capacity) {
+    return of_line("> |a|b|\n> |-|-|\n", 16, capacity);
 }
 
-static struct returned deep_line(size_t room) {
+static struct returned deep_line(size_t capacity) {
     static char text[MANY / 3];
     memset(text, '>', sizeof(text));
-    return of_line(text, sizeof(text), room);
+    return of_line(text, sizeof(text), capacity);
 }
 
-static struct returned content_in(const char *page, size_t length, size_t depth, size_t room) {
+static struct returned content_in(const char *page, size_t length, size_t depth, size_t capacity) {
     static struct mds_block quotes[MANY];
     const struct mds_block leaf = {.kind = MDS_BLOCK_PARAGRAPH, .bytes = length};
     const void *bytes = given(BYTES, page, length), *block = given(LIST, &leaf, sizeof(leaf));
     for (size_t i = 0; i < depth; i++)
         quotes[i].kind = MDS_BLOCK_QUOTE;
     const void *containers = given(OTHER_BYTES, quotes, depth * sizeof(*quotes));
-    return of_text(mds_block_content(bytes, length, block, containers, depth, 0, writable(BUFFER, room), room));
+    return of_text(mds_block_content(bytes, length, block, containers, depth, 0, writable(BUFFER, capacity), capacity));
 }
 
 /* It is one run of the page: memory is asked for the containers alone. */
-static struct returned content_in_many(size_t room) {
-    return content_in("> a\n", 4, MANY, room);
+static struct returned content_in_many(size_t capacity) {
+    return content_in("> a\n", 4, MANY, capacity);
 }
 
-static struct returned long_content(size_t room) {
+static struct returned long_content(size_t capacity) {
     static char page[LONG];
     for (size_t i = 0; i < LONG; i++)
         page[i] = "> a\n"[i % 4];
-    return content_in(page, LONG, 1, room);
+    return content_in(page, LONG, 1, capacity);
 }
 
-static struct returned of_inlines(const char *text, size_t length, const struct mds_view *labels, size_t count, size_t room) {
+static struct returned of_inlines(const char *text, size_t length, const struct mds_view *labels, size_t count, size_t capacity) {
     const struct mds_view *views = given(LIST, labels, count * sizeof(*views));
-    size_t capacity = room / sizeof(struct mds_inline);
-    struct mds_inline *inlines = writable(BUFFER, capacity * sizeof(*inlines));
-    struct mds_inlines found = mds_scan_inlines(given(BYTES, text, length), length, views, count, MDS_STRIKETHROUGH, inlines, capacity);
+    size_t most = capacity / sizeof(struct mds_inline);
+    struct mds_inline *inlines = writable(BUFFER, most * sizeof(*inlines));
+    struct mds_inlines found = mds_scan_inlines(given(BYTES, text, length), length, views, count, MDS_STRIKETHROUGH, inlines, most);
     return (struct returned){found.status, {found.count, 0, 0}};
 }
 
-static struct returned inlines(size_t room) {
-    return of_inlines("*a* `b` [c](d)", 14, NULL, 0, room);
+static struct returned inlines(size_t capacity) {
+    return of_inlines("*a* `b` [c](d)", 14, NULL, 0, capacity);
 }
 
 /* Keys are made of the labels that are defined, and of those that are looked up. */
-static struct returned inlines_with_labels(size_t room) {
+static struct returned inlines_with_labels(size_t capacity) {
     static const struct mds_view labels[] = {{"\xc3\x84", 2}, {"B  c", 4}, {"b c", 3}};
-    return of_inlines("[\xc3\xa4][] ![a][B\nC] [d]", 22, labels, 3, room);
+    return of_inlines("[\xc3\xa4][] ![a][B\nC] [d]", 22, labels, 3, capacity);
 }
 
-static struct returned inlines_with_many_labels(size_t room) {
+static struct returned inlines_with_many_labels(size_t capacity) {
     static struct mds_view labels[MANY];
     for (size_t i = 0; i < MANY; i++)
         labels[i] = (struct mds_view){"abcdefghijklmnopqrstuvwxyzabcdefghijklmnopqrstuvwxyz" + i, 4};
-    return of_inlines("[DEFG]", 6, labels, MANY, room);
+    return of_inlines("[DEFG]", 6, labels, MANY, capacity);
 }
 
 /* Headings, tables, tasks, lists, quotes, definitions and inlines: all that a page keeps while it is read. */
 static const char whole_page[] = "# a\n> - [x] *b* [c]\n\n|a|`b`|\n|-|-|\n|c|![d](e)|\n\n[c]: /f \"g\"\n";
 
-static struct returned html(size_t room) {
-    return of_text(mds_html(OF(whole_page), MDS_OPTION_TABLES | MDS_OPTION_TASKS, writable(BUFFER, room), room));
+static struct returned html(size_t capacity) {
+    return of_text(mds_html(OF(whole_page), MDS_OPTION_TABLES | MDS_OPTION_TASKS, writable(BUFFER, capacity), capacity));
 }
 
-static struct returned long_html(size_t room) {
+static struct returned long_html(size_t capacity) {
     static char page[10 * MANY];
     for (size_t i = 0; i < sizeof(page); i++)
         page[i] = "*a*\n\n"[i % 5];
-    return of_text(mds_html(given(BYTES, page, sizeof(page)), sizeof(page), 0, writable(BUFFER, room), room));
+    return of_text(mds_html(given(BYTES, page, sizeof(page)), sizeof(page), 0, writable(BUFFER, capacity), capacity));
 }
 
-static struct returned safe_html(size_t room) {
+static struct returned safe_html(size_t capacity) {
     static const struct mds_view schemes[] = {{"https", 5}, {"mailto", 6}};
-    return of_text(mds_safe_html(OF("<a@b> [c](d:e) <f>"), 0, schemes, 2, writable(BUFFER, room), room));
+    return of_text(mds_safe_html(OF("<a@b> [c](d:e) <f>"), 0, schemes, 2, writable(BUFFER, capacity), capacity));
 }
 
 /* The events stand in front of their texts. */
 /* Where there is room, for 24 events and 304 bytes of texts. */
-static struct returned of_events(const char *page, size_t length, size_t room) {
-    size_t capacity = room ? 24 : 0, texts_capacity = room ? 304 : 0, records = capacity * sizeof(struct mds_event);
+static struct returned of_events(const char *page, size_t length, size_t capacity) {
+    size_t most = capacity ? 24 : 0, texts_capacity = capacity ? 304 : 0, records = most * sizeof(struct mds_event);
     uint8_t *both = writable(BUFFER, records + texts_capacity);
     struct mds_events found = mds_events(
-        given(BYTES, page, length), length, MDS_OPTION_TABLES | MDS_OPTION_TASKS, (struct mds_event *)(void *)both, capacity,
+        given(BYTES, page, length), length, MDS_OPTION_TABLES | MDS_OPTION_TASKS, (struct mds_event *)(void *)both, most,
         both + records, texts_capacity);
     return (struct returned){found.status, {found.count, found.length, 0}};
 }
 
-static struct returned events(size_t room) {
+static struct returned events(size_t capacity) {
     static const char page[] = "# a\n> - [x] *b* [c]\n\n[c]: /f \"g\"\n";
-    return of_events(page, sizeof(page) - 1, room);
+    return of_events(page, sizeof(page) - 1, capacity);
 }
 
-static struct returned events_of_table(size_t room) {
+static struct returned events_of_table(size_t capacity) {
     static const char page[] = "|a|`b`|\n|-|-|\n";
-    return of_events(page, sizeof(page) - 1, room);
+    return of_events(page, sizeof(page) - 1, capacity);
 }
 
-static struct returned long_events(size_t room) {
+static struct returned long_events(size_t capacity) {
     static char page[10 * MANY];
     for (size_t i = 0; i < sizeof(page); i++)
         page[i] = "a\\\n"[i % 3];
-    return of_events(page, room ? 12 : sizeof(page), room);
+    return of_events(page, capacity ? 12 : sizeof(page), capacity);
 }
 
 /* A handle is empty where some request of it is refused, and may be begun anew. */
@@ -334,14 +334,14 @@ static void handles(void) {
     }
 }
 
-static struct returned safe_html_by_usual_schemes(size_t room) {
-    return of_text(mds_safe_html(OF("[c](https://d)"), 0, NULL, 0, writable(BUFFER, room), room));
+static struct returned safe_html_by_usual_schemes(size_t capacity) {
+    return of_text(mds_safe_html(OF("[c](https://d)"), 0, NULL, 0, writable(BUFFER, capacity), capacity));
 }
 
-static struct returned made(call_with *call, size_t room, size_t which) {
+static struct returned made(call_with *call, size_t capacity, size_t which) {
     writable(BUFFER, 0);
     requests = held = 0, refused = which;
-    struct returned returned = call(room);
+    struct returned returned = call(capacity);
     refused = 0;
     return returned;
 }
@@ -371,18 +371,18 @@ static bool returned_refusal(int line, struct returned found, struct returned am
     return refusal;
 }
 
-static void refuse_each(int line, call_with *call, size_t room, bool exact) {
-    struct returned ample = made(call, room, 0);
+static void refuse_each(int line, call_with *call, size_t capacity, bool exact) {
+    struct returned ample = made(call, capacity, 0);
     size_t total = requests, refusals = 0;
     keep();
-    same(line, "status", ample.status, room ? MDS_OK : MDS_TOO_SHORT);
+    same(line, "status", ample.status, capacity ? MDS_OK : MDS_TOO_SHORT);
     same(line, "what is held", held, 0);
     if (exact)
         same(line, "requests", total, 1), same(line, "bytes asked for", asked, ample.numbers[1]);
     for (size_t which = 1; which <= total; which++) {
-        refusals += returned_refusal(line, made(call, room, which), ample);
+        refusals += returned_refusal(line, made(call, capacity, which), ample);
         all_later = true;
-        refusals += returned_refusal(line, made(call, room, which), ample);
+        refusals += returned_refusal(line, made(call, capacity, which), ample);
         all_later = false;
     }
     same(line, "some request is refused", refusals > 0, true);

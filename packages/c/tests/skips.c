@@ -24,21 +24,21 @@ static uint32_t check_of(const char *bytes, size_t length, const struct table *t
 
 /* ---- Tags ---- */
 
-static struct mds_tag tag_of(const char *bytes, size_t length, size_t start, const struct table *table, size_t room) {
+static struct mds_tag tag_of(const char *bytes, size_t length, size_t start, const struct table *table, size_t capacity) {
     const uint8_t *input = given(BYTES, bytes, length);
     const struct mds_skip *skips = given_table(table);
-    return mds_scan_html_tag_over_lines(input, length, start, skips, table->count, writable(BUFFER, room), room);
+    return mds_scan_html_tag_over_lines(input, length, start, skips, table->count, writable(BUFFER, capacity), capacity);
 }
 
 /* The tag, where it is returned with each room for its text that is too small, and with enough. */
 static void tag_is(int line, const struct text *page, size_t start, const struct table *table, size_t end, const struct text *text) {
     const char *bytes = (const char *)page->bytes;
     size_t length = page->length, size = text->length;
-    for (size_t room = 0; room <= size + 1; room++) {
-        struct mds_tag found = tag_of(bytes, length, start, table, room);
-        same(line, "status", found.status, room < size ? MDS_TOO_SHORT : MDS_OK);
+    for (size_t capacity = 0; capacity <= size + 1; capacity++) {
+        struct mds_tag found = tag_of(bytes, length, start, table, capacity);
+        same(line, "status", found.status, capacity < size ? MDS_TOO_SHORT : MDS_OK);
         same(line, "end", found.end, end), same(line, "length", found.length, size);
-        same(line, "what else is written", is_left(BUFFER, room < size ? 0 : size), true);
+        same(line, "what else is written", is_left(BUFFER, capacity < size ? 0 : size), true);
     }
     tag_of(bytes, length, start, table, size);
     same(line, "text", memcmp(whole(BUFFER) + (at_front ? 0 : ROOM_SIZE - size), text->bytes, size), 0);
@@ -54,10 +54,10 @@ static void no_tag(int line, const struct text *page, size_t start, const struct
 /* ---- Labels ---- */
 
 static struct mds_label label_of(
-    const char *bytes, size_t length, size_t start, bool in_table, const struct table *table, size_t room) {
+    const char *bytes, size_t length, size_t start, bool in_table, const struct table *table, size_t capacity) {
     const uint8_t *input = given(BYTES, bytes, length);
     const struct mds_skip *skips = given_table(table);
-    return mds_scan_link_label(input, length, start, in_table, skips, table->count, writable(BUFFER, room), room);
+    return mds_scan_link_label(input, length, start, in_table, skips, table->count, writable(BUFFER, capacity), capacity);
 }
 
 /* The label at an offset, in a cell of a table or not, where it is returned with each room for its text that is too small, and with
@@ -67,13 +67,13 @@ static void label_is(
     const struct text *text) {
     const char *bytes = (const char *)page->bytes;
     size_t length = page->length, size = text->length;
-    for (size_t room = 0; room <= size + 1; room++) {
-        struct mds_label found = label_of(bytes, length, from, in_table, table, room);
-        bool needs = room < size && (room > 0 || label->start == MDS_NONE);
+    for (size_t capacity = 0; capacity <= size + 1; capacity++) {
+        struct mds_label found = label_of(bytes, length, from, in_table, table, capacity);
+        bool needs = capacity < size && (capacity > 0 || label->start == MDS_NONE);
         same(line, "status", found.status, needs ? MDS_TOO_SHORT : MDS_OK);
         same(line, "end", found.end, label->end), same(line, "length", found.length, size);
         same(line, "start", found.start, label->start);
-        same(line, "what else is written", is_left(BUFFER, room < size ? 0 : size), true);
+        same(line, "what else is written", is_left(BUFFER, capacity < size ? 0 : size), true);
     }
     label_of(bytes, length, from, in_table, table, size);
     same(line, "text", memcmp(whole(BUFFER) + (at_front ? 0 : ROOM_SIZE - size), text->bytes, size), 0);
@@ -110,19 +110,19 @@ static void longest_labels(void) {
 /* ---- Tables ---- */
 
 /* What a call over any table returns: nothing past the end, and no more than there is room for. */
-static void bounds(int line, uint32_t status, size_t start, size_t end, size_t length, size_t size, size_t room) {
+static void bounds(int line, uint32_t status, size_t start, size_t end, size_t length, size_t size, size_t capacity) {
     bool is_returned = status == MDS_OK || status == MDS_TOO_SHORT, is_refused = status == MDS_NOTHING || status == MDS_PAST_END;
     same(line, "status", is_returned || is_refused, true), same(line, "past", status == MDS_PAST_END, size < start);
     same(line, "end", is_returned ? end > start && end <= size : end == 0, true);
     same(line, "length", is_returned ? length <= end - start : length == 0, true);
-    same(line, "what is written", is_left(BUFFER, status == MDS_OK && room > 0 ? length : 0), true);
+    same(line, "what is written", is_left(BUFFER, status == MDS_OK && capacity > 0 ? length : 0), true);
 }
 
-static void any_answer(int line, const char *bytes, size_t size, size_t start, const struct table *table, size_t room) {
-    struct mds_tag tag = tag_of(bytes, size, start, table, room);
-    bounds(line, tag.status, start, tag.end, tag.length, size, room);
-    struct mds_label label = label_of(bytes, size, start, false, table, room);
-    bounds(line, label.status, start, label.end, label.length, size, room);
+static void any_answer(int line, const char *bytes, size_t size, size_t start, const struct table *table, size_t capacity) {
+    struct mds_tag tag = tag_of(bytes, size, start, table, capacity);
+    bounds(line, tag.status, start, tag.end, tag.length, size, capacity);
+    struct mds_label label = label_of(bytes, size, start, false, table, capacity);
+    bounds(line, label.status, start, label.end, label.length, size, capacity);
 }
 
 /* A table of no such text, with which all calls are safe. */

@@ -68,7 +68,7 @@ export class Blocks extends Pages {
      */
     #accepted(accepted) {
         const block = new Block(bytesOf("accepted", accepted));
-        if (this.isString && block.bytes.some((it) => it > 127)) throw new RangeError("`accepted` has more than ASCII characters, for a string");
+        if (this.isString && block.bytes.some((byte) => byte > 127)) throw new RangeError("`accepted` has more than ASCII characters, for a string");
         this.engine.bring(this.block, block);
         return [block.address, block.bytes.length];
     }
@@ -130,7 +130,7 @@ export class Blocks extends Pages {
 
     /** A line start at the front of the line that begins there. */
     lineStart(at = 0, end = this.length) {
-        return new LineStart(this.engine, this, this.limits(at, end), (it) => this.made(it));
+        return new LineStart(this.engine, this, this.limits(at, end), (bytes) => this.made(bytes));
     }
 
     /** The offset after a thematic break and its line ending. (4.1) */
@@ -226,10 +226,10 @@ export class Blocks extends Pages {
      */
     scanTableHead(at = 0, end = this.length) {
         const line = this.scanLine(at, end); // a column has a byte of the line, so its bytes are room enough
-        const room = this.inBytes(line) - this.inBytes(at);
-        const [found, alignments] = this.written("scanTableHead", at, end, room);
+        const capacity = this.inBytes(line) - this.inBytes(at);
+        const [found, alignments] = this.written("scanTableHead", at, end, capacity);
         if (!isAnswer(found.status)) return null;
-        return { end: this.placeOf(this.inBytes(at) + found.taken), alignments: Array.from(alignments, (it) => ALIGNMENTS[it]) };
+        return { end: this.placeOf(this.inBytes(at) + found.taken), alignments: Array.from(alignments, (number) => ALIGNMENTS[number]) };
     }
 
     /**

@@ -133,22 +133,22 @@ export class Engine {
      * @param {...Block} blocks
      */
     bring(...blocks) {
-        if (!blocks.every((it) => it.turn === this.#turn)) this.#copy(blocks);
+        if (!blocks.every((block) => block.turn === this.#turn)) this.#copy(blocks);
         this.heap.top = this.#work;
     }
 
     /** @param {Block[]} blocks */
     #copy(blocks) {
-        let missing = blocks.filter((it) => it.turn !== this.#turn);
+        let missing = blocks.filter((block) => block.turn !== this.#turn);
         if (this.#next + sizeOf(missing) > this.#work) {
             missing = blocks;
             this.#clear(sizeOf(blocks));
         }
-        for (const it of missing) {
-            it.turn = this.#turn;
-            it.address = this.#next;
-            this.heap.bytes.set(it.bytes, this.#next);
-            this.#next += sizeOf([it]);
+        for (const block of missing) {
+            block.turn = this.#turn;
+            block.address = this.#next;
+            this.heap.bytes.set(block.bytes, this.#next);
+            this.#next += sizeOf([block]);
         }
     }
 
@@ -192,7 +192,7 @@ export class Engine {
      */
     numbers(numbers) {
         const at = this.room(8 * numbers.length);
-        numbers.forEach((it, index) => this.#writeSize(at + 8 * index, it));
+        numbers.forEach((number, index) => this.#writeSize(at + 8 * index, number));
         return at;
     }
 
@@ -262,15 +262,15 @@ export class Engine {
  * @returns {(...given: any[]) => any}
  */
 function bound(call, taken) {
-    const words = taken.map((it) => (it === "pointer" || it === "size_t" ? BigInt : Number));
+    const words = taken.map((type) => (type === "pointer" || type === "size_t" ? BigInt : Number));
     const [first, second, third, fourth] = words;
     if (words.length === 2) return (a, b) => call(first(a), second(b));
     if (words.length === 3) return (a, b, c) => call(first(a), second(b), third(c));
     if (words.length === 4) return (a, b, c, d) => call(first(a), second(b), third(c), fourth(d));
-    return (...given) => call(...given.map((it, index) => words[index](it)));
+    return (...given) => call(...given.map((value, index) => words[index](value)));
 }
 
 /** @param {Block[]} blocks */
 function sizeOf(blocks) {
-    return blocks.reduce((sum, it) => sum + Math.ceil(it.bytes.length / 16) * 16, 0);
+    return blocks.reduce((sum, block) => sum + Math.ceil(block.bytes.length / 16) * 16, 0);
 }

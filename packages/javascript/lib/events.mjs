@@ -116,37 +116,37 @@ function wordsOf(texts, isString) {
 
 /**
  * An event of C's struct.
- * @param {Record<string, number>} it
+ * @param {Record<string, number>} event
  * @param {import("./source.mjs").Source<any>} page
  * @param {(start: number, length: number) => any} words
  * @returns {any}
  */
-function eventOf(it, page, words) {
-    const [start, stop] = [page.placeOf(it.start), page.placeOf(it.end)];
-    if (it.kind === c.EVENT_START) return { kind: "start", element: ELEMENTS[it.element], start, stop, ...held(it, words) };
-    if (it.kind === c.EVENT_END) return { kind: "end", element: ELEMENTS[it.element], start, stop };
-    if (it.kind === c.EVENT_TASK) return { kind: "task", checked: it.detail === 1, start, stop };
-    const kind = KINDS[it.kind];
-    if (it.kind >= c.EVENT_SOFT_BREAK) return { kind, start, stop };
-    return { kind, text: words(it.textStart, it.textLength), start, stop };
+function eventOf(event, page, words) {
+    const [start, stop] = [page.placeOf(event.start), page.placeOf(event.end)];
+    if (event.kind === c.EVENT_START) return { kind: "start", element: ELEMENTS[event.element], start, stop, ...held(event, words) };
+    if (event.kind === c.EVENT_END) return { kind: "end", element: ELEMENTS[event.element], start, stop };
+    if (event.kind === c.EVENT_TASK) return { kind: "task", checked: event.detail === 1, start, stop };
+    const kind = KINDS[event.kind];
+    if (event.kind >= c.EVENT_SOFT_BREAK) return { kind, start, stop };
+    return { kind, text: words(event.textStart, event.textLength), start, stop };
 }
 
 /**
  * What the start of an element says besides.
- * @param {Record<string, number>} it
+ * @param {Record<string, number>} event
  * @param {(start: number, length: number) => any} words
  */
-function held(it, words) {
-    const text = () => words(it.textStart, it.textLength);
-    switch (it.element) {
-        case c.ELEMENT_HEADING: return { level: it.detail };
-        case c.ELEMENT_CODE_BLOCK: return { info: it.detail === 1 ? text() : null };
-        case c.ELEMENT_LIST: return { number: it.detail === 1 ? it.number : null };
+function held(event, words) {
+    const text = () => words(event.textStart, event.textLength);
+    switch (event.element) {
+        case c.ELEMENT_HEADING: return { level: event.detail };
+        case c.ELEMENT_CODE_BLOCK: return { info: event.detail === 1 ? text() : null };
+        case c.ELEMENT_LIST: return { number: event.detail === 1 ? event.number : null };
         case c.ELEMENT_TABLE: return { alignments: Array.from(text(), (of) => ALIGNMENTS[typeof of === "string" ? of.charCodeAt(0) : of]) };
         case c.ELEMENT_LINK:
         case c.ELEMENT_IMAGE: {
-            const [title, label] = [words(it.titleStart, it.titleLength), words(it.labelStart, it.labelLength)];
-            return { link: LINKS[it.detail], destination: text(), title, label };
+            const [title, label] = [words(event.titleStart, event.titleLength), words(event.labelStart, event.labelLength)];
+            return { link: LINKS[event.detail], destination: text(), title, label };
         }
         default: return {};
     }

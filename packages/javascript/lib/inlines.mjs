@@ -80,17 +80,17 @@ export class Inlines extends Blocks {
      */
     #rows(from, to, labels, extensions) {
         const { engine } = this;
-        for (let room = Math.ceil((to - from) / 16) + 8; ; ) {
+        for (let capacity = Math.ceil((to - from) / 16) + 8; ; ) {
             engine.bring(this.block, labels.block);
             const views = engine.rows("view", labels.views());
-            const at = engine.room(room * SIZE);
-            const given = [this.block.address + from, to - from, views, labels.length, extensions, at, room];
+            const at = engine.room(capacity * SIZE);
+            const given = [this.block.address + from, to - from, views, labels.length, extensions, at, capacity];
             const { status, count } = engine.calls.scanInlines(...given);
             if (status !== c.TOO_SHORT) {
                 isAnswer(status);
                 return Array.from({ length: count }, (_, index) => engine.read("inline", at + index * SIZE));
             }
-            room = count;
+            capacity = count;
         }
     }
 
@@ -100,34 +100,34 @@ export class Inlines extends Blocks {
      * @returns {Generator<Inline, void, void>}
      */
     *#each(from, rows) {
-        for (const it of rows) yield this.#inline(from, it);
+        for (const row of rows) yield this.#inline(from, row);
     }
 
     /**
      * @param {number} from
-     * @param {Record<string, number>} it
+     * @param {Record<string, number>} row
      * @returns {any}
      */
-    #inline(from, it) {
-        const { start, stop } = this.#span(from + it.start, it.length);
-        const kind = KINDS[it.kind];
-        if (kind === "link" || kind === "image") return { kind, start, stop, link: this.#link(from, it) };
+    #inline(from, row) {
+        const { start, stop } = this.#span(from + row.start, row.length);
+        const kind = KINDS[row.kind];
+        if (kind === "link" || kind === "image") return { kind, start, stop, link: this.#link(from, row) };
         if (kind !== "code" && kind !== "uri" && kind !== "email") return { kind, start, stop };
-        const sides = kind === "code" ? it.count : 1;
-        return { kind, start, stop, content: this.#span(from + it.start + sides, it.length - 2 * sides) };
+        const sides = kind === "code" ? row.count : 1;
+        return { kind, start, stop, content: this.#span(from + row.start + sides, row.length - 2 * sides) };
     }
 
     /**
      * @param {number} from
-     * @param {Record<string, number>} it
+     * @param {Record<string, number>} row
      * @returns {Link}
      */
-    #link(from, it) {
-        const end = this.placeOf(from + it.end);
-        if (it.target in TARGETS) return { target: TARGETS[it.target], end, label: this.#span(from + it.labelStart, it.labelLength) };
-        const destination = this.#span(from + it.destinationStart, it.destinationLength);
-        if (it.target === c.TARGET_WIKI) return { target: "wiki", end, destination };
-        const title = it.titleStart === NONE ? null : this.#span(from + it.titleStart, it.titleLength);
+    #link(from, row) {
+        const end = this.placeOf(from + row.end);
+        if (row.target in TARGETS) return { target: TARGETS[row.target], end, label: this.#span(from + row.labelStart, row.labelLength) };
+        const destination = this.#span(from + row.destinationStart, row.destinationLength);
+        if (row.target === c.TARGET_WIKI) return { target: "wiki", end, destination };
+        const title = row.titleStart === NONE ? null : this.#span(from + row.titleStart, row.titleLength);
         return { target: "inline", end, destination, title };
     }
 
@@ -147,14 +147,14 @@ class Labels {
 
     /** @param {(string | Uint8Array)[]} labels */
     constructor(labels) {
-        const bytes = labels.map((it) => bytesOf("a label", it));
+        const bytes = labels.map((label) => bytesOf("a label", label));
         this.length = labels.length;
-        this.#lengths = bytes.map((it) => it.length);
-        const all = new Uint8Array(this.#lengths.reduce((sum, it) => sum + it, 0));
+        this.#lengths = bytes.map((label) => label.length);
+        const all = new Uint8Array(this.#lengths.reduce((sum, length) => sum + length, 0));
         let at = 0;
-        for (const it of bytes) {
-            all.set(it, at);
-            at += it.length;
+        for (const label of bytes) {
+            all.set(label, at);
+            at += label.length;
         }
         this.block = new Block(all);
     }

@@ -205,10 +205,10 @@ export class LineStart {
         const engine = this.#engine;
         this.#enter();
         const given = engine.rows("lineCall", rows);
-        const room = engine.room(24 * rows.length);
+        const buffer = engine.room(24 * rows.length);
         const [from, to] = this.#limits;
-        const found = engine.calls.runLine(this.#text.block.address + from, to - from, engine.lineStart, given, rows.length, room, rows.length);
-        const answers = rows.slice(0, found.count).map((row, index) => answerOf(row.kind, engine.read("lineAnswer", room + 24 * index)));
+        const found = engine.calls.runLine(this.#text.block.address + from, to - from, engine.lineStart, given, rows.length, buffer, rows.length);
+        const answers = rows.slice(0, found.count).map((row, index) => answerOf(row.kind, engine.read("lineAnswer", buffer + 24 * index)));
         return ended(found.status, answers);
     }
 
@@ -218,10 +218,10 @@ export class LineStart {
         const engine = this.#engine;
         this.#enter();
         const length = 4 * (to - from - this.#number(PLACE)) + this.pending;
-        const room = engine.room(length);
-        const found = engine.calls.lineRest(this.#text.block.address + from, to - from, engine.lineStart, room, length);
+        const buffer = engine.room(length);
+        const found = engine.calls.lineRest(this.#text.block.address + from, to - from, engine.lineStart, buffer, length);
         isAnswer(found.status);
-        return this.#made(engine.heap.bytes.subarray(room, room + found.length));
+        return this.#made(engine.heap.bytes.subarray(buffer, buffer + found.length));
     }
 }
 

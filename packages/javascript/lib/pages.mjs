@@ -136,15 +136,15 @@ export class Pages extends Source {
     scanLists(at = 0, end = this.length) {
         const [from, to] = this.limits(at, end);
         const { size } = c.STRUCTS.list;
-        for (let room = Math.ceil((to - from) / 32) + 8; ; ) {
+        for (let capacity = Math.ceil((to - from) / 32) + 8; ; ) {
             this.engine.bring(this.block);
-            const first = this.engine.room(room * size);
-            const { status, count } = this.engine.calls.scanLists(this.block.address + from, to - from, first, room);
+            const first = this.engine.room(capacity * size);
+            const { status, count } = this.engine.calls.scanLists(this.block.address + from, to - from, first, capacity);
             if (status !== c.TOO_SHORT) {
                 isAnswer(status);
                 return Array.from({ length: count }, (_, index) => listOf(this.engine.read("list", first + index * size)));
             }
-            room = count;
+            capacity = count;
         }
     }
 
@@ -153,15 +153,15 @@ export class Pages extends Source {
      * @param {number} to
      */
     #rows(from, to) {
-        for (let room = Math.ceil((to - from) / 32) + 8; ; ) {
+        for (let capacity = Math.ceil((to - from) / 32) + 8; ; ) {
             this.engine.bring(this.block);
-            const at = this.engine.room(room * SIZE);
-            const { status, count } = this.engine.calls.scanBlocks(this.block.address + from, to - from, at, room);
+            const at = this.engine.room(capacity * SIZE);
+            const { status, count } = this.engine.calls.scanBlocks(this.block.address + from, to - from, at, capacity);
             if (status !== c.TOO_SHORT) {
                 isAnswer(status);
                 return new Rows(this.engine.heap.bytes.slice(at, at + count * SIZE));
             }
-            room = count;
+            capacity = count;
         }
     }
 
@@ -204,9 +204,9 @@ export class Pages extends Source {
      * @param {number} kept
      */
     #leaf(from, to, rows, index, returned, open, kept) {
-        const structs = [index, ...open.map((it) => it.index)].map((it) => rows.row(it));
+        const structs = [index, ...open.map((entry) => entry.index)].map((number) => rows.row(number));
         const content = () => this.contentOf(from, to, structs, kept, returned.bytes);
-        return new Leaf(this, from, returned, open.map((it) => it.container), kept, content);
+        return new Leaf(this, from, returned, open.map((entry) => entry.container), kept, content);
     }
 
     /**
@@ -228,18 +228,18 @@ export class Pages extends Source {
      * @param {number} size
      */
     contentOf(from, to, structs, kept, size) {
-        for (let room = size; ; ) {
+        for (let capacity = size; ; ) {
             this.engine.bring(this.block);
             const at = this.engine.room(structs.length * SIZE);
-            const buffer = this.engine.room(room);
-            structs.forEach((it, index) => this.engine.heap.bytes.set(it, at + index * SIZE));
-            const given = [at, at + SIZE, structs.length - 1, kept, buffer, room];
+            const buffer = this.engine.room(capacity);
+            structs.forEach((struct, index) => this.engine.heap.bytes.set(struct, at + index * SIZE));
+            const given = [at, at + SIZE, structs.length - 1, kept, buffer, capacity];
             const { status, length } = this.engine.calls.blockContent(this.block.address + from, to - from, ...given);
             if (status !== c.TOO_SHORT) {
                 isAnswer(status);
                 return this.made(this.engine.heap.bytes.subarray(buffer, buffer + length));
             }
-            room = length;
+            capacity = length;
         }
     }
 }

@@ -27,7 +27,7 @@ export class BlockReader {
     /** @type {Leaf<Uint8Array>[]} What is ready and not returned, as memory was refused then. */
     #ready = [];
     /** The structs of the containers that are open, with room for more, and the same as they began. */
-    #room = new Uint8Array(8 * SIZE);
+    #structs = new Uint8Array(8 * SIZE);
     /** @type {{ struct: Uint8Array, container: import("./pages.mjs").Container }[]} */
     #open = [];
     /** Whether a term stands before the next block. */
@@ -92,21 +92,21 @@ export class BlockReader {
         const at = text.bytes.length - this.#size;
         for (;;) {
             this.#engine.bring(text);
-            const capacity = this.#room.length / SIZE;
-            const room = this.#engine.room(this.#room.length);
+            const capacity = this.#structs.length / SIZE;
+            const buffer = this.#engine.room(this.#structs.length);
             const open = this.#engine.rows("openBlocks", [{ depth: this.#open.length, extensions: this.#extensions, state: this.#state }]);
             const block = this.#engine.room(SIZE);
-            heap.bytes.set(this.#room, room);
-            const { status, kept, depth } = calls.blockLine(text.address + at, this.#size, hasEnded, room, capacity, open, block);
+            heap.bytes.set(this.#structs, buffer);
+            const { status, kept, depth } = calls.blockLine(text.address + at, this.#size, hasEnded, buffer, capacity, open, block);
             if (status === c.TOO_SHORT) {
                 const wider = new Uint8Array(2 * depth * SIZE);
-                wider.set(this.#room);
-                this.#room = wider;
+                wider.set(this.#structs);
+                this.#structs = wider;
             } else if (!isAnswer(status)) return null;
             else {
-                this.#room.set(heap.bytes.subarray(room, room + depth * SIZE));
+                this.#structs.set(heap.bytes.subarray(buffer, buffer + depth * SIZE));
                 this.#state = this.#engine.read("openBlocks", open).state;
-                const begun = Array.from({ length: depth - kept }, (_, it) => this.#engine.read("block", room + (kept + it) * SIZE));
+                const begun = Array.from({ length: depth - kept }, (_, index) => this.#engine.read("block", buffer + (kept + index) * SIZE));
                 return { kept, begun, leaf: this.#engine.read("block", block), struct: heap.bytes.slice(block, block + SIZE) };
             }
         }
@@ -120,13 +120,13 @@ export class BlockReader {
     #leaf({ kept, begun, leaf, struct }, lines) {
         const start = this.#start;
         const started = begun.map((returned, index) => ({
-            struct: this.#room.slice((kept + index) * SIZE, (kept + index + 1) * SIZE),
+            struct: this.#structs.slice((kept + index) * SIZE, (kept + index + 1) * SIZE),
             container: containerOf(returned, start + returned.place),
         }));
         this.#open = [...this.#open.slice(0, kept), ...started];
-        const structs = [struct, ...this.#open.map((it) => it.struct)];
+        const structs = [struct, ...this.#open.map((entry) => entry.struct)];
         const content = () => new Pages(this.#engine, lines, "utf-8").contentOf(0, lines.length, structs, kept, lines.length);
-        const containers = this.#open.map((it) => it.container);
+        const containers = this.#open.map((entry) => entry.container);
         const returned = { ...leaf, line: this.#line };
         this.#start += leaf.bytes;
         this.#line += leaf.lines;
@@ -136,11 +136,11 @@ export class BlockReader {
 
 /** @param {Uint8Array[]} pieces */
 function joined(pieces) {
-    const all = new Uint8Array(pieces.reduce((sum, it) => sum + it.length, 0));
+    const all = new Uint8Array(pieces.reduce((sum, piece) => sum + piece.length, 0));
     let at = 0;
-    for (const it of pieces) {
-        all.set(it, at);
-        at += it.length;
+    for (const piece of pieces) {
+        all.set(piece, at);
+        at += piece.length;
     }
     return all;
 }

@@ -169,15 +169,15 @@ export class Source {
      * @param {string} name
      * @param {number} at
      * @param {number} end
-     * @param {number} room
+     * @param {number} capacity
      * @param {...unknown} given
      * @returns {[Record<string, any>, Uint8Array]}
      */
-    written(name, at, end, room, ...given) {
+    written(name, at, end, capacity, ...given) {
         const [from, to] = this.limits(at, end);
         this.#engine.bring(this.#block);
-        const buffer = this.#engine.room(room);
-        const found = this.#engine.calls[name](this.#block.address + from, to - from, ...given, buffer, room);
+        const buffer = this.#engine.room(capacity);
+        const found = this.#engine.calls[name](this.#block.address + from, to - from, ...given, buffer, capacity);
         return [found, this.#engine.heap.bytes.subarray(buffer, buffer + found.length)];
     }
 }

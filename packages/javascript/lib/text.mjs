@@ -160,9 +160,9 @@ export class Text extends Inlines {
         let found = this.engine.calls.scanHtmlTagOverLines(address, to, ...given, 0, 0);
         let text = null;
         if (found.status === c.TOO_SHORT) {
-            const room = this.engine.room(found.length);
-            found = this.engine.calls.scanHtmlTagOverLines(address, to, ...given, room, found.length);
-            text = this.made(this.engine.heap.bytes.subarray(room, room + found.length));
+            const buffer = this.engine.room(found.length);
+            found = this.engine.calls.scanHtmlTagOverLines(address, to, ...given, buffer, found.length);
+            text = this.made(this.engine.heap.bytes.subarray(buffer, buffer + found.length));
         }
         return isAnswer(found.status) ? { end: this.placeOf(found.end), text } : null;
     }
@@ -196,13 +196,13 @@ export class Text extends Inlines {
     runInlineHtml(places, end = this.length) {
         const { engine } = this;
         const [, to] = this.limits(0, end);
-        const listed = listOf("places", places).map((it) => this.anyInBytes(it, "a place"));
+        const listed = listOf("places", places).map((place) => this.anyInBytes(place, "a place"));
         engine.bring(this.block);
         const given = engine.numbers(listed);
-        const room = engine.room(8 * listed.length);
-        const found = engine.calls.runInlineHtml(this.block.address, to, given, listed.length, room, listed.length);
-        const ends = listed.slice(0, found.count).map((_, index) => engine.size(room + 8 * index));
-        return ended(found.status, ends.map((it) => (it === NONE ? null : this.placeOf(it))));
+        const buffer = engine.room(8 * listed.length);
+        const found = engine.calls.runInlineHtml(this.block.address, to, given, listed.length, buffer, listed.length);
+        const ends = listed.slice(0, found.count).map((_, index) => engine.size(buffer + 8 * index));
+        return ended(found.status, ends.map((place) => (place === NONE ? null : this.placeOf(place))));
     }
 
     /**
@@ -225,8 +225,8 @@ export class Text extends Inlines {
     unescape(at = 0, end = this.length, options = {}) {
         const { inTable = false } = optionsOf(options, "inTable");
         const [from, to] = this.limits(at, end);
-        const room = to - from + Math.floor((to - from) / 5);
-        const [found, text] = this.written("unescape", at, end, room, flagOf("inTable", inTable));
+        const capacity = to - from + Math.floor((to - from) / 5);
+        const [found, text] = this.written("unescape", at, end, capacity, flagOf("inTable", inTable));
         isAnswer(found.status);
         return this.made(text);
     }
@@ -245,10 +245,10 @@ export class Text extends Inlines {
         const [from, to] = this.limits(at, end);
         const given = [from, flagOf("inTable", inTable), ...this.#table(skips)];
         const length = Math.min(to - from, LABEL_ROOM);
-        const room = this.engine.room(length);
-        const found = this.engine.calls.scanLinkLabel(this.block.address, to, ...given, room, length);
+        const buffer = this.engine.room(length);
+        const found = this.engine.calls.scanLinkLabel(this.block.address, to, ...given, buffer, length);
         if (!isAnswer(found.status)) return null;
-        const text = this.made(this.engine.heap.bytes.subarray(room, room + found.length));
+        const text = this.made(this.engine.heap.bytes.subarray(buffer, buffer + found.length));
         return { end: this.placeOf(found.end), text, start: found.start === NONE ? null : this.placeOf(found.start) };
     }
 
@@ -262,13 +262,13 @@ export class Text extends Inlines {
         const { safe = true, extensions } = optionsOf(options, "safe", "extensions");
         const asked = bitsOf(extensions);
         const [name, ...schemes] = flagOf("safe", safe) ? ["safeHtml", 0, 0] : ["html"];
-        for (let room = 2 * this.bytes.length + HTML_ROOM; ; ) {
-            const [found, html] = this.written(String(name), 0, this.length, room, asked, ...schemes);
+        for (let capacity = 2 * this.bytes.length + HTML_ROOM; ; ) {
+            const [found, html] = this.written(String(name), 0, this.length, capacity, asked, ...schemes);
             if (found.status !== c.TOO_SHORT) {
                 isAnswer(found.status);
                 return this.made(html);
             }
-            room = found.length;
+            capacity = found.length;
         }
     }
 
@@ -390,7 +390,7 @@ export class HtmlScanGuard {
  * @param {Extension[]} [extensions]
  */
 function bitsOf(extensions) {
-    return listOf("extensions", extensions ?? []).reduce((bits, it) => bits | optionOf(it), 0);
+    return listOf("extensions", extensions ?? []).reduce((bits, extension) => bits | optionOf(extension), 0);
 }
 
 /**

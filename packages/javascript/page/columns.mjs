@@ -47,19 +47,19 @@ function isLastOf(cell, place) {
  */
 export function columnsOf(text, line) {
     const cells = cellsOf(text, line.at);
-    const shown = cells.slice(0, MOST_COLUMNS);
+    const shownCells = cells.slice(0, MOST_COLUMNS);
     /** @type {Strip[]} */
     const strips = [];
     let from = 0;
-    for (let index = 0; index < line.taken.length && from < shown.length; index++) {
-        const it = line.taken[index];
+    for (let index = 0; index < line.taken.length && from < shownCells.length; index++) {
+        const taken = line.taken[index];
         let to = from;
-        while (to < shown.length && isBefore(shown[to], it)) to++;
-        if (to > from) strips.push(strip(it.kind, index, shown, from, to));
+        while (to < shownCells.length && isBefore(shownCells[to], taken)) to++;
+        if (to > from) strips.push(strip(taken.kind, index, shownCells, from, to));
         from = to;
     }
-    if (from < shown.length) strips.push(strip("text", null, shown, from, shown.length));
-    return { strips, more: cells.length > shown.length };
+    if (from < shownCells.length) strips.push(strip("text", null, shownCells, from, shownCells.length));
+    return { strips, more: cells.length > shownCells.length };
 }
 
 /**
@@ -69,7 +69,7 @@ export function columnsOf(text, line) {
  */
 export function rowOf(text, { taken, block, ...line }) {
     const columns = columnsOf(text, { at: line.at, taken });
-    const last = columns.strips.findLast((it) => it.taken !== null);
+    const last = columns.strips.findLast((part) => part.taken !== null);
     return { ...line, columns, taken: taken.slice(0, last ? last.taken + 1 : 0), block: block && { ...block, answer: shortened(block.answer) } };
 }
 
@@ -84,6 +84,6 @@ export function shortened(answer) {
 
 /** @returns {Strip} */
 function strip(kind, taken, cells, from, to) {
-    const text = cells.slice(from, to).map((it) => drawn(it, taken !== null)).join("");
+    const text = cells.slice(from, to).map((cell) => drawn(cell, taken !== null)).join("");
     return { kind, taken, from, to, text };
 }

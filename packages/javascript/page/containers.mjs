@@ -52,9 +52,9 @@ export class Line {
      * @param {any[]} containers
      */
     goOn(containers) {
-        for (const it of containers) {
+        for (const container of containers) {
             const mark = this.mark();
-            const isOn = it.kind === "quote" ? this.#quote() : this.take("item", "upto", it.width) === it.width || this.isBlank();
+            const isOn = container.kind === "quote" ? this.#quote() : this.take("item", "upto", container.width) === container.width || this.isBlank();
             if (!isOn) return this.back(mark);
         }
     }
@@ -64,8 +64,8 @@ export class Line {
      * @param {any[]} containers
      */
     begin(containers) {
-        for (const it of containers) {
-            if (it.kind === "quote") this.#quote();
+        for (const container of containers) {
+            if (container.kind === "quote") this.#quote();
             else this.take("item", "listItem", this.take("indent", "upto", 4));
         }
     }

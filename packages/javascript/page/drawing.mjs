@@ -27,9 +27,9 @@ function button(name, text, answer) {
 
 /** What a container took: the bytes before its place, from where the one before it had come to. */
 function takenAnswer(row, index) {
-    const it = row.taken[index];
+    const taken = row.taken[index];
     const before = index > 0 ? row.taken[index - 1] : { place: row.at, pending: 0 };
-    return { ...it, from: before.place, to: it.place, lineStart: before };
+    return { ...taken, from: before.place, to: taken.place, lineStart: before };
 }
 
 function blockAnswer(row) {
@@ -40,9 +40,9 @@ function blockAnswer(row) {
 /** A line, at its height in the list. */
 export function drawnRow(row) {
     const { strips, more } = row.columns;
-    const drawn = strips.map((it) => {
-        if (it.taken === null) return element("span", { class: "strip text" }, it.text);
-        return button(`strip ${it.kind}`, it.text, takenAnswer(row, it.taken));
+    const drawn = strips.map((strip) => {
+        if (strip.taken === null) return element("span", { class: "strip text" }, strip.text);
+        return button(`strip ${strip.kind}`, strip.text, takenAnswer(row, strip.taken));
     });
     if (more) drawn.push(element("span", { class: "strip more" }, " .. and more"));
     const name = row.block ? row.block.name : "";
@@ -72,39 +72,39 @@ function list({ count, first }, nothing, draw) {
 }
 
 export function drawnOutline({ headings }) {
-    return list(headings, "There are no headings.", (it) => {
-        const what = element("span", { class: "what", style: `padding-left: ${1.2 * (it.level - 1)}rem` }, it.text || "(empty)");
-        return entry(it.number, what, it);
+    return list(headings, "There are no headings.", (heading) => {
+        const what = element("span", { class: "what", style: `padding-left: ${1.2 * (heading.level - 1)}rem` }, heading.text || "(empty)");
+        return entry(heading.number, what, heading);
     });
 }
 
 export function drawnTables({ tables }) {
-    return list(tables, "There are no tables.", (it) => {
+    return list(tables, "There are no tables.", (found) => {
         const cells = (tag, row) => row.cells.map((cell, index) => {
-            const drawn = element(tag, { style: `text-align: ${it.alignments[index] === "none" ? "left" : it.alignments[index]}` });
+            const drawn = element(tag, { style: `text-align: ${found.alignments[index] === "none" ? "left" : found.alignments[index]}` });
             drawn.append(button("strip", cell.text || " ", { ...cell, answer: cell.text }));
             return drawn;
         });
-        const [head, ...rows] = it.rows;
+        const [head, ...rows] = found.rows;
         const table = element("table", {}, element("tr", {}, ...cells("th", head)), ...rows.map((row) => element("tr", {}, ...cells("td", row))));
-        const what = element("span", { class: "what" }, `a delimiter row of ${it.width}: ${it.alignments.join(", ")}`);
-        return element("div", {}, entry(it.number, what, it), table);
+        const what = element("span", { class: "what" }, `a delimiter row of ${found.width}: ${found.alignments.join(", ")}`);
+        return element("div", {}, entry(found.number, what, found), table);
     });
 }
 
 export function drawnLabels({ labels }) {
-    return list(labels, "There are no links and no definitions.", (it) => {
-        const leads = it.target === null ? element("span", { class: "nowhere" }, "leads nowhere") : element("span", { class: "leads" }, `→ ${it.target}`);
-        const what = element("span", { class: "what" }, it.label ? `[${it.label}] ` : "", leads);
-        return entry(it.kind, what, it);
+    return list(labels, "There are no links and no definitions.", (label) => {
+        const leads = label.target === null ? element("span", { class: "nowhere" }, "leads nowhere") : element("span", { class: "leads" }, `→ ${label.target}`);
+        const what = element("span", { class: "what" }, label.label ? `[${label.label}] ` : "", leads);
+        return entry(label.kind, what, label);
     });
 }
 
 export function drawnHtml({ html, passed, bound, scans }) {
     const budget = `${scans} scans for comments, CDATA, declarations and instructions passed over ${passed} bytes; 4n + 8k is ${bound}.`;
-    const found = list(html, "There is no inline HTML.", (it) => {
-        const what = element("span", { class: "what" }, `bytes ${it.from} to ${it.to}`);
-        return entry(it.call === "scanHtmlTagOverLines" ? "tag" : "other", what, it);
+    const found = list(html, "There is no inline HTML.", (piece) => {
+        const what = element("span", { class: "what" }, `bytes ${piece.from} to ${piece.to}`);
+        return entry(piece.call === "scanHtmlTagOverLines" ? "tag" : "other", what, piece);
     });
     return [note(budget), ...found];
 }
@@ -121,16 +121,16 @@ function whatOf({ lineStart, isOfCells }) {
 }
 
 /** What is returned of an answer: the call, its bytes, its section and its contract. */
-export function drawnAnswer(it) {
-    const contract = CONTRACTS[it.call];
-    const given = (it.given ?? []).map((word) => JSON.stringify(word)).join(", ");
+export function drawnAnswer(found) {
+    const contract = CONTRACTS[found.call];
+    const given = (found.given ?? []).map((word) => JSON.stringify(word)).join(", ");
     const link = element("a", { href: contract.url, target: "_blank", rel: "noreferrer" }, contract.section);
     const words = contract.words.flatMap((word, index) => [index > 0 ? ", " : "", element("code", {}, word)]);
-    const of = it.joinedText === undefined ? [] : [element("p", {}, "Of the text ", element("code", { id: "of" }, it.joinedText))];
+    const of = found.joinedText === undefined ? [] : [element("p", {}, "Of the text ", element("code", { id: "of" }, found.joinedText))];
     return [
-        element("p", {}, element("code", { id: "call" }, `${it.call}(${given})`), `${whatOf(it)} answers `, answered(it.answer)),
+        element("p", {}, element("code", { id: "call" }, `${found.call}(${given})`), `${whatOf(found)} answers `, answered(found.answer)),
         ...of,
-        element("p", { id: "bytes" }, `Bytes ${it.from} to ${it.to}`),
+        element("p", { id: "bytes" }, `Bytes ${found.from} to ${found.to}`),
         element("p", {}, "CommonMark, ", link),
         element("p", {}, "Contract of ", element("code", {}, contract.symbol), ": ", ...words),
     ];

@@ -38,18 +38,18 @@ export function newFrame(show) {
 
 /** Marks the innermost element that is pointed at and has a source. */
 function point(inside, target, show) {
-    let it = target;
-    while (it && !places.has(it)) it = it.parentElement;
+    let node = target;
+    while (node && !places.has(node)) node = node.parentElement;
     inside.querySelectorAll("[data-pointed]").forEach((other) => other.removeAttribute("data-pointed"));
-    if (!it) return;
-    it.setAttribute("data-pointed", "");
-    show(...places.get(it));
+    if (!node) return;
+    node.setAttribute("data-pointed", "");
+    show(...places.get(node));
 }
 
 /**
  * Shows safe HTML in the frame, whose elements have these sources; and says whether each has its own.
  * @param {HTMLIFrameElement} frame
- * @param {{ html: string, sources: import("./rendered.mjs").Source[] }} it
+ * @param {{ html: string, sources: import("./rendered.mjs").Source[] }} rendered
  */
 export function fill(frame, { html, sources }) {
     const { body } = /** @type {Document} */ (frame.contentDocument);

@@ -34,7 +34,7 @@ const DELAY = 120;
 const MOST_MARKS = 100;
 
 const IDS = ["text", "file", "marks", "view", "report", "answer", "views"];
-const [text, file, marks, view, report, answer, views] = IDS.map((it) => document.getElementById(it));
+const [text, file, marks, view, report, answer, views] = IDS.map((id) => document.getElementById(id));
 const state = { view: "lines", seen: null, id: 0, timer: 0, shown: null };
 const worker = new Worker(new URL("worker.mjs", import.meta.url), { type: "module" });
 
@@ -81,9 +81,9 @@ function drawRows({ rows }) {
 }
 
 /** Where the focus is among the rows. */
-function position(it) {
-    const row = it?.closest?.(".row");
-    return row && { line: row.dataset.line, index: [...row.querySelectorAll("button")].indexOf(it) };
+function position(button) {
+    const row = button?.closest?.(".row");
+    return row && { line: row.dataset.line, index: [...row.querySelectorAll("button")].indexOf(button) };
 }
 
 /** Asks for the safe HTML of the text, once there is a frame for it. */
@@ -96,9 +96,9 @@ async function askRendered() {
     worker.postMessage({ kind: "rendered", id: state.id, text: text.value });
 }
 
-function drawRendered(it) {
+function drawRendered(rendered) {
     if (state.view !== "rendered") return;
-    const areKnown = fill(state.shown.frame, it);
+    const areKnown = fill(state.shown.frame, rendered);
     answer.replaceChildren(...(areKnown ? [] : [element("p", {}, "Where these elements stand in the text is not known.")]));
     settle("drawn");
 }
@@ -205,11 +205,11 @@ function follow() {
 }
 
 /** Marks the bytes of an answer in the text, and says what it is. */
-function show(it) {
-    const found = answers.get(it);
+function show(button) {
+    const found = answers.get(button);
     if (!found) return;
     view.querySelectorAll("[aria-current]").forEach((other) => other.removeAttribute("aria-current"));
-    it.setAttribute("aria-current", "true");
+    button.setAttribute("aria-current", "true");
     answer.replaceChildren(...drawnAnswer(found));
     const [from, to] = [unitOf(found.from), unitOf(found.to)];
     text.setSelectionRange(from, to);
@@ -217,9 +217,9 @@ function show(it) {
 }
 
 function choose(tab) {
-    for (const it of views.children) {
-        it.setAttribute("aria-selected", String(it === tab));
-        it.tabIndex = it === tab ? 0 : -1;
+    for (const child of views.children) {
+        child.setAttribute("aria-selected", String(child === tab));
+        child.tabIndex = child === tab ? 0 : -1;
     }
     view.setAttribute("aria-labelledby", tab.id);
     view.scrollTop = 0;

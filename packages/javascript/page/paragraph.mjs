@@ -1,9 +1,9 @@
 /** The text of a paragraph, a heading or a cell, without what its containers took; and what stands in it. */
 
 /** The bytes that a backslash escapes. (2.4) */
-const PUNCTUATION = new Set([..."!\"#$%&'()*+,-./:;<=>?@[\\]^_`{|}~"].map((it) => it.charCodeAt(0)));
-const [LF, BACKSLASH, BACKTICK, LESS, OPEN, CLOSE, PAREN] = [..."\n\\`<[]("].map((it) => it.charCodeAt(0));
-const [EXCLAMATION, QUESTION] = [..."!?"].map((it) => it.charCodeAt(0));
+const PUNCTUATION = new Set([..."!\"#$%&'()*+,-./:;<=>?@[\\]^_`{|}~"].map((character) => character.charCodeAt(0)));
+const [LF, BACKSLASH, BACKTICK, LESS, OPEN, CLOSE, PAREN] = [..."\n\\`<[]("].map((character) => character.charCodeAt(0));
+const [EXCLAMATION, QUESTION] = [..."!?"].map((character) => character.charCodeAt(0));
 
 /** Lines of a text, one after another with LF between them, and where they stand in the page. */
 export class Joined {

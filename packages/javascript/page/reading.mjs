@@ -8,7 +8,7 @@ import { decode, Inline, Joined } from "./paragraph.mjs";
 /** How many lines are read in a step. */
 const STEP = 100;
 const HTML = ["", "raw text", "comment", "processing instruction", "declaration", "CDATA", "block", "tag alone"];
-const [TAB, SPACE, VT, FF, LF, CR, PIPE, BACKSLASH] = [..."\t \v\f\n\r|\\"].map((it) => it.charCodeAt(0));
+const [TAB, SPACE, VT, FF, LF, CR, PIPE, BACKSLASH] = [..."\t \v\f\n\r|\\"].map((character) => character.charCodeAt(0));
 const ENCODER = new TextEncoder();
 const WHITE = new Set([TAB, SPACE, VT, FF, LF, CR]);
 
@@ -46,10 +46,10 @@ export class Reading {
     /** Where each label leads. */
     #resolve() {
         const known = new Map();
-        for (const it of this.found) if (it.kind === "definition" && !known.has(it.key)) known.set(it.key, it);
-        this.found = this.found.filter((it) => it.kind !== "shortcut" || known.has(it.key));
-        for (const it of this.found) {
-            if (it.kind === "reference" || it.kind === "shortcut") it.target = known.get(it.key)?.target ?? null;
+        for (const entry of this.found) if (entry.kind === "definition" && !known.has(entry.key)) known.set(entry.key, entry);
+        this.found = this.found.filter((entry) => entry.kind !== "shortcut" || known.has(entry.key));
+        for (const entry of this.found) {
+            if (entry.kind === "reference" || entry.kind === "shortcut") entry.target = known.get(entry.key)?.target ?? null;
         }
     }
 
@@ -172,7 +172,7 @@ export class Reading {
     /** Reads what is left of a text, and keeps what was found in it. */
     #keep(inline) {
         inline.read();
-        for (const it of inline.found) this.found.push(it);
+        for (const entry of inline.found) this.found.push(entry);
         this.scans += inline.scans;
         this.passed += inline.guard.passed;
         this.bound += 4 * inline.bytes.length + 8 * inline.scans;
@@ -184,10 +184,10 @@ export class Reading {
         if (index === 1) return this.#tableHead(line, block);
         const [from, to] = this.#trimmed(line.start.place, line.end);
         const cells = this.#cells(from, to).slice(0, block.columns);
-        cells.forEach((it) => this.#keepCell(it));
+        cells.forEach((cell) => this.#keepCell(cell));
         if (index === 0) this.tables.push({ number, rows: [] });
         this.tables.at(-1).rows.push({ number, cells });
-        const answer = cells.map((it) => it.text);
+        const answer = cells.map((cell) => cell.text);
         const name = `${index === 0 ? "header" : "row"} of ${cells.length}`;
         return { ...this.#block(line, name, "unescape", [from, to, { inTable: true }], answer), isOfCells: true };
     }

@@ -35,29 +35,29 @@ export function sourcesOf(events) {
     const found = [];
     let images = 0; // an image shows the texts that it holds, and none of their elements
     let rows = 0;
-    for (const it of events) {
-        if (it.kind === "start" && it.element === "table") rows = 0;
-        if (images === 0) for (const name of namesOf(it, rows)) found.push([name, it.start, it.stop]);
-        if (it.kind === "end" && it.element === "tableRow") rows += 1;
-        if (it.kind === "end" && it.element === "tableHead") rows = 1;
-        if (it.element === "image") images += it.kind === "start" ? 1 : -1;
+    for (const event of events) {
+        if (event.kind === "start" && event.element === "table") rows = 0;
+        if (images === 0) for (const name of namesOf(event, rows)) found.push([name, event.start, event.stop]);
+        if (event.kind === "end" && event.element === "tableRow") rows += 1;
+        if (event.kind === "end" && event.element === "tableHead") rows = 1;
+        if (event.element === "image") images += event.kind === "start" ? 1 : -1;
     }
     return found;
 }
 
 /**
  * The names of the elements that an event begins, in a table that has had so many rows.
- * @param {any} it
+ * @param {any} event
  * @param {number} rows
  */
-function namesOf(it, rows) {
-    if (it.kind !== "start") return OF_KIND[it.kind] ?? [];
-    switch (it.element) {
-        case "heading": return [`h${it.level}`];
-        case "list": return [it.number === null ? "ul" : "ol"];
+function namesOf(event, rows) {
+    if (event.kind !== "start") return OF_KIND[event.kind] ?? [];
+    switch (event.element) {
+        case "heading": return [`h${event.level}`];
+        case "list": return [event.number === null ? "ul" : "ol"];
         case "tableRow": return rows === 1 ? ["tbody", "tr"] : ["tr"];
         case "tableCell": return [rows === 0 ? "th" : "td"];
-        default: return OF_ELEMENT[it.element] ?? [];
+        default: return OF_ELEMENT[event.element] ?? [];
     }
 }
 

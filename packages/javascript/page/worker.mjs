@@ -44,7 +44,7 @@ function returnedTable(table) {
 
 /** What a text has, apart from its lines. */
 function summary() {
-    const found = (...kinds) => reading.found.filter((it) => kinds.includes(it.kind));
+    const found = (...kinds) => reading.found.filter((entry) => kinds.includes(entry.kind));
     const list = (all, sent = returned) => ({ count: all.length, first: all.slice(0, MOST).map(sent) });
     return {
         lines: reading.lines.length,

@@ -8,8 +8,9 @@ import { hold } from "./totals.mjs";
 
 const scanners = await mds.load(MODULE);
 
-function containerWord(it, at) {
-    return it.kind === "quote" ? `quote@${it.place - at}` : `item${it.delimiter}${it.start},${it.width}@${it.place - at}`;
+function containerWord(container, at) {
+    const { kind, delimiter, start, width, place } = container;
+    return kind === "quote" ? `quote@${place - at}` : `item${delimiter}${start},${width}@${place - at}`;
 }
 
 function leafWord(block) {
@@ -24,7 +25,7 @@ function described(text, at = 0, end = text.length) {
     let depth = 0;
     for (const block of text.scanBlocks(at, end)) {
         for (; depth > block.kept; depth--) said.push("end");
-        for (const it of block.containers.slice(block.kept)) said.push(containerWord(it, at));
+        for (const container of block.containers.slice(block.kept)) said.push(containerWord(container, at));
         said.push(leafWord(block));
         contents.push(`${Buffer.from(block.content())}|`);
         depth = block.containers.length;
@@ -66,9 +67,9 @@ test("content of any bytes, longer than its lines, and after other texts", () =>
     const text = scanners.text(Buffer.from("> \xff\n>\t\t\xfe\n\n>\t\tc", "latin1"));
     const blocks = [...text.scanBlocks()];
     const longer = [...scanners.text(` \`\`\`\n${"\ta\n".repeat(2000)}`).scanBlocks()]; // of each tab one column is indent (4.5)
-    assert.deepEqual(longer.map((it) => it.content()), ["   a\n".repeat(2000)]);
+    assert.deepEqual(longer.map((block) => block.content()), ["   a\n".repeat(2000)]);
     scanners.text("x".repeat(3_000_000)).scanBlocks();
-    assert.deepEqual(blocks.map((it) => Buffer.from(it.content()).toString("latin1")), ["\xff\n\xfe", "", "  c"]);
+    assert.deepEqual(blocks.map((block) => Buffer.from(block.content()).toString("latin1")), ["\xff\n\xfe", "", "  c"]);
 });
 
 test("deep and long pages", () => {

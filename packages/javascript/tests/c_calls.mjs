@@ -30,12 +30,12 @@ const STATUSES = [
 export const bytesOf = (made) => Buffer.from(made);
 
 /** Numbers of C as numbers of JavaScript, so that they can be compared. */
-export function plain(it) {
-    if (typeof it === "bigint") return Number(it);
-    if (Buffer.isBuffer(it)) return it.toString("hex");
-    if (it === null || typeof it !== "object") return it;
-    if (Array.isArray(it)) return it.map(plain);
-    return Object.fromEntries(Object.entries(it).map(([key, value]) => [key, plain(value)]));
+export function plain(answer) {
+    if (typeof answer === "bigint") return Number(answer);
+    if (Buffer.isBuffer(answer)) return answer.toString("hex");
+    if (answer === null || typeof answer !== "object") return answer;
+    if (Array.isArray(answer)) return answer.map(plain);
+    return Object.fromEntries(Object.entries(answer).map(([key, value]) => [key, plain(value)]));
 }
 
 /** A text of the bytes that C is given. */
@@ -75,7 +75,7 @@ export function ways(data, numbers = []) {
     const made = [new Given(scanners.text(data), 0, data.length)];
     const inside = Buffer.concat([BEFORE, data, AFTER]);
     made.push(new Given(scanners.text(inside), BEFORE.length, BEFORE.length + data.length));
-    if (isText(data) && !numbers.some((it) => isInside(data, it))) {
+    if (isText(data) && !numbers.some((number) => isInside(data, number))) {
         const text = scanners.text(BEFORE_UNITS + data.toString("utf8") + AFTER, { units: "utf-16" });
         made.push(new Given(text, BEFORE_UNITS.length, text.length - AFTER.length));
     }
@@ -134,10 +134,10 @@ const part = (call) => (d, start, ...more) => {
 function definition(d, start, maxNext) {
     const [status, found] = outcomeOf(() => d.text.scanReferenceDefinition(d.placeIn(start), d.end, { maxNext }));
     const made = { status, end: status === c.OK ? d.place(found.end) : 0 };
-    for (const it of ["label", "destination", "title"]) {
-        const span = status === c.OK ? found[it] : { start: d.at, stop: d.at };
-        made[`${it}_start`] = span ? d.place(span.start) : NONE;
-        made[`${it}_length`] = span ? bytesOf(d.text.slice(span.start, span.stop)).length : 0;
+    for (const name of ["label", "destination", "title"]) {
+        const span = status === c.OK ? found[name] : { start: d.at, stop: d.at };
+        made[`${name}_start`] = span ? d.place(span.start) : NONE;
+        made[`${name}_length`] = span ? bytesOf(d.text.slice(span.start, span.stop)).length : 0;
     }
     return made;
 }
@@ -192,7 +192,7 @@ function firstEnd(d, place) {
 }
 
 const matches = ([status, found]) => (status === c.OK && !found ? c.NOTHING : status);
-const alignments = (found) => Buffer.from(found.alignments.map((it) => ["none", "left", "center", "right"].indexOf(it)));
+const alignments = (found) => Buffer.from(found.alignments.map((alignment) => ["none", "left", "center", "right"].indexOf(alignment)));
 
 const labelsMatch = (one, other) => matches(outcomeOf(() => scanners.labelsMatch(one, other)));
 

@@ -10,7 +10,7 @@ const FOLDER = new URL("crates/markdown_scanners_c/src/", TOP);
 const PAGE = new URL("../page/", import.meta.url);
 
 test("the words of contracts that the page names", () => {
-    const source = readdirSync(FOLDER).filter((it) => it.endsWith(".rt")).map((it) => readFileSync(new URL(it, FOLDER), "utf8")).join("");
+    const source = readdirSync(FOLDER).filter((file) => file.endsWith(".rt")).map((file) => readFileSync(new URL(file, FOLDER), "utf8")).join("");
     const symbols = Object.values(FUNCTIONS).map(([symbol]) => symbol);
     for (const { symbol, section, url, words } of Object.values(CONTRACTS)) {
         assert.ok(symbols.includes(symbol), symbol);
@@ -22,8 +22,8 @@ test("the words of contracts that the page names", () => {
 });
 
 test("each call that the page makes and shows has a contract", () => {
-    const source = ["containers", "paragraph", "reading"].map((it) => readFileSync(new URL(`${it}.mjs`, PAGE), "utf8")).join("");
-    const named = new Set([...source.matchAll(/"((?:scan|ends|interrupts|unescape)\w*)"/g)].map(([, it]) => it));
+    const source = ["containers", "paragraph", "reading"].map((name) => readFileSync(new URL(`${name}.mjs`, PAGE), "utf8")).join("");
+    const named = new Set([...source.matchAll(/"((?:scan|ends|interrupts|unescape)\w*)"/g)].map(([, name]) => name));
     assert.ok(named.size > 10);
-    assert.deepEqual([...named].filter((it) => !(it in CONTRACTS)), []);
+    assert.deepEqual([...named].filter((name) => !(name in CONTRACTS)), []);
 });

@@ -12,31 +12,31 @@ const scanners = await mds.load(MODULE);
 const FENCE = "`".repeat(32);
 const NAMES = { quote: "block quote", wiki: "wikilink", wikiPiped: "piped wikilink" };
 
-const words = (name) => NAMES[name] ?? name.replace(/[A-Z]/g, (it) => ` ${it.toLowerCase()}`);
-const text = (it) => (typeof it === "string" ? it : Buffer.from(it).toString());
-const quoted = (it) => ` "${text(it).replaceAll("\n", "\\n")}"`;
+const words = (name) => NAMES[name] ?? name.replace(/[A-Z]/g, (letter) => ` ${letter.toLowerCase()}`);
+const text = (value) => (typeof value === "string" ? value : Buffer.from(value).toString());
+const quoted = (value) => ` "${text(value).replaceAll("\n", "\\n")}"`;
 
 /** The line of an event, as the rows have it. */
-function lineOf(it, byteOf) {
-    let line = `${byteOf(it.start)} ${byteOf(it.stop)} `;
-    if (it.kind === "task") line += it.checked ? "checked " : "unchecked ";
-    line += words(it.kind);
-    if (it.element) line += ` ${words(it.element)}`;
-    line += (it.alignments ?? []).map((of) => ` ${of}`).join("");
-    if (it.link) line += ` ${words(it.link)}${quoted(it.destination)}${quoted(it.title)}${it.label.length ? quoted(it.label) : ""}`;
-    if ((it.number ?? null) !== null) line += ` ${it.number}`;
-    if (typeof it.text === typeof it.info) assert.equal(it.text, undefined);
-    if ((it.text ?? it.info ?? null) !== null) line += quoted(it.text ?? it.info);
+function lineOf(event, byteOf) {
+    let line = `${byteOf(event.start)} ${byteOf(event.stop)} `;
+    if (event.kind === "task") line += event.checked ? "checked " : "unchecked ";
+    line += words(event.kind);
+    if (event.element) line += ` ${words(event.element)}`;
+    line += (event.alignments ?? []).map((of) => ` ${of}`).join("");
+    if (event.link) line += ` ${words(event.link)}${quoted(event.destination)}${quoted(event.title)}${event.label.length ? quoted(event.label) : ""}`;
+    if ((event.number ?? null) !== null) line += ` ${event.number}`;
+    if (typeof event.text === typeof event.info) assert.equal(event.text, undefined);
+    if ((event.text ?? event.info ?? null) !== null) line += quoted(event.text ?? event.info);
     return `${line}\n`;
 }
 
 /** The lines of events, of which a heading has its level at both ends. */
 function linesOf(events, byteOf = (place) => place) {
     const levels = [];
-    return events.map((it) => {
-        if (it.element === "heading" && it.kind === "start") levels.push(it.level);
-        const line = lineOf(it, byteOf);
-        return it.element === "heading" ? line.replace("\n", ` ${it.kind === "start" ? it.level : levels.pop()}\n`) : line;
+    return events.map((event) => {
+        if (event.element === "heading" && event.kind === "start") levels.push(event.level);
+        const line = lineOf(event, byteOf);
+        return event.element === "heading" ? line.replace("\n", ` ${event.kind === "start" ? event.level : levels.pop()}\n`) : line;
     }).join("");
 }
 
@@ -55,7 +55,7 @@ test("each row", () => {
 
 test("each example of the specification", () => {
     const spec = readFileSync(new URL("tests/commonmark/spec-0.31.2.txt", TOP), "utf8").replaceAll("→", "\t");
-    const examples = spec.split(`\n${FENCE} example\n`).slice(1).map((it) => it.split(FENCE)[0].match(/^(?:\.\n|([^]*?\n)\.\n)([^]*)$/));
+    const examples = spec.split(`\n${FENCE} example\n`).slice(1).map((example) => example.split(FENCE)[0].match(/^(?:\.\n|([^]*?\n)\.\n)([^]*)$/));
     for (const [, page = "", expected] of examples) assert.equal(scanners.html(page, { safe: false }), expected);
     hold("examples_by_html", examples.length);
 });
@@ -69,8 +69,8 @@ test("places are those of the string", () => {
 });
 
 test("more events, and longer texts, than the first rooms hold", () => {
-    assert.equal(scanners.events("a\n".repeat(5000)).filter((it) => it.kind === "softBreak").length, 4999);
-    const links = scanners.events(`${"[a]\n".repeat(100)}\n[a]: ${"b".repeat(5000)}\n`).filter((it) => it.link);
+    assert.equal(scanners.events("a\n".repeat(5000)).filter((event) => event.kind === "softBreak").length, 4999);
+    const links = scanners.events(`${"[a]\n".repeat(100)}\n[a]: ${"b".repeat(5000)}\n`).filter((event) => event.link);
     assert.deepEqual([links.length, links[99].destination], [100, "b".repeat(5000)]);
 });
 

@@ -26,7 +26,7 @@ test("each row of html", () => {
 
 test("each row of safe_html, but for those that name a scheme, as no call of the package does", () => {
     const [ofSchemes, others] = [[], []];
-    for (const row of pages("safe_html")) (row.words.some((it) => it.startsWith("scheme=")) ? ofSchemes : others).push(row);
+    for (const row of pages("safe_html")) (row.words.some((word) => word.startsWith("scheme=")) ? ofSchemes : others).push(row);
     areRows(others, {});
     areRows(others, { safe: true });
     hold("safe_html", others.length);
@@ -43,8 +43,8 @@ test("safe is the default", () => {
 
 test("unknown extensions", () => {
     assert.equal(scanners.html("[[a|b]]", { safe: false, extensions: ["wikilinks"] }), '<p><a href="a">b</a></p>\n');
-    for (const it of ["footnotes", "Table", "", "toString", 2, null]) {
-        assert.throws(() => scanners.html("a", { extensions: ["table", it] }), { name: "TypeError", message: /there is no extension/ });
+    for (const extension of ["footnotes", "Table", "", "toString", 2, null]) {
+        assert.throws(() => scanners.html("a", { extensions: ["table", extension] }), { name: "TypeError", message: /there is no extension/ });
     }
     assert.throws(() => scanners.html("a", { extensions: "table" }), { name: "TypeError", message: /extensions/ });
 });

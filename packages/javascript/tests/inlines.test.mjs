@@ -27,19 +27,19 @@ function described(text, { extensions, definitions }, at = 0, end = text.length)
         if (link.target === "inline") return [part(link.destination), link.title ? part(link.title) : ""];
         const label = text.scanLinkLabel(link.label.start, end);
         assert.equal(label.end, link.label.stop + 1);
-        return definitions.find(([it]) => scanners.labelsMatch(it, label.text)).slice(1);
+        return definitions.find(([name]) => scanners.labelsMatch(name, label.text)).slice(1);
     };
-    const said = (it) => {
-        if (it.kind in MARKS) return MARKS[it.kind];
-        if (it.link?.target === "wiki") return `<${it.kind === "image" ? "img" : "a"} ${part(it.link.destination)}|>`;
-        if (it.link) return `<${it.kind === "image" ? "img" : "a"} ${target(it.link).map(meaning).join("|")}>`;
-        if (it.kind === "code") return `<code>${part(it.content).replace(/\n/g, " ").replace(/^ (.*[^ ].*) $/, "$1")}</code>`;
-        if (it.content) return `<a ${it.kind === "email" ? "mailto:" : ""}${part(it.content)}|>${part(it.content)}</>`;
-        if (it.kind === "html") return `<html>${part(it)}</html>`;
-        return it.kind === "text" ? part(it) : meaning(part(it));
+    const said = (inline) => {
+        if (inline.kind in MARKS) return MARKS[inline.kind];
+        if (inline.link?.target === "wiki") return `<${inline.kind === "image" ? "img" : "a"} ${part(inline.link.destination)}|>`;
+        if (inline.link) return `<${inline.kind === "image" ? "img" : "a"} ${target(inline.link).map(meaning).join("|")}>`;
+        if (inline.kind === "code") return `<code>${part(inline.content).replace(/\n/g, " ").replace(/^ (.*[^ ].*) $/, "$1")}</code>`;
+        if (inline.content) return `<a ${inline.kind === "email" ? "mailto:" : ""}${part(inline.content)}|>${part(inline.content)}</>`;
+        if (inline.kind === "html") return `<html>${part(inline)}</html>`;
+        return inline.kind === "text" ? part(inline) : meaning(part(inline));
     };
-    const options = Object.fromEntries(extensions.map((it) => [it, true]));
-    return Array.from(text.scanInlines(at, end, { labels: definitions.map(([it]) => it), ...options }), said).join("");
+    const options = Object.fromEntries(extensions.map((extension) => [extension, true]));
+    return Array.from(text.scanInlines(at, end, { labels: definitions.map(([name]) => name), ...options }), said).join("");
 }
 
 test("each row, by itself, inside of other text, as bytes and in UTF-16 units", () => {
@@ -65,14 +65,14 @@ test("the fields of inlines", () => {
     assert.deepEqual(first("[a][b]", ["B"]).link, { target: "full", end: 6, label: span(4, 5) });
     assert.deepEqual(first("[b][]", ["c", "B"]).link, { target: "collapsed", end: 5, label: span(1, 2) });
     assert.deepEqual(first("[b]", [new Uint8Array([66])]).link, { target: "shortcut", end: 3, label: span(1, 2) });
-    const contents = Array.from(scanners.text("``a``<bb:c><d@e>").scanInlines(), (it) => it.content);
+    const contents = Array.from(scanners.text("``a``<bb:c><d@e>").scanInlines(), (inline) => inline.content);
     assert.deepEqual(contents, [span(2, 3), span(6, 10), span(12, 15)]);
 });
 
 test("strikethrough, where it is asked for: examples of GitHub Flavored Markdown 0.29", () => {
     const marks = { strikethrough: "<del>", strikethroughEnd: "</del>" };
     const struck = (text, options) =>
-        Array.from(scanners.text(text).scanInlines(0, text.length, options), (it) => marks[it.kind] ?? text.slice(it.start, it.stop)).join("");
+        Array.from(scanners.text(text).scanInlines(0, text.length, options), (inline) => marks[inline.kind] ?? text.slice(inline.start, inline.stop)).join("");
     const text = "~~Hi~~ Hello, ~there~ world!"; // 491
     assert.equal(struck(text, { strikethrough: true }), "<del>Hi</del> Hello, <del>there</del> world!");
     assert.equal(struck(text, { strikethrough: false }), text);
@@ -89,7 +89,7 @@ test("wikilinks, where they are asked for", () => {
     assert.deepEqual([text, end], [{ kind: "text", ...span(6, 7) }, { kind: "linkEnd", ...span(7, 9) }]);
     assert.deepEqual(link, { kind: "link", ...span(9, 12), link: { target: "wiki", end: 14, destination: span(11, 12) } });
     assert.deepEqual(last, { kind: "linkEnd", ...span(12, 14) });
-    const kinds = (text, options) => new Set(inlines(text, options).map((it) => it.kind));
+    const kinds = (text, options) => new Set(inlines(text, options).map((inline) => inline.kind));
     for (const none of ["[[]]", "[[a]", "[[a|b](c)"]) assert.deepEqual(kinds(none, { wikilinks: true }), new Set(["text"]));
     assert.deepEqual(kinds("~[[a]]~", {}), new Set(["text"]));
     assert.deepEqual(kinds("~[[a]]~", { wikilinks: true }), new Set(["text", "link", "linkEnd"]));
@@ -100,15 +100,15 @@ test("wikilinks, where they are asked for", () => {
 test("many inlines and labels", () => {
     const text = `${"*a ".repeat(5000)}${"b*".repeat(5000)}[9999]`;
     const labels = Array.from({ length: 10_000 }, (_, index) => `${index}`);
-    const kinds = Array.from(scanners.text(text).scanInlines(0, text.length, { labels }), (it) => it.kind);
-    assert.equal(kinds.filter((it) => it === "emphasisEnd").length, 5000);
+    const kinds = Array.from(scanners.text(text).scanInlines(0, text.length, { labels }), (inline) => inline.kind);
+    assert.equal(kinds.filter((kind) => kind === "emphasisEnd").length, 5000);
     assert.deepEqual(kinds.slice(-3), ["link", "text", "linkEnd"]);
     assert.deepEqual([...scanners.text("").scanInlines()], []);
 });
 
 test("what is refused of texts and labels", () => {
     const given = (labels) => () => scanners.text("[a]").scanInlines(0, 3, { labels });
-    for (const it of ["a", {}, [1]]) assert.throws(given(it), TypeError);
+    for (const value of ["a", {}, [1]]) assert.throws(given(value), TypeError);
     assert.throws(given(["\ud800"]), mds.LoneSurrogate);
     assert.throws(given([new Uint8Array([255])]), mds.NotUtf8);
     assert.throws(() => scanners.text(new Uint8Array([255])).scanInlines(), mds.NotUtf8);

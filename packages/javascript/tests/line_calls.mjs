@@ -47,10 +47,10 @@ export function restFrom(d, [place, pending, phase]) {
 }
 
 /** An answer of a run as C has it. */
-function answerOf(kind, it) {
-    if (kind === c.LIST) return it ? [true, it.delimiter.charCodeAt(0), it.start, it.indent] : [false, 0, 0, 0];
-    if (kind === c.UPTO || kind === c.DEFINITION) return [it !== null, 0, 0, it ?? 0];
-    return [it, 0, 0, 0];
+function answerOf(kind, answer) {
+    if (kind === c.LIST) return answer ? [true, answer.delimiter.charCodeAt(0), answer.start, answer.indent] : [false, 0, 0, 0];
+    if (kind === c.UPTO || kind === c.DEFINITION) return [answer !== null, 0, 0, answer ?? 0];
+    return [answer, 0, 0, 0];
 }
 
 /** Calls of a run as the package has them. */
@@ -66,6 +66,6 @@ export function runInParts(d, calls, first) {
         [status, run] = outcomeOf(() => start.run(named.slice(first)));
         answers = [...answers, ...(run.run ?? run)];
     }
-    const found = answers.map((it, index) => answerOf(calls[index][0], it).map(Number));
+    const found = answers.map((answer, index) => answerOf(calls[index][0], answer).map(Number));
     return { status, offset: d.place(start.place), rest: bytesOf(start.rest()), answers: found };
 }

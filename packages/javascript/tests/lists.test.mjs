@@ -7,7 +7,7 @@ import { pages } from "./tables.mjs";
 import { hold } from "./totals.mjs";
 
 const scanners = await mds.load(MODULE);
-const described = (it) => `${it.delimiter}${it.start}@${it.depth}:${it.line + 1}-${it.line + it.lines} ${it.isLoose ? "loose" : "tight"}`;
+const described = (list) => `${list.delimiter}${list.start}@${list.depth}:${list.line + 1}-${list.line + list.lines} ${list.isLoose ? "loose" : "tight"}`;
 const all = (text, at, end) => text.scanLists(at, end).map(described).join(" ");
 
 test("each row, by itself, as bytes and inside of other text", () => {

@@ -47,7 +47,7 @@ test("memory that is refused within a call has an error, and the next call has i
         () => scanners.labelKey("Straße"),
         () => scanners.text("|-|").scanTableHead(),
         () => scanners.text("<!a>").runInlineHtml([2]),
-        () => [...scanners.text("> a\n".repeat(100)).scanBlocks()].map((it) => it.line),
+        () => [...scanners.text("> a\n".repeat(100)).scanBlocks()].map((block) => block.line),
         () => leaf.content(),
         () => scanners.text("- a\n".repeat(100)).scanLists(),
         () => [...scanners.text("*[a]*").scanInlines(0, 5, { labels: ["A"], strikethrough: true })],
@@ -63,7 +63,7 @@ test("memory that is refused within a call has an error, and the next call has i
 function refusing(call) {
     const { engine } = scanners.text("");
     const { calls, heap } = engine;
-    engine.calls = Object.fromEntries(Object.entries(calls).map(([name, it]) => [name, without(heap, it)]));
+    engine.calls = Object.fromEntries(Object.entries(calls).map(([name, original]) => [name, without(heap, original)]));
     try {
         return call();
     } finally {

@@ -21,38 +21,38 @@ const scanners = await mds.load(MODULE);
 const text = (data, how) => scanners.text(data, how);
 
 test("each byte has its class", () => {
-    const isIn = (characters) => Array.from({ length: 256 }, (_, it) => it < 128 && characters.includes(String.fromCharCode(it)));
-    const found = (call) => Array.from({ length: 256 }, (_, it) => call(it));
-    assert.deepEqual(found((it) => scanners.isWhitespace(it)), isIn(" \t\n\v\f\r"));
-    assert.deepEqual(found((it) => scanners.isWhitespaceInLine(it)), isIn(" \t\v\f"));
-    assert.deepEqual(found((it) => scanners.isPunctuation(it)), isIn("!\"#$%&'()*+,-./:;<=>?@[\\]^_`{|}~"));
+    const isIn = (characters) => Array.from({ length: 256 }, (_, byte) => byte < 128 && characters.includes(String.fromCharCode(byte)));
+    const found = (call) => Array.from({ length: 256 }, (_, byte) => call(byte));
+    assert.deepEqual(found((byte) => scanners.isWhitespace(byte)), isIn(" \t\n\v\f\r"));
+    assert.deepEqual(found((byte) => scanners.isWhitespaceInLine(byte)), isIn(" \t\v\f"));
+    assert.deepEqual(found((byte) => scanners.isPunctuation(byte)), isIn("!\"#$%&'()*+,-./:;<=>?@[\\]^_`{|}~"));
 });
 
 test("the classes of Unicode characters", () => {
     // as this engine's own tables have them, of planes that have long been assigned
-    for (let it = 0; it < 0x2000; it++) {
-        const character = String.fromCodePoint(it);
+    for (let code = 0; code < 0x2000; code++) {
+        const character = String.fromCodePoint(code);
         if (/\p{Cn}/u.test(character)) continue;
-        assert.equal(scanners.isUnicodeWhitespace(it), /[\t\n\f\r\p{Zs}]/u.test(character), it.toString(16));
-        assert.equal(scanners.isUnicodePunctuation(character), /[\p{P}\p{S}]/u.test(character), it.toString(16));
+        assert.equal(scanners.isUnicodeWhitespace(code), /[\t\n\f\r\p{Zs}]/u.test(character), code.toString(16));
+        assert.equal(scanners.isUnicodePunctuation(character), /[\p{P}\p{S}]/u.test(character), code.toString(16));
     }
-    assert.deepEqual([0xd800, 0x110000, 2 ** 32 - 1].filter((it) => scanners.isUnicodePunctuation(it)), []);
+    assert.deepEqual([0xd800, 0x110000, 2 ** 32 - 1].filter((code) => scanners.isUnicodePunctuation(code)), []);
     assert.ok(scanners.isUnicodePunctuation("🍔") && scanners.isUnicodeWhitespace("\u3000"));
 });
 
 test("what is no byte, number, place or text is refused", () => {
-    for (const it of [-1, 256, 1.5, "é", "ab", ""]) assert.throws(() => scanners.isWhitespace(it), RangeError);
-    for (const it of [-1, 2 ** 32, 1.5, "ab", ""]) assert.throws(() => scanners.isUnicodeWhitespace(it), RangeError);
+    for (const value of [-1, 256, 1.5, "é", "ab", ""]) assert.throws(() => scanners.isWhitespace(value), RangeError);
+    for (const value of [-1, 2 ** 32, 1.5, "ab", ""]) assert.throws(() => scanners.isUnicodeWhitespace(value), RangeError);
     for (const begin of [-1, 2, 0.5]) assert.throws(() => text("a*b").scanDelimiterRun(1, 3, { begin }), RangeError);
-    for (const it of [-1, 2 ** 53, 1.5, -1n, 2n ** 64n]) {
-        assert.throws(() => text(" ").calcIndent(0, 1, { limit: it }), RangeError);
-        assert.throws(() => text(" ").lineStart().space(it), RangeError);
-        assert.throws(() => text("<!").htmlScanGuard().scan(it), RangeError);
-        assert.throws(() => text("").scanLinkDest(0, 0, { maxNext: it }), RangeError);
-        assert.throws(() => text("").scanReferenceDefinition(0, 0, { maxNext: it }), RangeError);
+    for (const number of [-1, 2 ** 53, 1.5, -1n, 2n ** 64n]) {
+        assert.throws(() => text(" ").calcIndent(0, 1, { limit: number }), RangeError);
+        assert.throws(() => text(" ").lineStart().space(number), RangeError);
+        assert.throws(() => text("<!").htmlScanGuard().scan(number), RangeError);
+        assert.throws(() => text("").scanLinkDest(0, 0, { maxNext: number }), RangeError);
+        assert.throws(() => text("").scanReferenceDefinition(0, 0, { maxNext: number }), RangeError);
     }
     for (const [at, end] of [[2, 2], [-1, 1], [0, 2], [1, 0], [0.5, 1]]) assert.throws(() => text("a").scanLine(at, end), RangeError);
-    for (const it of [0, 8, 1.5]) assert.throws(() => text("<a>").endsHtmlBlock(it), RangeError);
+    for (const kind of [0, 8, 1.5]) assert.throws(() => text("<a>").endsHtmlBlock(kind), RangeError);
     assert.throws(() => text("é").scanLine(1), RangeError);
     assert.throws(() => text("é").scanWhile("é"), RangeError);
     assert.throws(() => text("🍔", { units: "utf-16" }).scanLine(1), RangeError);
@@ -135,10 +135,10 @@ test("the end stands after the place, and options after both", () => {
 test("what is written of a text has nothing of the module's memory", () => {
     const page = text("> a");
     const row = page.skips([[0, 2]]);
-    for (const it of [page, row, page.lineStart(), page.htmlScanGuard(), scanners]) {
-        assert.ok(JSON.stringify(it).length < 100, JSON.stringify(it).slice(0, 100));
-        assert.ok(inspect(it, { depth: 9 }).length < 100);
-        assert.ok(!Object.keys(it).includes("engine") && !("engine" in { ...it }));
+    for (const value of [page, row, page.lineStart(), page.htmlScanGuard(), scanners]) {
+        assert.ok(JSON.stringify(value).length < 100, JSON.stringify(value).slice(0, 100));
+        assert.ok(inspect(value, { depth: 9 }).length < 100);
+        assert.ok(!Object.keys(value).includes("engine") && !("engine" in { ...value }));
     }
     assert.equal(JSON.stringify(page), '{"isString":true,"length":3}');
     assert.deepEqual([...page.bytes], [0x3e, 0x20, 0x61]);
@@ -207,9 +207,9 @@ test("10 MB are scanned, and many texts in turn", () => {
     for (let at = 0; at < page.length; at = page.scanLine(at)) lines++;
     assert.equal(lines, 350_000);
     assert.equal(page.unescape().length, page.length - 4 * lines);
-    for (let it = 0; it < 300; it++) assert.equal(text("a".repeat(10_000 + it)).scanChRepeat("a"), 10_000 + it);
+    for (let count = 0; count < 300; count++) assert.equal(text("a".repeat(10_000 + count)).scanChRepeat("a"), 10_000 + count);
     assert.equal(page.scanBlockquoteStart(), 2);
-    assert.equal(page.runInlineHtml(Array.from({ length: 100_000 }, (_, it) => it * 30 + 21)).at(-1), 99_999 * 30 + 29);
+    assert.equal(page.runInlineHtml(Array.from({ length: 100_000 }, (_, index) => index * 30 + 21)).at(-1), 99_999 * 30 + 29);
 });
 
 test("a module that stops begins anew", () => stopping(2 ** 32 - 16));
@@ -228,7 +228,7 @@ async function stopping(address) {
 
 test("of two modules the 64-bit one is taken where the engine runs it", async () => {
     const folder = mkdtempSync(join(tmpdir(), "package-"));
-    for (const it of ["proved_markdown.mjs", "lib"]) cpSync(join(PACKAGE, it), join(folder, it), { recursive: true });
+    for (const name of ["proved_markdown.mjs", "lib"]) cpSync(join(PACKAGE, name), join(folder, name), { recursive: true });
     writeFileSync(join(folder, "proved_markdown.wasm"), naming(readFileSync(MODULE), "wide.wasm"));
     const { load } = await import(pathToFileURL(join(folder, "proved_markdown.mjs")));
     const isRead = async () => (await load()).text("# a").scanAtxHeading() === 1;
@@ -246,7 +246,7 @@ test("a module that is missing, broken or of another version", async () => {
     const other = ofOtherVersion(bytes);
     await assert.rejects(mds.load(new URL("none.wasm", MODULE)), { name: "ModuleMissing" });
     await assert.rejects(mds.load("data:text/plain,none"), { name: "BadModule" });
-    for (const it of [5, null, {}]) await assert.rejects(mds.load(it), (why) => why instanceof TypeError && why.message.includes("`source` is"));
+    for (const source of [5, null, {}]) await assert.rejects(mds.load(source), (why) => why instanceof TypeError && why.message.includes("`source` is"));
     await assert.rejects(mds.load(bytes.subarray(0, 1000)), { name: "BadModule" });
     await assert.rejects(mds.load(Buffer.from("0061736d01000000", "hex")), { name: "BadModule" });
     await assert.rejects(mds.load(other), (why) => why.name === "WrongVersion" && why.message.includes(VERSION));
@@ -270,9 +270,10 @@ test("a bundle that has no URL can be imported, and given the module", async () 
 });
 
 test("each function is called, and the package has one version", () => {
-    const files = ["source", "blocks", "events", "inlines", "line_start", "pages", "readers", "text"].map((it) => new URL(`../lib/${it}.mjs`, import.meta.url));
-    const sources = [...files, new URL("../proved_markdown.mjs", import.meta.url)].map((it) => readFileSync(it, "utf8")).join("");
-    const missing = Object.keys(FUNCTIONS).filter((it) => !new RegExp(`"${it}"|calls\\.${it}\\b`).test(sources));
+    const names = ["source", "blocks", "events", "inlines", "line_start", "pages", "readers", "text"];
+    const files = names.map((name) => new URL(`../lib/${name}.mjs`, import.meta.url));
+    const sources = [...files, new URL("../proved_markdown.mjs", import.meta.url)].map((file) => readFileSync(file, "utf8")).join("");
+    const missing = Object.keys(FUNCTIONS).filter((name) => !new RegExp(`"${name}"|calls\\.${name}\\b`).test(sources));
     assert.deepEqual(missing, []);
     assert.equal(JSON.parse(readFileSync(new URL("../package.json", import.meta.url), "utf8")).version, VERSION);
     assert.equal(mds.VERSION, VERSION);

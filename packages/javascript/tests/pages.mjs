@@ -35,8 +35,8 @@ export function* madePages() {
 /** The file with the specification's examples, or null. */
 function specification() {
     if (process.env.SPEC) return process.env.SPEC;
-    const folders = existsSync(REGISTRY) ? readdirSync(REGISTRY).filter((it) => it.startsWith("pulldown-cmark-")) : [];
-    return folders.map((it) => join(REGISTRY, it, "tests/suite/spec.rs")).find((it) => existsSync(it)) ?? null;
+    const folders = existsSync(REGISTRY) ? readdirSync(REGISTRY).filter((name) => name.startsWith("pulldown-cmark-")) : [];
+    return folders.map((folder) => join(REGISTRY, folder, "tests/suite/spec.rs")).find((path) => existsSync(path)) ?? null;
 }
 
 /** The examples of the specification, or null where no file has them. */
@@ -47,10 +47,10 @@ export function examples() {
 
 /** The texts of the Markdown files of this disk that are not large: null for one that is not UTF-8, which the page refuses. */
 export function filesOfDisk() {
-    const skipped = ["/proc", "/sys", "/dev"].flatMap((it) => ["-path", it, "-prune", "-o"]);
+    const skipped = ["/proc", "/sys", "/dev"].flatMap((folder) => ["-path", folder, "-prune", "-o"]);
     const words = ["/", ...skipped, "-type", "f", "-iname", "*.md", "-size", `-${MOST_BYTES}c`, "-print0"];
     const found = said("find", words).split("\0").filter(Boolean).sort().slice(0, MOST_FILES);
-    return found.map(bytesOf).filter((it) => it !== null).map(decoded);
+    return found.map(bytesOf).filter((bytes) => bytes !== null).map(decoded);
 }
 
 /** The bytes of a file, or null where it may not be read, or has gone by now. */

@@ -26,7 +26,7 @@ if (pages === null) {
     process.exit(0);
 }
 const scanners = await load(MODULE);
-const texts = pages.filter((it) => it !== null);
+const texts = pages.filter((page) => page !== null);
 let lines = 0;
 for (const text of texts) lines += readWhole(Reading, scanners, text).lines.length;
 if (name === "examples") hold("examples_of_spec", texts.length);

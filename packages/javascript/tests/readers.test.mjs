@@ -22,7 +22,7 @@ function fed(page, size) {
 }
 
 test("each page that has no definitions, in pieces of each size", () => {
-    const plain = pages("scan_blocks").map((it) => Buffer.from(it.page)).filter((it) => !it.includes("]:"));
+    const plain = pages("scan_blocks").map((row) => Buffer.from(row.page)).filter((page) => !page.includes("]:"));
     assert.ok(plain.length > 25);
     for (const page of plain) {
         const expected = [...scanners.text(page).scanBlocks()].map(returned);
@@ -34,7 +34,7 @@ test("a paragraph that begins with definitions is one block, and footnotes are a
     const [block, ...others] = scanners.blockReader().feed("[a]: b\nc\n# d\n");
     assert.deepEqual([block.kind, block.lines, `${Buffer.from(block.content())}`, others], ["paragraph", 2, "[a]: b\nc", []]);
     const reader = scanners.blockReader({ footnotes: true });
-    const [first, second] = [...reader.feed("[^a]: b\n\n"), ...reader.feed("    c"), ...reader.close()].filter((it) => it.kind === "paragraph");
+    const [first, second] = [...reader.feed("[^a]: b\n\n"), ...reader.feed("    c"), ...reader.close()].filter((leaf) => leaf.kind === "paragraph");
     assert.deepEqual([first.containers, second.containers, second.kept], [[{ kind: "footnote", place: 0 }], first.containers, 1]);
     assert.throws(() => scanners.blockReader({ footnotes: 1 }), TypeError);
     assert.throws(() => reader.feed(1), TypeError);
@@ -43,8 +43,8 @@ test("a paragraph that begins with definitions is one block, and footnotes are a
 test("definition lists are asked for", () => {
     const page = "apple\n\n: red\n: round\n  fruit";
     const reader = scanners.blockReader({ definitionLists: true });
-    const found = [...page].flatMap((it) => reader.feed(it));
-    const containers = [...found, ...reader.close()].map((it) => it.containers);
+    const found = [...page].flatMap((character) => reader.feed(character));
+    const containers = [...found, ...reader.close()].map((block) => block.containers);
     const definition = (/** @type {number} */ place) => [{ kind: "termDefinition", place, width: 2 }];
     assert.deepEqual(containers, [[], [], definition(7), definition(13)]);
     assert.throws(() => scanners.blockReader({ definitionLists: 1 }), TypeError);
@@ -53,7 +53,7 @@ test("definition lists are asked for", () => {
 test("deep nesting, and a long block", () => {
     const reader = scanners.blockReader();
     const found = reader.feed(">".repeat(1000));
-    for (let it = 0; it < 10_000; it++) found.push(...reader.feed("a\n"));
+    for (let index = 0; index < 10_000; index++) found.push(...reader.feed("a\n"));
     const [block] = reader.close();
     assert.deepEqual([found.length, block.containers.length, block.lines, block.content().length], [0, 1000, 10_000, 19_999]);
 });

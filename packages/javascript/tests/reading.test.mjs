@@ -11,7 +11,7 @@ import { readWhole } from "./whole.mjs";
 
 const scanners = await load(MODULE);
 const read = (text) => readWhole(Reading, scanners, text);
-const blocks = (text) => read(text).lines.map((it) => it.block.name);
+const blocks = (text) => read(text).lines.map((line) => line.block.name);
 const headings = (text) => read(text).headings.map(({ number, level, text: words }) => [number, level, words]);
 const labels = (text) => read(text).found.map(({ kind, key, target }) => [kind, key, target]);
 
@@ -47,12 +47,12 @@ test("of a long line no more is sent than what is drawn", () => {
         assert.ok(line.taken.length >= 10_000);
         const row = rowOf(text.slice(0, 1000), line);
         assert.equal(row.taken.length, taken);
-        assert.equal(row.columns.strips.map((it) => it.text).join("").length, 200);
+        assert.equal(row.columns.strips.map((strip) => strip.text).join("").length, 200);
         assert.ok(JSON.stringify(row).length < 50_000);
     }
-    const wide = read(`${"|a".repeat(1000)}\n${"|-".repeat(1000)}\n${"|b".repeat(1000)}`).lines.map((it) => rowOf("|", it).block);
-    assert.deepEqual(wide.map((it) => it.name), ["header of 1000", "table of 1000", "row of 1000"]);
-    assert.deepEqual([wide[1].answer.alignments, wide[2].answer].map((it) => [it.length, it[200]]), [[201, "…"], [201, "…"]]);
+    const wide = read(`${"|a".repeat(1000)}\n${"|-".repeat(1000)}\n${"|b".repeat(1000)}`).lines.map((row) => rowOf("|", row).block);
+    assert.deepEqual(wide.map((block) => block.name), ["header of 1000", "table of 1000", "row of 1000"]);
+    assert.deepEqual([wide[1].answer.alignments, wide[2].answer].map((answer) => [answer.length, answer[200]]), [[201, "…"], [201, "…"]]);
     const [line] = read("> a\n").lines;
     const { taken, ...row } = rowOf("> a\n", line);
     assert.deepEqual([taken, row.at, row.end, row.block.name], [line.taken, 0, 4, "paragraph"]);

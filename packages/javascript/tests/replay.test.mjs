@@ -53,7 +53,7 @@ function listItem(text) {
 
 function tableHead(text) {
     const found = text.scanTableHead();
-    return found ? `${found.end} [${found.alignments.map((it) => NAMES[it]).join(", ")}]` : "0 []";
+    return found ? `${found.end} [${found.alignments.map((alignment) => NAMES[alignment]).join(", ")}]` : "0 []";
 }
 
 function setext(text) {
@@ -123,7 +123,7 @@ const LINE_CALLS = {
     eol: (start) => start.eol(),
     quote: (start) => start.quote(),
     task: (start) => orNone(start.task()),
-    tag: (start) => orNone(start.alert()).replace(/^(?!none)./, (it) => it.toUpperCase()),
+    tag: (start) => orNone(start.alert()).replace(/^(?!none)./, (letter) => letter.toUpperCase()),
     restlen: (start) => `${start.rest().length}`,
     rest: (start, count) => written(Buffer.from(start.rest()), Number(count)),
 };
@@ -183,9 +183,9 @@ const CALLS = {
 /** Whether the package can answer as the case does: numbers that are answered are exact up to 2^53. */
 function isAlike(name, bytes, more, answer) {
     if (name === "linehead" || more.includes("refuse")) return false;
-    if (name === "line") return answer.match(/\d+/g).every((it) => Number.isSafeInteger(Number(it)));
+    if (name === "line") return answer.match(/\d+/g).every((number) => Number.isSafeInteger(Number(number)));
     if (name !== "entity" && name !== "unescape") return true;
-    return [...bytes.toString("latin1").matchAll(/([A-Za-z][A-Za-z0-9]*);/g)].every(([, it]) => ENTITIES.includes(it));
+    return [...bytes.toString("latin1").matchAll(/([A-Za-z][A-Za-z0-9]*);/g)].every(([, reference]) => ENTITIES.includes(reference));
 }
 
 /** The calls of C don't say whether a text that is made is the text itself. */

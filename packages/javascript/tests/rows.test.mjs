@@ -53,7 +53,7 @@ const RUNS = {
     run_inline_html({ data, given, answers, status, where }) {
         for (const bytes of [data, Buffer.concat([data, AFTER])]) {
             const [found, run] = outcomeOf(() => scanners.text(bytes).runInlineHtml(given, data.length));
-            const ends = (run.run ?? run).map((it) => it ?? NONE);
+            const ends = (run.run ?? run).map((end) => end ?? NONE);
             assert.deepEqual(plain([NAMES[found], ends]), plain([status, answers]), where);
         }
     },
@@ -65,7 +65,7 @@ const RUNS = {
         for (const d of ways(data)) {
             for (let first = 0; first <= given.length; first++) {
                 const found = runInParts(d, given, first);
-                const returned = { status, offset, rest, answers: answers.map((it) => it.map(Number)) };
+                const returned = { status, offset, rest, answers: answers.map((answer) => answer.map(Number)) };
                 assert.deepEqual(plain({ ...found, status: NAMES[found.status] }), plain(returned), where);
             }
         }

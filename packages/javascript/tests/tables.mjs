@@ -18,7 +18,7 @@ const STATUSES = [
 const RUN_CALLS = ["space", "space_up_to", "is_at_end", "quote", "list", "definition"];
 const PAGE_CALLS = ["scan_blocks", "block_content", "scan_lists", "scan_inlines", "html", "safe_html", "events"];
 /** The names of the statuses, by their numbers. */
-export const NAMES = Object.fromEntries(STATUSES.map((it) => [c[it], `MDS_${it}`]));
+export const NAMES = Object.fromEntries(STATUSES.map((name) => [c[name], `MDS_${name}`]));
 
 /** The bytes of a text as the file has it. */
 export function readText(text) {
@@ -100,14 +100,14 @@ export function pages(call) {
 }
 
 /** The extensions of a page that a row asks for, by the package's names. */
-export const extensionsOf = ({ words }) => words.map((it) => ({ tables: "table", tasks: "tasklist" })[it] ?? it);
+export const extensionsOf = ({ words }) => words.map((word) => ({ tables: "table", tasks: "tasklist" })[word] ?? word);
 
 /** What a row of pages.tsv asks for: extensions, and definitions, each a label, a destination and a title. */
 export function asked({ words }) {
-    const texts = words.filter((it) => it.includes("=")).map((it) => `${readText(it.slice(it.indexOf("=") + 1))}`);
+    const texts = words.filter((word) => word.includes("=")).map((word) => `${readText(word.slice(word.indexOf("=") + 1))}`);
     const definitions = [];
     for (let at = 0; at < texts.length; at += 3) definitions.push(texts.slice(at, at + 3));
-    return { extensions: words.filter((it) => !it.includes("=")), definitions };
+    return { extensions: words.filter((word) => !word.includes("=")), definitions };
 }
 
 function printedNumber(number) {
@@ -128,9 +128,9 @@ export function answered({ call }, answer) {
     if (typeof answer !== "object") return printedNumber(answer);
     const { status = c.OK, text, ...fields } = answer;
     if (status !== c.OK) {
-        assert.ok(!text && Object.values(fields).every((it) => Number(it) === 0), NAMES[status]);
+        assert.ok(!text && Object.values(fields).every((value) => Number(value) === 0), NAMES[status]);
         return NAMES[status];
     }
     if (text !== undefined) return [String(fields.taken), fields.start === undefined ? undefined : printedNumber(fields.start), text];
-    return Object.entries(fields).map(([name, it]) => `${name}=${printedNumber(it)}`).join(" ");
+    return Object.entries(fields).map(([name, value]) => `${name}=${printedNumber(value)}`).join(" ");
 }

@@ -35,15 +35,15 @@ def named():
 
 
 def licence():
-    return next(it for it in (HERE / "LICENSE", TOP / "LICENSE") if it.is_file()).read_text()
+    return next(path for path in (HERE / "LICENSE", TOP / "LICENSE") if path.is_file()).read_text()
 
 
 def metadata():
     about = project()
     lines = ["Metadata-Version: 2.4", f"Name: {about['name']}", f"Version: {about['version']}", f"Summary: {about['description']}"]
     lines += [f"Requires-Python: {about['requires-python']}", f"License-Expression: {about['license']}", "License-File: LICENSE"]
-    lines += [f"Author: {', '.join(it['name'] for it in about['authors'])}", f"Keywords: {','.join(about['keywords'])}"]
-    lines += [*[f"Classifier: {it}" for it in about["classifiers"]], "Description-Content-Type: text/markdown", ""]
+    lines += [f"Author: {', '.join(author['name'] for author in about['authors'])}", f"Keywords: {','.join(about['keywords'])}"]
+    lines += [*[f"Classifier: {classifier}" for classifier in about["classifiers"]], "Description-Content-Type: text/markdown", ""]
     return "\n".join([*lines, (HERE / about["readme"]).read_text()])
 
 
@@ -56,7 +56,7 @@ def library():
         known += [Path(subprocess.run(words, capture_output=True, text=True, check=True).stdout.strip()) / LIBRARY]
     except (OSError, subprocess.CalledProcessError):
         pass
-    found = [it for it in known[known[0] == "" :] if Path(it).is_file()]
+    found = [path for path in known[known[0] == "" :] if Path(path).is_file()]
     if not found or (known[0] and found[0] != known[0]):
         raise SystemExit(f"there is no {LIBRARY}: run packages/c/build, or name one in PROVED_MARKDOWN_LIBRARY")
     return Path(found[0]).read_bytes()
@@ -65,8 +65,8 @@ def library():
 def extension_sources():
     """The files of which the extension is made. In the tree the header is that of the C functions."""
     known = [HERE / "extension/proved_markdown.h", TOP / "packages/c/include/proved_markdown.h"]
-    files = [*sorted((HERE / "extension").glob("*.[ch]")), *[it for it in known if it.is_file()][:1]]
-    return {it.name: it.read_bytes() for it in files}
+    files = [*sorted((HERE / "extension").glob("*.[ch]")), *[path for path in known if path.is_file()][:1]]
+    return {path.name: path.read_bytes() for path in files}
 
 
 def extension():
@@ -75,34 +75,34 @@ def extension():
     if sys.implementation.name != "cpython" or sysconfig.get_config_var("Py_GIL_DISABLED"):
         return {}
     flags = ["-O2", "-fPIC", "-shared", "-s", "-Wl,--build-id=none", f"-I{sysconfig.get_path('include')}"]
-    with tempfile.TemporaryDirectory() as room:
-        for name, it in extension_sources().items():
-            (Path(room) / name).write_bytes(it)
+    with tempfile.TemporaryDirectory() as scratch:
+        for name, content in extension_sources().items():
+            (Path(scratch) / name).write_bytes(content)
         try:
             words = [*shlex.split(os.environ.get("CC", "cc")), *flags, "fast.c", "-o", EXTENSION]
-            subprocess.run(words, cwd=room, capture_output=True, text=True, check=True)
+            subprocess.run(words, cwd=scratch, capture_output=True, text=True, check=True)
         except (OSError, subprocess.CalledProcessError) as why:
             print(f"the extension is not built, and the package calls by ctypes: {why}\n{getattr(why, 'stderr', '')}", file=sys.stderr)
             return {}
-        return {f"{PACKAGE}/{EXTENSION}": (Path(room) / EXTENSION).read_bytes()}
+        return {f"{PACKAGE}/{EXTENSION}": (Path(scratch) / EXTENSION).read_bytes()}
 
 
 def tag(made, extended):
     """Of the system that these files ask for: the highest version of the C library that they name."""
-    versions = [int(it) for it in re.findall(rb"GLIBC_2\.(\d+)", b"".join([made, *extended.values()]))]
+    versions = [int(number) for number in re.findall(rb"GLIBC_2\.(\d+)", b"".join([made, *extended.values()]))]
     return f"{'cp311-abi3' if extended else 'py3-none'}-manylinux_2_{max([17, *versions])}_x86_64"
 
 
 def sources():
     """Of the package, and of the one that leads to it by its earlier name."""
-    files = [it for name in (PACKAGE, EARLIER) for it in sorted((HERE / name).iterdir())]
-    return {f"{it.parent.name}/{it.name}": it.read_bytes() for it in files if it.suffix in (".py", ".pyi") or it.name == "py.typed"}
+    files = [path for name in (PACKAGE, EARLIER) for path in sorted((HERE / name).iterdir())]
+    return {f"{path.parent.name}/{path.name}": path.read_bytes() for path in files if path.suffix in (".py", ".pyi") or path.name == "py.typed"}
 
 
 def record(files, name):
     """The rows of RECORD."""
-    sums = {path: base64.urlsafe_b64encode(hashlib.sha256(it).digest()).rstrip(b"=").decode() for path, it in files.items()}
-    return "".join(f"{path},sha256={sums[path]},{len(it)}\n" for path, it in files.items()) + f"{name},,\n"
+    sums = {path: base64.urlsafe_b64encode(hashlib.sha256(content).digest()).rstrip(b"=").decode() for path, content in files.items()}
+    return "".join(f"{path},sha256={sums[path]},{len(content)}\n" for path, content in files.items()) + f"{name},,\n"
 
 
 def write_wheel(folder, tag, files, pure):
@@ -114,10 +114,10 @@ def write_wheel(folder, tag, files, pure):
     files[f"{about}/RECORD"] = record(files, f"{about}/RECORD").encode()
     name = f"{named()}-{tag}.whl"
     with zipfile.ZipFile(Path(folder) / name, "w", zipfile.ZIP_DEFLATED) as out:
-        for path, it in files.items():
+        for path, content in files.items():
             entry = zipfile.ZipInfo(path, LATEST)
             entry.external_attr, entry.compress_type = 0o100644 << 16, zipfile.ZIP_DEFLATED
-            out.writestr(entry, it)
+            out.writestr(entry, content)
     return name
 
 
@@ -137,11 +137,11 @@ def build_sdist(sdist_directory, config_settings=None):
     files = {**sources(), "PKG-INFO": metadata().encode(), "LICENSE": licence().encode()}
     for path in ("pyproject.toml", "README.md", "backend/proved_markdown_build.py"):
         files[path] = (HERE / path).read_bytes()
-    files |= {f"extension/{name}": it for name, it in extension_sources().items()}
+    files |= {f"extension/{name}": content for name, content in extension_sources().items()}
     name = f"{named()}.tar.gz"
     with tarfile.open(Path(sdist_directory) / name, "w:gz", format=tarfile.PAX_FORMAT) as out:
-        for path, it in files.items():
+        for path, content in files.items():
             entry = tarfile.TarInfo(f"{named()}/{path}")
-            entry.size = len(it)
-            out.addfile(entry, io.BytesIO(it))
+            entry.size = len(content)
+            out.addfile(entry, io.BytesIO(content))
     return name

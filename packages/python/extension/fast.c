@@ -26,34 +26,34 @@ static PyObject *fields(PyTypeObject *type, int count, const size_t *numbers) {
 }
 
 /* Room for a text: its own, or memory that is asked for. */
-struct room {
+struct buffer {
     uint8_t *bytes;
     size_t size;
     uint8_t own[4096];
 };
 
-static bool has_room(struct room *room, size_t size) {
-    room->size = size;
-    room->bytes = size <= sizeof room->own ? room->own : PyMem_Malloc(size);
-    if (!room->bytes) PyErr_NoMemory();
-    return room->bytes;
+static bool has_room(struct buffer *buffer, size_t size) {
+    buffer->size = size;
+    buffer->bytes = size <= sizeof buffer->own ? buffer->own : PyMem_Malloc(size);
+    if (!buffer->bytes) PyErr_NoMemory();
+    return buffer->bytes;
 }
 
-static void leave(struct room *room) {
-    if (room->bytes != room->own) PyMem_Free(room->bytes);
+static void leave(struct buffer *buffer) {
+    if (buffer->bytes != buffer->own) PyMem_Free(buffer->bytes);
 }
 
-/* Whether there is another room of this size, in place of this one. */
-static bool has_other_room(struct room *room, size_t size) {
-    leave(room);
-    return has_room(room, size);
+/* Whether there is another buffer of this size, in place of this one. */
+static bool has_other_room(struct buffer *buffer, size_t size) {
+    leave(buffer);
+    return has_room(buffer, size);
 }
 
-/* What was found and the text in the room, which is left. */
-static PyObject *with_text(PyObject *found, struct room *room, size_t length) {
-    PyObject *text = found ? PyBytes_FromStringAndSize((const char *)room->bytes, (Py_ssize_t)length) : NULL;
+/* What was found and the text in the buffer, which is left. */
+static PyObject *with_text(PyObject *found, struct buffer *buffer, size_t length) {
+    PyObject *text = found ? PyBytes_FromStringAndSize((const char *)buffer->bytes, (Py_ssize_t)length) : NULL;
     PyObject *both = text ? PyTuple_Pack(2, found, text) : NULL;
-    leave(room);
+    leave(buffer);
     Py_XDECREF(text);
     Py_XDECREF(found);
     return both;
@@ -90,13 +90,13 @@ static PyObject *with_text(PyObject *found, struct room *room, size_t length) {
     static __typeof__(mds_##name) *its_##name;                                                                                 \
     static PyObject *call_##name(PyObject *module, PyObject *const *given, Py_ssize_t count) {                                 \
         size_t it[expected + 1];                                                                                               \
-        struct room room;                                                                                                      \
+        struct buffer buffer;                                                                                                  \
         (void)module;                                                                                                          \
-        if (!taken(it, expected + 1, given, count) || !has_room(&room, it[expected])) return NULL;                             \
-        struct type found = its_##name(__VA_ARGS__, room.bytes, room.size);                                                    \
-        while (found.status == MDS_TOO_SHORT && has_other_room(&room, found.length))                                           \
-            found = its_##name(__VA_ARGS__, room.bytes, room.size);                                                            \
-        return with_text(room.bytes ? made(found) : NULL, &room, found.status == MDS_OK ? found.length : 0);                   \
+        if (!taken(it, expected + 1, given, count) || !has_room(&buffer, it[expected])) return NULL;                           \
+        struct type found = its_##name(__VA_ARGS__, buffer.bytes, buffer.size);                                                \
+        while (found.status == MDS_TOO_SHORT && has_other_room(&buffer, found.length))                                         \
+            found = its_##name(__VA_ARGS__, buffer.bytes, buffer.size);                                                        \
+        return with_text(buffer.bytes ? made(found) : NULL, &buffer, found.status == MDS_OK ? found.length : 0);               \
     }
 #include "calls.h"
 

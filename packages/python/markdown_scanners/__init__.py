@@ -9,6 +9,6 @@ warnings.warn(
     DeprecationWarning,
     stacklevel=2,
 )
-for _name in [it for it in sys.modules if it.startswith("proved_markdown.")]:
+for _name in [name for name in sys.modules if name.startswith("proved_markdown.")]:
     sys.modules[_name.replace("proved_markdown", __name__, 1)] = sys.modules[_name]
 sys.modules[__name__] = proved_markdown

@@ -23,7 +23,7 @@ def _path() -> str:
     known = [here.with_name(NAME)]
     if (here.parents[1] / "pyproject.toml").is_file():
         known.append(here.parents[3] / "out" / NAME)
-    found = [str(it) for it in known if it.is_file()]
+    found = [str(path) for path in known if path.is_file()]
     named = os.environ.get("PROVED_MARKDOWN_LIBRARY") or os.environ.get("MARKDOWN_SCANNERS_LIBRARY")  # its earlier name
     return named or (found or [NAME])[0]
 
@@ -58,7 +58,7 @@ def _extension() -> Any:
         made: Any = import_module(f"{__package__}._fast")
     except ImportError:
         return None
-    made.bind({name: ctypes.cast(it, ctypes.c_void_p).value for name, it in _FUNCTIONS.items()})
+    made.bind({name: ctypes.cast(foreign, ctypes.c_void_p).value for name, foreign in _FUNCTIONS.items()})
     return made
 
 
@@ -122,12 +122,12 @@ def _room(size: int) -> tuple[int, memoryview]:
 def _written(function: Callable[..., Any], *taken: Any) -> tuple[Any, bytes]:
     """As `writer` says."""
     *given, size = taken
-    room = address, view = _rooms.pop() if size <= ROOM and _rooms else _room(max(size, ROOM))
+    buffer = address, view = _rooms.pop() if size <= ROOM and _rooms else _room(max(size, ROOM))
     found = function(*given, address, size)
     status = found.status
     made = view[: found.length].tobytes() if status == OK else b""
     if size <= ROOM:
-        _rooms.append(room)
+        _rooms.append(buffer)
     if status == TOO_SHORT:
         return _written(function, *given, found.length)
     return found, made

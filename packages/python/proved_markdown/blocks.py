@@ -205,4 +205,4 @@ def scan_table_head(data: Page, at: int = 0, end: Optional[int] = None) -> Optio
     """
     address, length, at = front(data, at, end)
     found, alignments = _scan_table_head(address, length, ROOM)
-    return TableHead(at + found.taken, tuple([_ALIGNMENTS[it] for it in alignments])) if stated(found.status) else None
+    return TableHead(at + found.taken, tuple([_ALIGNMENTS[byte] for byte in alignments])) if stated(found.status) else None

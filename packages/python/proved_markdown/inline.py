@@ -207,7 +207,7 @@ def scan_html_block_start(data: Page, at: int = 0, end: Optional[int] = None) ->
 def ends_html_block(data: Page, at: int = 0, end: Optional[int] = None, *, kind: HtmlBlockKind) -> bool:
     """Whether the line ends an HTML block of this kind: as its last line, or as the blank line after it. (4.6)
 
-    >>> [ends_html_block(b"a -->", kind=it) for it in (HtmlBlockKind.COMMENT, HtmlBlockKind.BLOCK_NAME)]
+    >>> [ends_html_block(b"a -->", kind=kind) for kind in (HtmlBlockKind.COMMENT, HtmlBlockKind.BLOCK_NAME)]
     [True, False]
     """
     address, length, _held = front(data, at, end)
@@ -341,8 +341,8 @@ def scan_link_label(
     Label(end=6, text=b'a b', start=None)
     """
     address, length, first, origin = whole(data, at, end)
-    room = min(length - first, LABEL_ROOM)
-    found, text = _scan_link_label(address, length, first, flag("in_table", in_table), *table(skips, data), room)
+    capacity = min(length - first, LABEL_ROOM)
+    found, text = _scan_link_label(address, length, first, flag("in_table", in_table), *table(skips, data), capacity)
     if not stated(found.status):
         return None
     return Label(origin + found.end, text_for(data, text), after(origin, found.start))

@@ -88,11 +88,11 @@ def scan_inlines(
     Markdown 0.29, section 6.5) Where `wikilinks` is true, `[[target]]` and `[[target|text]]` are links, and after `!` images. (Obsidian's
     internal links) NotUtf8Error.
 
-    >>> [(it.kind.name, it.start) for it in scan_inlines("*a* [B]", labels=["b"])]
+    >>> [(inline.kind.name, inline.start) for inline in scan_inlines("*a* [B]", labels=["b"])]
     [('EMPHASIS', 0), ('TEXT', 1), ('EMPHASIS_END', 2), ('TEXT', 3), ('LINK', 4), ('TEXT', 5), ('LINK_END', 6)]
     >>> next(scan_inlines("[a](/b 'c')")).link.destination
     Span(start=4, stop=6)
-    >>> [it.kind.name for it in scan_inlines("~~a~~", strikethrough=True)]
+    >>> [inline.kind.name for inline in scan_inlines("~~a~~", strikethrough=True)]
     ['STRIKETHROUGH', 'TEXT', 'STRIKETHROUGH_END']
     >>> next(scan_inlines("[[a|b]]", wikilinks=True)).link.destination
     Span(start=2, stop=3)
@@ -110,7 +110,7 @@ def scan_inlines(
         count = found.count
     del held  # until here the labels have stayed where they are
     stated(found.status)
-    return (_inline(origin, it) for it in map(inlines.__getitem__, range(found.count)))
+    return (_inline(origin, row) for row in map(inlines.__getitem__, range(found.count)))
 
 
 def _views(labels: Iterable[Page]) -> tuple[Any, list[Any]]:
@@ -118,32 +118,32 @@ def _views(labels: Iterable[Page]) -> tuple[Any, list[Any]]:
     if isinstance(labels, (str, bytes, bytearray)):
         raise TypeError(f"labels is of type {type(labels).__name__}, and not several labels")
     given = list(labels)
-    found = [front(it, 0, None) for it in given]
+    found = [front(label, 0, None) for label in given]
     rows: list[Any] = [(address, length) for address, length, _ in found]
     return (_c.View * len(rows))(*rows), [given, found]
 
 
-def _inline(origin: int, it: Any) -> Inline:
-    kind = _KINDS[it.kind]
-    start, stop = it.start, it.start + it.length
+def _inline(origin: int, row: Any) -> Inline:
+    kind = _KINDS[row.kind]
+    start, stop = row.start, row.start + row.length
     content = link = None
     if kind == InlineKind.CODE:
-        content = Span(origin + (start + it.count), origin + (stop - it.count))
+        content = Span(origin + (start + row.count), origin + (stop - row.count))
     elif kind in (InlineKind.URI, InlineKind.EMAIL):
         content = Span(origin + (start + 1), origin + (stop - 1))
     elif kind in (InlineKind.LINK, InlineKind.IMAGE):
-        link = _link(origin, it)
+        link = _link(origin, row)
     return Inline(kind, origin + start, origin + stop, content, link)
 
 
-def _link(origin: int, it: Any) -> Link:
-    target, end = LinkTarget(it.target), origin + it.end
-    destination = _span(origin, it.destination_start, it.destination_length)
+def _link(origin: int, row: Any) -> Link:
+    target, end = LinkTarget(row.target), origin + row.end
+    destination = _span(origin, row.destination_start, row.destination_length)
     if target == LinkTarget.WIKI:
         return Link(target, end, destination, None, None)
     if target != LinkTarget.INLINE:
-        return Link(target, end, None, None, _span(origin, it.label_start, it.label_length))
-    title = None if it.title_start == _c.NONE else _span(origin, it.title_start, it.title_length)
+        return Link(target, end, None, None, _span(origin, row.label_start, row.label_length))
+    title = None if row.title_start == _c.NONE else _span(origin, row.title_start, row.title_length)
     return Link(target, end, destination, title, None)
 
 

@@ -90,9 +90,9 @@ class Event(NamedTuple, Generic[Made]):
     checked: bool  #: of a task, whether its box is checked
 
 
-_KINDS = {int(it): it for it in EventKind}
-_ELEMENTS = {int(it): it for it in Element}
-_LINK_KINDS = {int(it): it for it in LinkKind}
+_KINDS = {int(kind): kind for kind in EventKind}
+_ELEMENTS = {int(element): element for element in Element}
+_LINK_KINDS = {int(kind): kind for kind in LinkKind}
 _ALIGNMENTS = tuple(Alignment)
 _WITH_TEXT = frozenset({_c.EVENT_TEXT, _c.EVENT_CODE, _c.EVENT_HTML, _c.EVENT_INLINE_HTML})
 
@@ -106,13 +106,13 @@ def events(data: Page, at: int = 0, end: Optional[int] = None, *, extensions: It
     so do their places in the page, which are those of characters of a `str`, and else of bytes. `extensions` is as of `html`.
     NotUtf8Error. (3 to 6)
 
-    >>> [(it.kind.name, it.start, it.stop) for it in events("é *a*")][:4]
+    >>> [(event.kind.name, event.start, event.stop) for event in events("é *a*")][:4]
     [('START', 0, 5), ('TEXT', 0, 2), ('START', 2, 5), ('TEXT', 3, 4)]
-    >>> [it.text for it in events("# A\n\nb\\*`c`") if it.text is not None]
+    >>> [event.text for event in events("# A\n\nb\\*`c`") if event.text is not None]
     ['A', 'b', '*', 'c']
-    >>> next(it.target for it in events("[a](/b 'c')") if it.target)
+    >>> next(event.target for event in events("[a](/b 'c')") if event.target)
     Target(kind=<LinkKind.INLINE: 1>, destination='/b', title='c', label='')
-    >>> [it.level for it in events("## a\nb") if it.element == Element.HEADING]
+    >>> [event.level for event in events("## a\nb") if event.element == Element.HEADING]
     [2, 2]
     """
     options = options_of(extensions)
@@ -146,7 +146,7 @@ def _places(rows: list[tuple[int, ...]], origin: Any, address: int, length: int)
     source = string_at(address, length)
     place, last = origin + 0, 0
     found: dict[int, int] = {}
-    for byte in sorted({it for row in rows for it in row[4:6]}):
+    for byte in sorted({bound for row in rows for bound in row[4:6]}):
         place, last = place + len(source[last:byte].decode()), byte
         found[byte] = place
     return found.__getitem__
@@ -171,7 +171,7 @@ def _event_of(place: Callable[[int], int], words: Callable[[int, int], Any]) -> 
         elif element == _c.ELEMENT_LIST and detail:
             first = number
         elif element == _c.ELEMENT_TABLE:
-            alignments = tuple(_ALIGNMENTS[it] for it in _numbers(words(row[6], row[7])))
+            alignments = tuple(_ALIGNMENTS[value] for value in _numbers(words(row[6], row[7])))
         elif element in (_c.ELEMENT_LINK, _c.ELEMENT_IMAGE):
             target = Target(_LINK_KINDS[detail], words(row[6], row[7]), words(row[8], row[9]), words(row[10], row[11]))
         return Event(_KINDS[kind], place(start), place(stop), _ELEMENTS[element], text, level, first, alignments, target, False)

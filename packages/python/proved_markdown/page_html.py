@@ -42,11 +42,11 @@ def html(data: Page, at: int = 0, end: Optional[int] = None, *, safe: bool = Tru
     """
     options = options_of(extensions)
     address, length, _held = front(data, at, end)
-    room = 2 * length + 64
+    capacity = 2 * length + 64
     if flag("safe", safe):
-        found, made = _safe_html(address, length, options, 0, 0, room)
+        found, made = _safe_html(address, length, options, 0, 0, capacity)
     else:
-        found, made = _html(address, length, options, room)
+        found, made = _html(address, length, options, capacity)
     stated(found.status)
     return text_for(data, made)
 

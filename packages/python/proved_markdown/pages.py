@@ -31,7 +31,7 @@ class BlockKind(IntEnum):
     PARAGRAPH = _c.BLOCK_PARAGRAPH  #: a paragraph (4.8)
 
 
-_KINDS = {int(it): it for it in BlockKind}
+_KINDS = {int(kind): kind for kind in BlockKind}
 
 
 class BlockQuote(NamedTuple):
@@ -131,7 +131,7 @@ def scan_blocks(data: Page, at: int = 0, end: Optional[int] = None) -> Iterator[
     r"""The leaf blocks of a page, from the first to the last, with the containers that they stand in. Their lines, joined, are
     the page. A paragraph that begins with link reference definitions comes in parts, each definition as a block of its own.
 
-    >>> [(it.kind.name, it.line, len(it.containers)) for it in scan_blocks("# A\n> - b\n\n[c]: d\ne")]
+    >>> [(block.kind.name, block.line, len(block.containers)) for block in scan_blocks("# A\n> - b\n\n[c]: d\ne")]
     [('HEADING', 0, 0), ('PARAGRAPH', 1, 2), ('BLANK', 2, 0), ('DEFINITION', 3, 0), ('PARAGRAPH', 4, 0)]
     """
     address, length, origin = front(data, at, end)
@@ -157,8 +157,8 @@ def _leaves(page: tuple[Any, int, Optional[int]], origin: int, blocks: Any, coun
     containers: list[Container] = []
     same: Optional[tuple[tuple[Container, ...], tuple[_c.Block, ...]]] = ((), ())
     kept = 0
-    for it in map(blocks.__getitem__, range(count)):
-        kind = it.kind
+    for block in map(blocks.__getitem__, range(count)):
+        kind = block.kind
         if kind == _c.BLOCK_END:
             began.pop()
             containers.pop()
@@ -166,29 +166,29 @@ def _leaves(page: tuple[Any, int, Optional[int]], origin: int, blocks: Any, coun
         elif kind in _KINDS:
             if same is None:
                 same = tuple(containers), tuple(began)
-            yield leaf_of(page, origin, it, kept, *same)
+            yield leaf_of(page, origin, block, kept, *same)
             kept = len(began)
         else:
-            began.append(it)
-            containers.append(container_of(origin + it.place, it))
+            began.append(block)
+            containers.append(container_of(origin + block.place, block))
             same = None
 
 
-def container_of(place: int, it: Any) -> Container:
-    if it.kind == _c.BLOCK_FOOTNOTE:
+def container_of(place: int, block: Any) -> Container:
+    if block.kind == _c.BLOCK_FOOTNOTE:
         return FootnoteDefinition(place)
-    if it.kind == _c.BLOCK_TERM_DEFINITION:
-        return TermDefinition(place, it.width)
-    return BlockQuote(place) if it.kind == _c.BLOCK_QUOTE else Item(place, it.byte, it.number, it.width)
+    if block.kind == _c.BLOCK_TERM_DEFINITION:
+        return TermDefinition(place, block.width)
+    return BlockQuote(place) if block.kind == _c.BLOCK_QUOTE else Item(place, block.byte, block.number, block.width)
 
 
-def leaf_of(page: Any, origin: int, it: Any, kept: int, containers: tuple[Container, ...], began: tuple[Any, ...]) -> Block[Any]:
+def leaf_of(page: Any, origin: int, block: Any, kept: int, containers: tuple[Container, ...], began: tuple[Any, ...]) -> Block[Any]:
     made: Block[Any] = Block()
-    made.kind, made.number, made.indent = _KINDS[it.kind], it.number, it.indent
+    made.kind, made.number, made.indent = _KINDS[block.kind], block.number, block.indent
     made.containers, made.kept = containers, kept
-    made.line, made.lines = it.line, it.lines
-    made.start, made.stop, made.place = origin + it.start, origin + (it.start + it.bytes), origin + it.place
-    made._page, made._given = page, (it, began)
+    made.line, made.lines = block.line, block.lines
+    made.start, made.stop, made.place = origin + block.start, origin + (block.start + block.bytes), origin + block.place
+    made._page, made._given = page, (block, began)
     return made
 
 
@@ -214,5 +214,5 @@ def scan_lists(data: Page, at: int = 0, end: Optional[int] = None) -> Iterator[L
     return map(_list, lists[:count])
 
 
-def _list(it: Any) -> ListBlock:
-    return ListBlock(it.delimiter, it.start, it.is_loose, it.depth, it.line, it.end - it.line)
+def _list(row: Any) -> ListBlock:
+    return ListBlock(row.delimiter, row.start, row.is_loose, row.depth, row.line, row.end - row.line)

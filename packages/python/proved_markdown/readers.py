@@ -23,15 +23,15 @@ class BlockReader:
     reference definitions is one block, with these at the front of its content.
 
     >>> reader = BlockReader()
-    >>> [it.content() for it in reader.feed(b"# A\n> b\n")]
+    >>> [block.content() for block in reader.feed(b"# A\n> b\n")]
     [b'A']
-    >>> [(it.content(), it.line, len(it.containers)) for it in reader.feed(b"c\n- d\n")]
+    >>> [(block.content(), block.line, len(block.containers)) for block in reader.feed(b"c\n- d\n")]
     [(b'b\nc', 1, 1)]
-    >>> [(it.content(), it.kept) for it in reader.close()]
+    >>> [(block.content(), block.kept) for block in reader.close()]
     [(b'd', 0)]
     """
 
-    __slots__ = ("_pieces", "_size", "_wanted", "_ready", "_open", "_room", "_containers", "_began", "_start", "_line")
+    __slots__ = ("_pieces", "_size", "_wanted", "_ready", "_open", "_structs", "_containers", "_began", "_start", "_line")
 
     def __init__(self, *, footnotes: bool = False, definition_lists: bool = False) -> None:
         self._pieces: list[bytes] = []  # what is not returned yet
@@ -40,7 +40,7 @@ class BlockReader:
         asked = _c.FOOTNOTES if flag("footnotes", footnotes) else 0
         asked |= _c.DEFINITION_LISTS if flag("definition_lists", definition_lists) else 0
         self._open = _c.OpenBlocks(0, asked, 0)
-        self._room = (_c.Block * 8)()
+        self._structs = (_c.Block * 8)()
         self._containers: tuple[Container, ...] = ()
         self._began: tuple[Any, ...] = ()
         self._start = self._line = 0  # how much of the page is returned
@@ -75,21 +75,21 @@ class BlockReader:
     def _next(self, address: int, size: int, has_ended: bool, leaf: _c.Block) -> Any:
         """The next block, with room for its containers."""
         while True:
-            given = addressof(self._room), len(self._room), addressof(self._open), addressof(leaf)
+            given = addressof(self._structs), len(self._structs), addressof(self._open), addressof(leaf)
             found = _block_line(address, size, has_ended, *given)
             if found.status != _c.TOO_SHORT:
                 stated(found.status)
                 return found
-            room = (_c.Block * (2 * found.depth))()
-            room[: len(self._room)] = self._room[:]
-            self._room = room
+            wider = (_c.Block * (2 * found.depth))()
+            wider[: len(self._structs)] = self._structs[:]
+            self._structs = wider
 
     def _block(self, found: Any, leaf: _c.Block, lines: bytes) -> Block[bytes]:
         """The block, after which more of the page is returned."""
-        kept, began = found.kept, self._room[found.kept : found.depth]
+        kept, began = found.kept, self._structs[found.kept : found.depth]
         if began or kept < len(self._containers):
-            self._began = *self._began[:kept], *[_c.Block.from_buffer_copy(it) for it in began]
-            self._containers = *self._containers[:kept], *[container_of(self._start + it.place, it) for it in began]
+            self._began = *self._began[:kept], *[_c.Block.from_buffer_copy(struct) for struct in began]
+            self._containers = *self._containers[:kept], *[container_of(self._start + struct.place, struct) for struct in began]
         block: Block[bytes] = leaf_of((lines, 0, None), self._start, leaf, kept, self._containers, self._began)
         block.line = self._line
         self._start += leaf.bytes
@@ -101,7 +101,7 @@ def read_blocks(pieces: Iterable[Buffer], *, footnotes: bool = False, definition
     r"""The leaf blocks of a page that comes in pieces, as a file open for reading bytes has lines, with memory for the longest
     block and the deepest nesting. See `BlockReader`.
 
-    >>> [(it.kind.name, it.line, it.content()) for it in read_blocks([b"# A\n\nb", b"\nc"])]
+    >>> [(block.kind.name, block.line, block.content()) for block in read_blocks([b"# A\n\nb", b"\nc"])]
     [('HEADING', 0, b'A'), ('BLANK', 1, b''), ('PARAGRAPH', 2, b'b\nc')]
     """
     reader = BlockReader(footnotes=footnotes, definition_lists=definition_lists)

@@ -56,7 +56,7 @@ def run_line(start: LineStart[Made], calls: Iterable[tuple[int, int]]) -> tuple[
     >>> run_line(start, [(CallKind.QUOTE, 0), (CallKind.UPTO, 1)]), start.place, start.pending
     ((True, 1), 2, 1)
     """
-    kinds: list[Any] = [(CallKind(kind), number("a number of a call", it)) for kind, it in calls]
+    kinds: list[Any] = [(CallKind(kind), number("a number of a call", value)) for kind, value in calls]
     given, answers = (_c.LineCall * len(kinds))(*kinds), (_c.LineAnswer * len(kinds))()
     found = _run_line(*_checked(start)._given, addressof(given), len(kinds), addressof(answers), len(kinds))
     run = tuple(_answer(kind, answer) for (kind, _), answer in zip(kinds, answers[: found.count]))
@@ -71,8 +71,8 @@ def line_rest(start: LineStart[Made]) -> Made:
     b'a   b\n\tc'
     """
     address, length, numbers = _checked(start)._given
-    room = 4 * (length - start._numbers.place) + start.pending
-    found, text = _line_rest(address, length, numbers, room)
+    capacity = 4 * (length - start._numbers.place) + start.pending
+    found, text = _line_rest(address, length, numbers, capacity)
     stated(found.status)
     rest: Made = text_for(start.data, text)
     return rest
@@ -87,10 +87,10 @@ def run_inline_html(data: Page, places: Iterable[int], end: Optional[int] = None
     (4, None, 18)
     """
     address, length, _, origin = whole(data, 0, end)
-    listed = [min(place_in(data, number("a place", it)), _c.NONE) for it in places]
+    listed = [min(place_in(data, number("a place", place)), _c.NONE) for place in places]
     given, ends = (c_size_t * len(listed))(*listed), (c_size_t * len(listed))()
     found = _run_inline_html(address, length, addressof(given), len(listed), addressof(ends), len(listed))
-    return _ended(found.status, tuple(after(origin, it) for it in ends[: found.count]))
+    return _ended(found.status, tuple(after(origin, offset) for offset in ends[: found.count]))
 
 
 def _ended(status: int, run: tuple[Answer, ...]) -> tuple[Answer, ...]:

@@ -27,7 +27,7 @@ class Data:
 
     def beside(self, *places):
         """The same by itself, where a place is inside of a character."""
-        return self if all(mds.is_utf8(self.raw[:it]) for it in places) else Data(self.raw, "alone")
+        return self if all(mds.is_utf8(self.raw[:place]) for place in places) else Data(self.raw, "alone")
 
     def place(self, byte):
         """The place of a byte, past the end too."""
@@ -122,7 +122,7 @@ def part(name):
     def parted(d, start, *given):
         d = d.beside(start)
         if name == "scan_wikilink_pipe":
-            given = [d.count(start, it) for it in given]
+            given = [d.count(start, number) for number in given]
         status, found = outcome_of(getattr(mds, name), d.data, d.place(start), d.end, **named(name, given))
         ok = status == _c.OK
         return {"status": status, "end": d.length(found.end) if ok else 0, "start": d.length(found.start) if ok else 0,
@@ -262,13 +262,13 @@ def label_text(d, in_table):
 
 # The calls of packages/rows.tsv, by their names without `mds_`.
 CALLS = {
-    **{it: ends(it) for it in (
+    **{name: ends(name) for name in (
         "scan_ch", "scan_ch_repeat", "scan_while", "scan_whitespace_in_line", "scan_eol", "scan_line", "scan_nextline",
         "scan_blank_line", "scan_blockquote_start", "scan_closing_code_fence", "scan_closing_metadata_block",
         "scan_html_type_7", "scan_html_tag")},
-    **{it: plain(it) for it in ("is_utf8", "starts_html_block_type_6", "interrupts_paragraph")},
-    **{it: fence(it) for it in ("scan_code_fence", "scan_metadata_block")},
-    **{it: part(it) for it in (
+    **{name: plain(name) for name in ("is_utf8", "starts_html_block_type_6", "interrupts_paragraph")},
+    **{name: fence(name) for name in ("scan_code_fence", "scan_metadata_block")},
+    **{name: part(name) for name in (
         "scan_link_dest", "scan_link_title", "scan_autolink", "scan_email_autolink", "scan_code_span", "scan_wikilink_pipe")},
     "scan_reference_definition": definition,
     "scan_delimiter_run": delimiter_run,
@@ -287,5 +287,5 @@ CALLS = {
     "scan_link_label": label_text,
     "labels_match": lambda d, other: labels_match(d.raw, other),
     "label_key": lambda d: label_key(d.raw),
-    **{it: at_front(it) for it in ("line_list", "line_definition", "line_task", "line_alert")},
+    **{name: at_front(name) for name in ("line_list", "line_definition", "line_task", "line_alert")},
 }

@@ -46,7 +46,7 @@ def main():
     parser.add_argument("--without", choices=MAKERS, action="append", default=[], metavar="NAME", help="leaves this one out")
     asked = parser.parse_args()
     page = asked.file.read_bytes()[: asked.bytes].decode(errors="ignore")
-    for name, make in [it for it in MAKERS.items() if it[0] not in asked.without]:
+    for name, make in [maker for maker in MAKERS.items() if maker[0] not in asked.without]:
         try:
             call = make()
         except ImportError:

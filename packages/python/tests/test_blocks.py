@@ -27,7 +27,7 @@ def described(page, at=0, end=None):
     """What begins and ends, and what stands there; and the contents."""
     said, contents, depth = [], [], 0
     for block in mds.scan_blocks(page, at, end):
-        said += ["end"] * (depth - block.kept) + [word_of(it, at) for it in block.containers[block.kept :]] + [leaf_word(block)]
+        said += ["end"] * (depth - block.kept) + [word_of(container, at) for container in block.containers[block.kept :]] + [leaf_word(block)]
         contents.append(block.content())
         depth = len(block.containers)
     return " ".join(said + ["end"] * depth), contents
@@ -39,10 +39,10 @@ class Blocks(unittest.TestCase):
         data = page.encode()
         for given in ((data,), (b"# x\xff" + data + b"> y", 4, 4 + len(data)), (bytearray(data),)):
             said, contents = described(*given)
-            yield said, b"".join(it + b"|" for it in contents)
+            yield said, b"".join(content + b"|" for content in contents)
         for given in ((page,), ("é🍔" + page + "- é", 2, 2 + len(page))):
             said, contents = described(*given)
-            yield said, "".join(it + "|" for it in contents).encode()
+            yield said, "".join(content + "|" for content in contents).encode()
 
     def test_rows(self):
         for call in ("scan_blocks", "block_content"):
@@ -59,9 +59,9 @@ class Blocks(unittest.TestCase):
         self.assertEqual((third.start, third.stop, third.place, third.line, third.lines), (5, 15, 8, 2, 1))
         self.assertEqual((first.containers, third.containers), ((BlockQuote(0),), (Item(5, ord(")"), 1, 3),)))
         self.assertEqual((third.fence, third.level, third.html_kind, third.columns), ((ord("`"), 4), None, None, None))
-        self.assertEqual([it.level for it in mds.scan_blocks(b"### a\nb\n---")], [3, 2])
-        self.assertEqual([it.html_kind for it in mds.scan_blocks(b"<!-- a -->")], [mds.HtmlBlockKind.COMMENT])
-        self.assertEqual([it.columns for it in mds.scan_blocks(b"|a|b|\n|-|-|")], [2])
+        self.assertEqual([block.level for block in mds.scan_blocks(b"### a\nb\n---")], [3, 2])
+        self.assertEqual([block.html_kind for block in mds.scan_blocks(b"<!-- a -->")], [mds.HtmlBlockKind.COMMENT])
+        self.assertEqual([block.columns for block in mds.scan_blocks(b"|a|b|\n|-|-|")], [2])
 
     def test_no_page(self):
         self.assertEqual(list(mds.scan_blocks(b"")), [])
@@ -70,7 +70,7 @@ class Blocks(unittest.TestCase):
         self.assertRaises(mds.LoneSurrogateError, mds.scan_blocks, "\ud800")
 
     def test_content_of_any_bytes(self):
-        self.assertEqual([it.content() for it in mds.scan_blocks(b"> \xff\n>\t\t\xfe\n\n>\t\tc")], [b"\xff\n\xfe", b"", b"  c"])
+        self.assertEqual([block.content() for block in mds.scan_blocks(b"> \xff\n>\t\t\xfe\n\n>\t\tc")], [b"\xff\n\xfe", b"", b"  c"])
 
     def test_content_longer_than_its_lines(self):
         """Of each tab one column is indent. (4.5)"""

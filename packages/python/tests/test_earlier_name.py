@@ -10,7 +10,7 @@ import proved_markdown as mds
 class EarlierName(unittest.TestCase):
     def setUp(self):
         """The package as a program imports it first."""
-        for name in [it for it in sys.modules if it.split(".")[0] == "markdown_scanners"]:
+        for name in [name for name in sys.modules if name.split(".")[0] == "markdown_scanners"]:
             del sys.modules[name]
         with self.assertWarnsRegex(DeprecationWarning, "is called proved_markdown now") as warned:
             self.earlier = importlib.import_module("markdown_scanners")
@@ -22,7 +22,7 @@ class EarlierName(unittest.TestCase):
         self.assertEqual(self.earlier.html("*a* <b>"), "<p><em>a</em> &lt;b&gt;</p>\n")
 
     def test_modules(self):
-        names = [it.name for it in pkgutil.iter_modules(mds.__path__)]
+        names = [module.name for module in pkgutil.iter_modules(mds.__path__)]
         self.assertIn("line_scanners", names)
         for name in names:
             self.assertIs(importlib.import_module(f"markdown_scanners.{name}"), importlib.import_module(f"proved_markdown.{name}"))

@@ -18,40 +18,40 @@ sys.path.append(str(TOP / "tests/html"))
 import spec
 
 
-def as_text(it):
-    return it.decode() if isinstance(it, bytes) else it
+def as_text(value):
+    return value.decode() if isinstance(value, bytes) else value
 
 
-def quoted(it):
-    return ' "' + as_text(it).replace("\n", "\\n") + '"'
+def quoted(value):
+    return ' "' + as_text(value).replace("\n", "\\n") + '"'
 
 
 NAMES = {Element.QUOTE: "block quote"}
 LINKS = {LinkKind.WIKI: "wikilink", LinkKind.WIKI_PIPED: "piped wikilink"}
 
 
-def line_of(it, first, byte_of):
+def line_of(event, first, byte_of):
     """The line of an event, as the rows have it."""
-    words = it.kind.name.lower().replace("_", " ")
-    if it.kind == EventKind.TASK:
-        words = ("checked " if it.checked else "unchecked ") + words
-    if it.element:
-        words += " " + NAMES.get(it.element, it.element.name.lower().replace("_", " "))
-        words += f" {it.level}" if it.level else ""
-    words += "" if it.number is None else f" {it.number}"
-    words += "".join(f" {alignment.name.lower()}" for alignment in it.alignments)
-    if it.target:
-        words += " " + LINKS.get(it.target.kind, it.target.kind.name.lower())
-        words += quoted(it.target.destination) + quoted(it.target.title) + (quoted(it.target.label) if it.target.label else "")
-    words += "" if it.text is None else quoted(it.text)
-    return f"{byte_of(it.start) - first} {byte_of(it.stop) - first} {words}\n"
+    words = event.kind.name.lower().replace("_", " ")
+    if event.kind == EventKind.TASK:
+        words = ("checked " if event.checked else "unchecked ") + words
+    if event.element:
+        words += " " + NAMES.get(event.element, event.element.name.lower().replace("_", " "))
+        words += f" {event.level}" if event.level else ""
+    words += "" if event.number is None else f" {event.number}"
+    words += "".join(f" {alignment.name.lower()}" for alignment in event.alignments)
+    if event.target:
+        words += " " + LINKS.get(event.target.kind, event.target.kind.name.lower())
+        words += quoted(event.target.destination) + quoted(event.target.title) + (quoted(event.target.label) if event.target.label else "")
+    words += "" if event.text is None else quoted(event.text)
+    return f"{byte_of(event.start) - first} {byte_of(event.stop) - first} {words}\n"
 
 
 def lines_of(data, asked, at=0, end=None):
     def byte_of(place):
         return len(data[:place].encode()) if isinstance(data, str) else place
 
-    return "".join(line_of(it, byte_of(at), byte_of) for it in mds.events(data, at, end, extensions=asked))
+    return "".join(line_of(event, byte_of(at), byte_of) for event in mds.events(data, at, end, extensions=asked))
 
 
 OPEN = {
@@ -65,47 +65,47 @@ class Writer:
     def __init__(self):
         self.html, self.images, self.alone = [], [], False
 
-    def add(self, it):
-        if it.kind == EventKind.START and it.element == Element.IMAGE:
-            self.images.append(it.target)
-        elif it.kind == EventKind.END and it.element == Element.IMAGE:
+    def add(self, event):
+        if event.kind == EventKind.START and event.element == Element.IMAGE:
+            self.images.append(event.target)
+        elif event.kind == EventKind.END and event.element == Element.IMAGE:
             target = self.images.pop()
             if not self.images:
                 self.html.append(f'" {titled(target)}/>')
             return
         elif self.images:
-            self.html.append(escape(it.text or ("\n" if "BREAK" in it.kind.name else ""), quote=True).replace("&#x27;", "'"))
+            self.html.append(escape(event.text or ("\n" if "BREAK" in event.kind.name else ""), quote=True).replace("&#x27;", "'"))
             return
-        if len(self.images) == 1 and it.element == Element.IMAGE:
-            self.html.append(f'<img src="{address(it.target)}" alt="')
+        if len(self.images) == 1 and event.element == Element.IMAGE:
+            self.html.append(f'<img src="{address(event.target)}" alt="')
         elif not self.images:
-            self.html.append(self.returned(it))
+            self.html.append(self.returned(event))
 
-    def returned(self, it):
-        if it.kind in (EventKind.START, EventKind.END):
-            return self.tag(it, it.kind == EventKind.START)
+    def returned(self, event):
+        if event.kind in (EventKind.START, EventKind.END):
+            return self.tag(event, event.kind == EventKind.START)
         return {
-            EventKind.TEXT: lambda: text(it.text), EventKind.CODE: lambda: f"<code>{text(it.text)}</code>",
-            EventKind.HTML: lambda: it.text, EventKind.INLINE_HTML: lambda: it.text, EventKind.SOFT_BREAK: lambda: "\n",
+            EventKind.TEXT: lambda: text(event.text), EventKind.CODE: lambda: f"<code>{text(event.text)}</code>",
+            EventKind.HTML: lambda: event.text, EventKind.INLINE_HTML: lambda: event.text, EventKind.SOFT_BREAK: lambda: "\n",
             EventKind.HARD_BREAK: lambda: "<br />\n", EventKind.RULE: lambda: "<hr />\n",
-        }[it.kind]()
+        }[event.kind]()
 
-    def tag(self, it, is_start):
-        if it.element == Element.HEADING:
-            return f"<h{it.level}>" if is_start else f"</h{it.level}>\n"
-        if it.element == Element.CODE_BLOCK:
-            name = f' class="language-{text(it.text.split()[0])}"' if it.text and it.text.split() else ""
+    def tag(self, event, is_start):
+        if event.element == Element.HEADING:
+            return f"<h{event.level}>" if is_start else f"</h{event.level}>\n"
+        if event.element == Element.CODE_BLOCK:
+            name = f' class="language-{text(event.text.split()[0])}"' if event.text and event.text.split() else ""
             return f"<pre><code{name}>" if is_start else "</code></pre>\n"
-        if it.element == Element.LIST:
+        if event.element == Element.LIST:
             if is_start:
-                self.images, self.lists = self.images, getattr(self, "lists", []) + [it.number]
-                return "<ul>\n" if it.number is None else "<ol>\n" if it.number == 1 else f'<ol start="{it.number}">\n'
+                self.images, self.lists = self.images, getattr(self, "lists", []) + [event.number]
+                return "<ul>\n" if event.number is None else "<ol>\n" if event.number == 1 else f'<ol start="{event.number}">\n'
             return "</ul>\n" if self.lists.pop() is None else "</ol>\n"
-        if it.element == Element.LINK:
-            return f'<a href="{address(it.target)}"{titled(it.target).rstrip() and " " + titled(it.target).rstrip()}>' if is_start else "</a>"
-        if it.element == Element.HTML_BLOCK:
+        if event.element == Element.LINK:
+            return f'<a href="{address(event.target)}"{titled(event.target).rstrip() and " " + titled(event.target).rstrip()}>' if is_start else "</a>"
+        if event.element == Element.HTML_BLOCK:
             return ""
-        name = OPEN[it.element]
+        name = OPEN[event.element]
         return f"<{name}>" if is_start else f"</{name}>\n" if name in ("p", "blockquote", "li") else f"</{name}>"
 
 
@@ -124,8 +124,8 @@ def address(target):
 
 def html_of(page):
     writer = Writer()
-    for it in mds.events(page):
-        writer.add(it)
+    for event in mds.events(page):
+        writer.add(event)
     return "".join(writer.html)
 
 
@@ -148,26 +148,26 @@ class Events(unittest.TestCase):
     def test_examples(self):
         """Each example of the specification: by `html`, of a str and of bytes, and by events."""
         found = list(spec.examples(spec.COMMONMARK))
-        for it in found:
-            page, expected = it.page.decode(), it.html.decode()
-            self.assertEqual(mds.html(page, safe=False), expected, it)
-            self.assertEqual(mds.html(it.page, safe=False), it.html, it)
-            self.assertEqual(without_lines(html_of(page)), without_lines(expected), it)
+        for example in found:
+            page, expected = example.page.decode(), example.html.decode()
+            self.assertEqual(mds.html(page, safe=False), expected, example)
+            self.assertEqual(mds.html(example.page, safe=False), example.html, example)
+            self.assertEqual(without_lines(html_of(page)), without_lines(expected), example)
         hold(self, "examples_of_spec", len(found))
 
     def test_texts(self):
         """Of a str texts are str, in characters; of bytes they are bytes."""
         page = "[é](ü 'ä')ß"
-        link = next(it for it in mds.events(page) if it.target)
+        link = next(event for event in mds.events(page) if event.target)
         self.assertEqual((link.target.destination, link.target.title, link.stop), ("ü", "ä", 10))
-        link = next(it for it in mds.events(page.encode()) if it.target)
+        link = next(event for event in mds.events(page.encode()) if event.target)
         self.assertEqual((link.target.destination, link.target.title, link.stop), ("ü".encode(), "ä".encode(), 13))
-        self.assertEqual([it.text for it in mds.events("a\0") if it.text is not None], ["a\0"])
+        self.assertEqual([event.text for event in mds.events("a\0") if event.text is not None], ["a\0"])
 
     def test_more_than_there_is_room_for(self):
         """More events, and longer texts, than the first buffers hold."""
-        self.assertEqual(sum(it.kind == EventKind.SOFT_BREAK for it in mds.events("a\n" * 5000)), 4999)
-        found = [it.target.destination for it in mds.events("[a]\n" * 100 + f"\n[a]: {'b' * 5000}\n") if it.target]
+        self.assertEqual(sum(event.kind == EventKind.SOFT_BREAK for event in mds.events("a\n" * 5000)), 4999)
+        found = [event.target.destination for event in mds.events("[a]\n" * 100 + f"\n[a]: {'b' * 5000}\n") if event.target]
         self.assertEqual(found, ["b" * 5000] * 100)
 
     def test_refusals(self):

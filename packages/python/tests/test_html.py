@@ -15,7 +15,7 @@ EXTENSIONS = {"tables": "table", "strikethrough": "strikethrough", "tasks": "tas
 
 def asked_of(row):
     """The extensions that a row asks for."""
-    return [EXTENSIONS[it] for it in row.words]
+    return [EXTENSIONS[word] for word in row.words]
 
 
 class Html(unittest.TestCase):
@@ -35,8 +35,8 @@ class Html(unittest.TestCase):
     def test_rows_of_safe_html(self):
         """But for those that name a scheme, as no call of the package does."""
         rows = tables.pages("safe_html")
-        of_schemes = [it for it in rows if any(word.startswith("scheme=") for word in it.words)]
-        others = [it for it in rows if it not in of_schemes]
+        of_schemes = [row for row in rows if any(word.startswith("scheme=") for word in row.words)]
+        others = [row for row in rows if row not in of_schemes]
         self.are_rows(others)
         self.are_rows(others, safe=True)
         hold(self, "safe_html", len(others))
@@ -44,8 +44,8 @@ class Html(unittest.TestCase):
 
     def test_numbers_of_rows(self):
         """A row with a number is of that example of CommonMark 0.31.2, and its HTML the one that stands there."""
-        examples = {str(it.number): it for it in spec.examples(spec.COMMONMARK)}
-        rows = [it for call in tables.PAGE_CALLS for it in tables.pages(call) if it.example in examples]
+        examples = {str(example.number): example for example in spec.examples(spec.COMMONMARK)}
+        rows = [row for call in tables.PAGE_CALLS for row in tables.pages(call) if row.example in examples]
         for row in rows:
             example = examples[row.example]
             self.assertIn(row.text, example.page, row.where)

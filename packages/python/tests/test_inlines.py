@@ -31,27 +31,27 @@ class Returned:
 
     def __init__(self, data, at, end, extensions, definitions):
         self.data, self.end, self.definitions = data, end, definitions
-        found = mds.scan_inlines(data, at, end, labels=[it[0] for it in definitions], **extensions)
+        found = mds.scan_inlines(data, at, end, labels=[definition[0] for definition in definitions], **extensions)
         self.text = "".join(map(self.inline, found))
 
     def part(self, start, stop):
         found = self.data[start:stop]
         return found if isinstance(found, str) else bytes(found).decode()
 
-    def inline(self, it):
-        if it.kind in TAGS:
-            return TAGS[it.kind]
-        if it.link:
-            return f"<{'img' if it.kind == InlineKind.IMAGE else 'a'} {self.target(it.link)}>"
-        if it.kind in (InlineKind.URI, InlineKind.EMAIL):
-            address = self.part(*it.content)
-            return f"<a {'mailto:' * (it.kind == InlineKind.EMAIL)}{address}|>{address}</>"
-        if it.kind == InlineKind.CODE:
-            return f"<code>{self.code(self.part(*it.content))}</code>"
-        text = self.part(it.start, it.stop)
-        if it.kind == InlineKind.HTML:
+    def inline(self, inline):
+        if inline.kind in TAGS:
+            return TAGS[inline.kind]
+        if inline.link:
+            return f"<{'img' if inline.kind == InlineKind.IMAGE else 'a'} {self.target(inline.link)}>"
+        if inline.kind in (InlineKind.URI, InlineKind.EMAIL):
+            address = self.part(*inline.content)
+            return f"<a {'mailto:' * (inline.kind == InlineKind.EMAIL)}{address}|>{address}</>"
+        if inline.kind == InlineKind.CODE:
+            return f"<code>{self.code(self.part(*inline.content))}</code>"
+        text = self.part(inline.start, inline.stop)
+        if inline.kind == InlineKind.HTML:
             return f"<html>{text}</html>"
-        return text if it.kind == InlineKind.TEXT else mds.unescape(text)
+        return text if inline.kind == InlineKind.TEXT else mds.unescape(text)
 
     def code(self, text):
         text = text.replace("\n", " ")
@@ -65,7 +65,7 @@ class Returned:
         else:
             label = mds.scan_link_label(self.data, link.label.start, self.end)
             assert label.end == link.label.stop + 1
-            parts = next(it[1:] for it in self.definitions if mds.labels_match(it[0], label.text))
+            parts = next(definition[1:] for definition in self.definitions if mds.labels_match(definition[0], label.text))
         return "|".join(map(mds.unescape, parts))
 
 
@@ -91,10 +91,10 @@ class Inlines(unittest.TestCase):
         for text, target, label in rows:
             self.assertEqual(next(mds.scan_inlines(text, labels=("B",))).link, mds.Link(target, len(text), None, None, label))
         code, uri, email = mds.scan_inlines(b"``a``<bb:c><d@e>")
-        self.assertEqual([it.content for it in (code, uri, email)], [Span(2, 3), Span(6, 10), Span(12, 15)])
+        self.assertEqual([inline.content for inline in (code, uri, email)], [Span(2, 3), Span(6, 10), Span(12, 15)])
 
     def test_labels(self):
-        kinds = lambda *labels: [it.kind for it in mds.scan_inlines("[Ä]", labels=labels)]
+        kinds = lambda *labels: [inline.kind for inline in mds.scan_inlines("[Ä]", labels=labels)]
         self.assertEqual(kinds("ä"), [InlineKind.LINK, InlineKind.TEXT, InlineKind.LINK_END])
         self.assertEqual(kinds("b", "Ä".encode(), bytearray(b"c")), kinds("ä"))
         self.assertEqual(kinds(*map(str, range(10000)), "ä"), kinds("ä"))
@@ -108,7 +108,7 @@ class Inlines(unittest.TestCase):
     def test_strikethrough(self):
         """Examples of GitHub Flavored Markdown 0.29, where they ask for it and where not."""
         marks = {InlineKind.STRIKETHROUGH: "<del>", InlineKind.STRIKETHROUGH_END: "</del>"}
-        struck = lambda text, **asked: "".join(marks.get(it.kind, text[it.start : it.stop]) for it in mds.scan_inlines(text, **asked))
+        struck = lambda text, **asked: "".join(marks.get(inline.kind, text[inline.start : inline.stop]) for inline in mds.scan_inlines(text, **asked))
         text = "~~Hi~~ Hello, ~there~ world!"  # 491
         self.assertEqual(struck(text, strikethrough=True), "<del>Hi</del> Hello, <del>there</del> world!")
         self.assertEqual(struck(text, strikethrough=False), text)
@@ -125,7 +125,7 @@ class Inlines(unittest.TestCase):
         self.assertEqual((text.kind, end.start, end.stop), (InlineKind.TEXT, 8, 10))
         self.assertEqual((link.kind, link.stop, link.link.destination), (InlineKind.LINK, 13, Span(12, 13)))
         self.assertEqual((last.kind, last.start, last.stop), (InlineKind.LINK_END, 13, 15))
-        kinds = lambda text, **asked: {it.kind for it in mds.scan_inlines(text, **asked)}
+        kinds = lambda text, **asked: {inline.kind for inline in mds.scan_inlines(text, **asked)}
         for text in ("[[]]", "[[a]", "[[a\nb]]", "[[a|b](c)"):
             self.assertLessEqual(kinds(text, wikilinks=True), {InlineKind.TEXT, InlineKind.SOFT_BREAK})
         self.assertEqual(kinds("~[[a]]~"), {InlineKind.TEXT})
@@ -143,8 +143,8 @@ class Inlines(unittest.TestCase):
     def test_many(self):
         """More than a first buffer holds, which nest."""
         found = list(mds.scan_inlines("*a " * 5000 + "b*" * 5000))
-        self.assertEqual(sum(it.kind == InlineKind.EMPHASIS for it in found), 5000)
-        self.assertEqual(sum(it.kind == InlineKind.EMPHASIS_END for it in found), 5000)
+        self.assertEqual(sum(inline.kind == InlineKind.EMPHASIS for inline in found), 5000)
+        self.assertEqual(sum(inline.kind == InlineKind.EMPHASIS_END for inline in found), 5000)
 
 
 if __name__ == "__main__":

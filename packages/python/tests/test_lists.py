@@ -6,8 +6,8 @@ import tables
 from test_rows import hold
 
 
-def described(it):
-    return f"{chr(it.delimiter)}{it.start}@{it.depth}:{it.line + 1}-{it.line + it.lines} {'loose' if it.is_loose else 'tight'}"
+def described(block):
+    return f"{chr(block.delimiter)}{block.start}@{block.depth}:{block.line + 1}-{block.line + block.lines} {'loose' if block.is_loose else 'tight'}"
 
 
 class Lists(unittest.TestCase):
@@ -23,8 +23,8 @@ class Lists(unittest.TestCase):
     def test_many(self):
         """More than a first buffer holds."""
         found = list(mds.scan_lists("- a\n+ a\n" * 1000))
-        self.assertEqual([it.line for it in found], list(range(2000)))
-        self.assertEqual({it.lines for it in found}, {1})
+        self.assertEqual([block.line for block in found], list(range(2000)))
+        self.assertEqual({block.lines for block in found}, {1})
 
     def test_no_page(self):
         self.assertEqual(list(mds.scan_lists(b"")), [])

@@ -69,7 +69,7 @@ class CodeSpans(unittest.TestCase):
 
     def test_runs_that_grow(self):
         """Twice as long a text of runs, each longer than those before, takes at most 2.2 times as many lines of the example."""
-        once, twice = (lines_run(" ".join("`" * it for it in range(1, count))) for count in (200, 283))
+        once, twice = (lines_run(" ".join("`" * length for length in range(1, count))) for count in (200, 283))
         self.assertLessEqual(twice, 2.2 * once)
 
 

@@ -18,43 +18,43 @@ PUNCTUATION = b"!\"#$%&'()*+,-./:;<=>?@[\\]^_`{|}~"
 
 class Bytes(unittest.TestCase):
     def test_classes(self):
-        for it in range(256):
-            self.assertEqual(mds.is_whitespace(it), it in b" \t\n\v\f\r")
-            self.assertEqual(mds.is_whitespace_in_line(it), it in b" \t\v\f")
-            self.assertEqual(mds.is_punctuation(it), it in PUNCTUATION)
+        for byte in range(256):
+            self.assertEqual(mds.is_whitespace(byte), byte in b" \t\n\v\f\r")
+            self.assertEqual(mds.is_whitespace_in_line(byte), byte in b" \t\v\f")
+            self.assertEqual(mds.is_punctuation(byte), byte in PUNCTUATION)
 
     def test_character_classes(self):
         """As Python's own tables have them, of the characters of Unicode 3.2, whose categories stay."""
-        for it in [it for it in range(0x30000) if unicodedata.ucd_3_2_0.category(chr(it)) != "Cn"]:
-            category = unicodedata.category(chr(it))
-            is_space = category == "Zs" or it in (9, 10, 12, 13)
-            self.assertEqual(mds.is_unicode_whitespace(it), is_space, hex(it))
-            self.assertEqual(mds.is_unicode_punctuation(chr(it)), category[0] in "PS", hex(it))
-        for it in (0xD800, 0x110000, 2**32 - 1):
-            self.assertFalse(mds.is_unicode_whitespace(it) or mds.is_unicode_punctuation(it))
-        for it in (-1, 2**32, "", "ab"):
-            self.assertRaises(ValueError, mds.is_unicode_whitespace, it)
-            self.assertRaises(ValueError, mds.is_unicode_punctuation, it)
+        for code in [code for code in range(0x30000) if unicodedata.ucd_3_2_0.category(chr(code)) != "Cn"]:
+            category = unicodedata.category(chr(code))
+            is_space = category == "Zs" or code in (9, 10, 12, 13)
+            self.assertEqual(mds.is_unicode_whitespace(code), is_space, hex(code))
+            self.assertEqual(mds.is_unicode_punctuation(chr(code)), category[0] in "PS", hex(code))
+        for code in (0xD800, 0x110000, 2**32 - 1):
+            self.assertFalse(mds.is_unicode_whitespace(code) or mds.is_unicode_punctuation(code))
+        for value in (-1, 2**32, "", "ab"):
+            self.assertRaises(ValueError, mds.is_unicode_whitespace, value)
+            self.assertRaises(ValueError, mds.is_unicode_punctuation, value)
         self.assertRaises(TypeError, mds.is_unicode_whitespace, b" ")
 
     def test_no_bytes(self):
-        for it in (-1, 256, 2**64 + 32):
-            self.assertRaises(ValueError, mds.is_whitespace, it)
-            self.assertRaises(ValueError, mds.scan_ch, b" ", byte=it)
-        for it in ("", "ab", "\xe9", b"", b"ab"):
-            self.assertRaises(ValueError, mds.scan_ch, b" ", byte=it)
-        self.assertEqual([mds.scan_ch(b"#", byte=it) for it in (35, "#", b"#", "b")], [1, 1, 1, 0])
+        for value in (-1, 256, 2**64 + 32):
+            self.assertRaises(ValueError, mds.is_whitespace, value)
+            self.assertRaises(ValueError, mds.scan_ch, b" ", byte=value)
+        for value in ("", "ab", "\xe9", b"", b"ab"):
+            self.assertRaises(ValueError, mds.scan_ch, b" ", byte=value)
+        self.assertEqual([mds.scan_ch(b"#", byte=value) for value in (35, "#", b"#", "b")], [1, 1, 1, 0])
 
     def test_numbers(self):
-        for it in (-1, 2**64):
-            self.assertRaises(ValueError, mds.calc_indent, b" ", limit=it)
-            self.assertRaises(ValueError, mds.LineStart(b" ").space, it)
-            self.assertRaises(ValueError, mds.HtmlScanGuard(b"<!").scan, it)
-            self.assertRaises(ValueError, mds.run_inline_html, b"<!", [it])
-            self.assertRaises(ValueError, mds.scan_link_dest, b"", max_next=it)
-            self.assertRaises(ValueError, mds.scan_reference_definition, b"", max_next=it)
-            self.assertRaises(ValueError, mds.scan_wikilink_pipe, b"", count=it)
-            self.assertRaises(ValueError, mds.scan_closing_code_fence, b"", byte="~", count=it)
+        for number in (-1, 2**64):
+            self.assertRaises(ValueError, mds.calc_indent, b" ", limit=number)
+            self.assertRaises(ValueError, mds.LineStart(b" ").space, number)
+            self.assertRaises(ValueError, mds.HtmlScanGuard(b"<!").scan, number)
+            self.assertRaises(ValueError, mds.run_inline_html, b"<!", [number])
+            self.assertRaises(ValueError, mds.scan_link_dest, b"", max_next=number)
+            self.assertRaises(ValueError, mds.scan_reference_definition, b"", max_next=number)
+            self.assertRaises(ValueError, mds.scan_wikilink_pipe, b"", count=number)
+            self.assertRaises(ValueError, mds.scan_closing_code_fence, b"", byte="~", count=number)
 
     def test_places(self):
         for at, end in ((2, None), (-1, None), (0, 2), (1, 0), (0, -1)):
@@ -75,15 +75,15 @@ class Refusals(unittest.TestCase):
         self.assertRaises(mds.RefusalError, errors.stated, 999)
 
     def test_earlier_names(self):
-        kinds = [it for name, it in vars(mds).items() if name.endswith("Error")]
+        kinds = [kind for name, kind in vars(mds).items() if name.endswith("Error")]
         self.assertEqual(len(kinds), 11)
-        for it in kinds:
-            self.assertTrue(issubclass(it, mds.RefusalError))
-            if it is not mds.LoneSurrogateError:
-                self.assertIs(getattr(mds, it.__name__.removesuffix("Error")), it)
+        for kind in kinds:
+            self.assertTrue(issubclass(kind, mds.RefusalError))
+            if kind is not mds.LoneSurrogateError:
+                self.assertIs(getattr(mds, kind.__name__.removesuffix("Error")), kind)
 
     def test_texts(self):
-        for call in (mds.unescape, mds.label_key, lambda it: mds.labels_match(it, b"")):
+        for call in (mds.unescape, mds.label_key, lambda text: mds.labels_match(text, b"")):
             self.assertRaises(mds.NotUtf8Error, call, b"a]\xff")
         self.assertRaises(mds.EmptyError, mds.scan_entity, b"")
         self.assertRaises(mds.TooLargeError, mds.calc_indent, b"", limit=2**64 - 1)
@@ -154,26 +154,26 @@ class Texts(unittest.TestCase):
 
 class Package(unittest.TestCase):
     def test_each_function_is_called(self):
-        text = "".join(it.read_text() for it in FOLDER.glob("*.py") if it.name != "_c.py")
-        self.assertEqual([it for it in _c.FUNCTIONS if f'("{it}")' not in text], [])
+        text = "".join(path.read_text() for path in FOLDER.glob("*.py") if path.name != "_c.py")
+        self.assertEqual([name for name in _c.FUNCTIONS if f'("{name}")' not in text], [])
 
     def test_public_names(self):
-        modules = {it.name for it in pkgutil.iter_modules([str(FOLDER)])}
-        earlier = {it.removesuffix("Error") for it in mds.__all__ if it.endswith("Error")} - {"LoneSurrogate"}
-        self.assertEqual(set(mds.__all__) | earlier, {it for it in dir(mds) if not it.startswith("_")} - modules)
+        modules = {module.name for module in pkgutil.iter_modules([str(FOLDER)])}
+        earlier = {name.removesuffix("Error") for name in mds.__all__ if name.endswith("Error")} - {"LoneSurrogate"}
+        self.assertEqual(set(mds.__all__) | earlier, {name for name in dir(mds) if not name.startswith("_")} - modules)
         self.assertTrue((FOLDER / "py.typed").is_file())
 
     def test_examples(self):
         """Each call has an example, and they are so many."""
         tried = 0
-        self.assertEqual([it for it in mds.__all__ if not hasattr(mds, it)], [])
-        for name in [it.name for it in pkgutil.iter_modules([str(FOLDER)])]:
+        self.assertEqual([name for name in mds.__all__ if not hasattr(mds, name)], [])
+        for name in [module.name for module in pkgutil.iter_modules([str(FOLDER)])]:
             found = doctest.testmod(importlib.import_module(f"proved_markdown.{name}"))
             self.assertEqual(found.failed, 0)
             tried += found.attempted
-        calls = [getattr(mds, it) for it in mds.__all__ if it[0].islower()]
-        calls += [it for kind in (mds.LineStart, mds.HtmlScanGuard) for name, it in vars(kind).items() if not name.startswith("_")]
-        self.assertEqual([it for it in calls if ">>>" not in (it.__doc__ or "") and callable(it)], [])
+        calls = [getattr(mds, name) for name in mds.__all__ if name[0].islower()]
+        calls += [call for kind in (mds.LineStart, mds.HtmlScanGuard) for name, call in vars(kind).items() if not name.startswith("_")]
+        self.assertEqual([call for call in calls if ">>>" not in (call.__doc__ or "") and callable(call)], [])
         hold(self, "examples", tried)
 
 

@@ -20,11 +20,11 @@ LONG = "aé€🍔\n# b\r\n" * 50 + "c" * 139 + "\n" + "é" * 32
 class Arguments(unittest.TestCase):
     def test_end_is_third(self):
         """Of each call on a page, and what it takes beside the places is named."""
-        for name in [it for it in mds.__all__ if it[0].islower()]:
+        for name in [name for name in mds.__all__ if name[0].islower()]:
             given = list(inspect.signature(getattr(mds, name)).parameters.values())
             if given[0].name == "data" and name != "run_inline_html":
-                self.assertEqual([it.name for it in given[:3]], ["data", "at", "end"], name)
-                self.assertTrue(all(it.kind == inspect.Parameter.KEYWORD_ONLY for it in given[3:]), name)
+                self.assertEqual([parameter.name for parameter in given[:3]], ["data", "at", "end"], name)
+                self.assertTrue(all(parameter.kind == inspect.Parameter.KEYWORD_ONLY for parameter in given[3:]), name)
 
     def test_places_come_first(self):
         self.assertEqual(mds.unescape(b"&amp;x&amp;y", 5, 11), b"x&")
@@ -72,7 +72,7 @@ class Pages(unittest.TestCase):
         for page in (data, bytearray(data), memoryview(data), memoryview(b"-" + data)[1:], mapped, array.array("B", data)):
             self.assertEqual(mds.scan_atx_heading(page, 2, 6), 1)
             self.assertEqual(mds.unescape(page, 6), b"&")
-            self.assertEqual([it.next for it in mds.lines(page)], [2, 6, 11])
+            self.assertEqual([line.next for line in mds.lines(page)], [2, 6, 11])
             self.assertEqual(mds.LineStart(page, 2).place, 2)
         self.assertEqual(mds.scan_line(bytearray()), 0)
 
@@ -93,9 +93,9 @@ class Pages(unittest.TestCase):
     def test_places_of_str(self):
         """Each place, counted by Python."""
         self.assertEqual(len(LONG) % _pages.STEP, 32)
-        at = [it.end() for it in re.finditer(r"\r\n|\n|$", LONG)]
+        at = [match.end() for match in re.finditer(r"\r\n|\n|$", LONG)]
         for place in range(len(LONG) + 1):
-            self.assertEqual(mds.scan_line(LONG, place), min(it for it in at if it > place or it == len(LONG)))
+            self.assertEqual(mds.scan_line(LONG, place), min(stop for stop in at if stop > place or stop == len(LONG)))
             self.assertEqual(mds.scan_rev_while(LONG, 0, place, accepted=b""), place)
             self.assertEqual(mds.LineStart(LONG, place).place, place)
         self.assertEqual(mds.scan_while("é#", accepted=b"\xc3"), 0)  # inside of a character
@@ -110,7 +110,7 @@ class Pages(unittest.TestCase):
 
         for text in ("a\nb", "é\nb"):
             self.assertEqual((mds.scan_line(Odd(text)), mds.scan_line(Odd(text), 2)), (2, 3))
-            self.assertEqual([it.place for it in (mds.LineStart(Odd(text), 1),)], [1])
+            self.assertEqual([start.place for start in (mds.LineStart(Odd(text), 1),)], [1])
 
     def test_answers_of_str(self):
         page = "é [ẞ é](<ü> 'ö') &auml; \\* <é>"
@@ -140,7 +140,7 @@ class Pages(unittest.TestCase):
 class Lines(unittest.TestCase):
     def test_lines(self):
         for page in ("", "a", "\n", "a\r\nb\rc\n\nd", "\r\n\r", "é\r\n🍔", LONG):
-            expected = [mds.Line(it.start(), it.end(1), it.end()) for it in re.finditer(r"([^\r\n]*)(?:\r\n|\r|\n|$)", page) if it[0]]
+            expected = [mds.Line(match.start(), match.end(1), match.end()) for match in re.finditer(r"([^\r\n]*)(?:\r\n|\r|\n|$)", page) if match[0]]
             self.assertEqual(list(mds.lines(page)), expected)
         self.assertEqual(list(mds.lines(b"a\r\nb\r\nc", 1, 5)), [mds.Line(1, 1, 3), mds.Line(3, 4, 5)])
         self.assertRaises(IndexError, mds.lines, b"a", 2)

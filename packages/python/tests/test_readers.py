@@ -15,12 +15,12 @@ def fields_of(block):
 def together(blocks):
     """The same, where definitions are one block with what stands after them: the first and the last byte of each, and its lines."""
     found, before = [], None
-    for it in blocks:
-        part = it.start, it.stop, it.line, it.lines, it.containers, it.kept
-        if before == BlockKind.DEFINITION and it.kind in (BlockKind.DEFINITION, BlockKind.PARAGRAPH, BlockKind.SETEXT):
-            part = found[-1][0], it.stop, found[-1][2], found[-1][3] + it.lines, it.containers, found.pop()[5]
+    for block in blocks:
+        part = block.start, block.stop, block.line, block.lines, block.containers, block.kept
+        if before == BlockKind.DEFINITION and block.kind in (BlockKind.DEFINITION, BlockKind.PARAGRAPH, BlockKind.SETEXT):
+            part = found[-1][0], block.stop, found[-1][2], found[-1][3] + block.lines, block.containers, found.pop()[5]
         found.append(part)
-        before = it.kind
+        before = block.kind
     return found
 
 
@@ -35,15 +35,15 @@ class Readers(unittest.TestCase):
                 found = list(read_blocks(page[at : at + size] for at in range(0, len(page), size)))
                 self.assertEqual(together(found), together(whole), page)
                 if b"]:" not in page:
-                    self.assertEqual([fields_of(it) for it in found], [fields_of(it) for it in whole], page)
+                    self.assertEqual([fields_of(block) for block in found], [fields_of(block) for block in whole], page)
 
     def test_when_blocks_are_returned(self):
         reader = BlockReader()
         self.assertEqual(reader.feed(b"# A\r"), [])  # LF may follow
-        self.assertEqual([it.content() for it in reader.feed(b"b\n")], [b"A"])
-        self.assertEqual([it.content() for it in reader.feed(bytearray(b"---\nc"))], [])  # no whole line follows yet
-        self.assertEqual([it.kind for it in reader.feed(memoryview(b"\n"))], [BlockKind.SETEXT])
-        self.assertEqual([it.content() for it in reader.close()], [b"c"])
+        self.assertEqual([block.content() for block in reader.feed(b"b\n")], [b"A"])
+        self.assertEqual([block.content() for block in reader.feed(bytearray(b"---\nc"))], [])  # no whole line follows yet
+        self.assertEqual([block.kind for block in reader.feed(memoryview(b"\n"))], [BlockKind.SETEXT])
+        self.assertEqual([block.content() for block in reader.close()], [b"c"])
         self.assertEqual(reader.close(), [])
         self.assertEqual(list(read_blocks([])), [])
 
@@ -55,17 +55,17 @@ class Readers(unittest.TestCase):
     def test_footnotes_are_asked_for(self):
         page = [b"[^a]: b\n", b"\n", b"    c\n"]
         blocks = list(read_blocks(page, footnotes=True))
-        self.assertEqual([it.containers for it in blocks], [(FootnoteDefinition(0),)] * 3)
-        self.assertEqual([it.content() for it in blocks], [b"b", b"", b"c"])
-        self.assertEqual([it.containers for it in read_blocks(page)], [()] * 3)
+        self.assertEqual([block.containers for block in blocks], [(FootnoteDefinition(0),)] * 3)
+        self.assertEqual([block.content() for block in blocks], [b"b", b"", b"c"])
+        self.assertEqual([block.containers for block in read_blocks(page)], [()] * 3)
 
     def test_definition_lists_are_asked_for(self):
         page = [b"apple\n\n: red\n: round\n", b"  fruit"]
         blocks = list(read_blocks(page, definition_lists=True))
-        self.assertEqual([it.containers for it in blocks], [(), (), (TermDefinition(7, 2),), (TermDefinition(13, 2),)])
-        self.assertEqual([(it.content(), it.kept) for it in blocks], [(b"apple", 0), (b"", 0), (b"red", 0), (b"round\nfruit", 0)])
-        self.assertEqual([it.containers for it in read_blocks(page)], [()] * 3)
-        self.assertEqual([it.containers for it in read_blocks(page, footnotes=True)], [()] * 3)
+        self.assertEqual([block.containers for block in blocks], [(), (), (TermDefinition(7, 2),), (TermDefinition(13, 2),)])
+        self.assertEqual([(block.content(), block.kept) for block in blocks], [(b"apple", 0), (b"", 0), (b"red", 0), (b"round\nfruit", 0)])
+        self.assertEqual([block.containers for block in read_blocks(page)], [()] * 3)
+        self.assertEqual([block.containers for block in read_blocks(page, footnotes=True)], [()] * 3)
 
     def test_deep_and_long(self):
         reader = BlockReader()

@@ -66,7 +66,7 @@ class Rows(unittest.TestCase):
     def is_html_run(self, row):
         for data, end in ((row.text, None), (row.text + AFTER, len(row.text))):
             status, run = outcome_of(mds.run_inline_html, data, row.given, end=end)
-            ends = [NONE if it is None else it for it in getattr(run, "run", run)]
+            ends = [NONE if place is None else place for place in getattr(run, "run", run)]
             self.assertEqual((NAMES[status], ends), (row.status, row.answers), row.where)
 
     def is_line_run(self, row):
@@ -81,25 +81,25 @@ class Rows(unittest.TestCase):
             if status == _c.OK:
                 status, more = outcome_of(mds.run_line, start, row.given[first:])
                 run += getattr(more, "run", more)
-            answers = [self.answer(kind, it) for (kind, _), it in zip(row.given, getattr(run, "run", run))]
+            answers = [self.answer(kind, answer) for (kind, _), answer in zip(row.given, getattr(run, "run", run))]
             found = NAMES[status], data.length(start.place), as_bytes(mds.line_rest(start)), answers
             self.assertEqual(found, (row.status, row.offset, row.rest, row.answers), f"{row.where}, {form}")
 
     @staticmethod
-    def answer(kind, it):
+    def answer(kind, returned):
         """An answer of a run as C has it."""
         if kind == _c.LIST:
-            return (True, it.delimiter, it.start, it.indent) if it else (False, 0, 0, 0)
+            return (True, returned.delimiter, returned.start, returned.indent) if returned else (False, 0, 0, 0)
         if kind in (_c.UPTO, _c.DEFINITION):
-            return (it is not None, 0, 0, it or 0)
-        return (it, 0, 0, 0)
+            return (returned is not None, 0, 0, returned or 0)
+        return (returned, 0, 0, 0)
 
     def is_line_rest(self, row):
         for form in FORMS:
             data = Data(row.text, form)
             start = mds.LineStart(data.data, data.at, data.end)
-            for name, it in zip(("place", "pending", "phase"), row.given, strict=True):
-                setattr(start._numbers, name, it)
+            for name, number in zip(("place", "pending", "phase"), row.given, strict=True):
+                setattr(start._numbers, name, number)
             self.assertEqual(("MDS_OK", as_bytes(mds.line_rest(start))), (row.status, row.rest), f"{row.where}, {form}")
 
     def test_skips(self):

@@ -12,10 +12,10 @@ def of_str(page: str) -> None:
     assert_type(mds.scan_link_label(page), Optional[mds.Label[str]])
     assert_type(mds.line_rest(mds.LineStart(page)), str)
     assert_type(mds.scan_blocks(page), Iterator[mds.Block[str]])
-    assert_type([it.content() for it in mds.scan_blocks(page)], list[str])
+    assert_type([block.content() for block in mds.scan_blocks(page)], list[str])
     assert_type(mds.scan_inlines(page, labels=[page], strikethrough=True, wikilinks=True), Iterator[mds.Inline])
     assert_type(mds.events(page, extensions=["table"]), Iterator[mds.Event[str]])
-    assert_type([it.target.title for it in mds.events(page) if it.target], list[str])
+    assert_type([event.target.title for event in mds.events(page) if event.target], list[str])
 
 
 def of_bytes(page: bytes) -> None:
@@ -23,9 +23,9 @@ def of_bytes(page: bytes) -> None:
     assert_type(mds.scan_entity(page), Optional[mds.Entity[bytes]])
     assert_type(mds.scan_html_tag_over_lines(page, skips=mds.Skips(page)), Optional[mds.Tag[bytes]])
     assert_type(mds.line_rest(mds.LineStart(page)), bytes)
-    assert_type([it.content() for it in mds.scan_blocks(page)], list[bytes])
-    assert_type([it.containers for it in mds.scan_blocks(page)], list[tuple[mds.Container, ...]])
-    assert_type([it.text for it in mds.events(page)], list[Optional[bytes]])
+    assert_type([block.content() for block in mds.scan_blocks(page)], list[bytes])
+    assert_type([block.containers for block in mds.scan_blocks(page)], list[tuple[mds.Container, ...]])
+    assert_type([event.text for event in mds.events(page)], list[Optional[bytes]])
 
 
 def of_pieces(pieces: list[bytes]) -> None:
@@ -48,9 +48,9 @@ def of_places(page: mds.Page) -> None:
     assert_type(mds.scan_delimiter_run(page), Optional[mds.DelimiterRun])
     assert_type(mds.interrupts_paragraph(page), bool)
     assert_type(mds.scan_html_block_start(page), Optional[mds.HtmlBlockKind])
-    assert_type([it.next for it in mds.lines(page)], list[int])
-    assert_type([it.link for it in mds.scan_inlines(page)], list[Optional[mds.Link]])
-    assert_type([it.content for it in mds.scan_inlines(page, labels=(page, "a"))], list[Optional[mds.Span]])
+    assert_type([line.next for line in mds.lines(page)], list[int])
+    assert_type([inline.link for inline in mds.scan_inlines(page)], list[Optional[mds.Link]])
+    assert_type([inline.content for inline in mds.scan_inlines(page, labels=(page, "a"))], list[Optional[mds.Span]])
 
 
 of_str("&amp;")

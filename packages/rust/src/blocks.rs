@@ -290,15 +290,15 @@ pub fn scan_reference_definition(data: &[u8], max_next: usize) -> Option<Referen
 #[inline]
 #[must_use]
 pub fn scan_table_head(data: &[u8]) -> (usize, Vec<Alignment>) {
-    let mut room = [0; 64];
-    let text = raw::scan_table_head(data, &mut room);
+    let mut buffer = [0; 64];
+    let text = raw::scan_table_head(data, &mut buffer);
     let columns = |numbers: &[u8]| numbers.iter().copied().map(Alignment::of).collect();
     match text.status {
-        ffi::OK => (text.taken, columns(&room[..text.length])),
+        ffi::OK => (text.taken, columns(&buffer[..text.length])),
         ffi::TOO_SHORT => {
-            let mut room = vec![0; text.length];
-            let text = raw::scan_table_head(data, &mut room);
-            (text.taken, columns(&room))
+            let mut buffer = vec![0; text.length];
+            let text = raw::scan_table_head(data, &mut buffer);
+            (text.taken, columns(&buffer))
         }
         _ => (0, Vec::new()),
     }

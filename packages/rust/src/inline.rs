@@ -281,14 +281,14 @@ impl<'page> Page<'page> {
     #[inline]
     #[must_use]
     pub fn scan_tag(&self, start: usize) -> Option<(usize, Option<Vec<u8>>)> {
-        let mut room = [0; SMALL];
-        let tag = raw::scan_html_tag_over_lines(self.bytes, start, self.skips, &mut room);
+        let mut buffer = [0; SMALL];
+        let tag = raw::scan_html_tag_over_lines(self.bytes, start, self.skips, &mut buffer);
         match tag.status {
-            ffi::OK => Some((tag.end, (tag.length > 0).then(|| room[..tag.length].to_vec()))),
+            ffi::OK => Some((tag.end, (tag.length > 0).then(|| buffer[..tag.length].to_vec()))),
             ffi::TOO_SHORT => {
-                let mut room = vec![0; tag.length];
-                raw::scan_html_tag_over_lines(self.bytes, start, self.skips, &mut room);
-                Some((tag.end, Some(room)))
+                let mut buffer = vec![0; tag.length];
+                raw::scan_html_tag_over_lines(self.bytes, start, self.skips, &mut buffer);
+                Some((tag.end, Some(buffer)))
             }
             _ => None,
         }
@@ -316,20 +316,20 @@ type LabelText = Result<Range<usize>, String>;
 fn label_at(bytes: &[u8], start: usize, skips: &[Skip], is_in_table: bool) -> Option<(usize, LabelText)> {
     // Where nothing is left out most labels stand in the bytes as they are, and need no buffer.
     let mut small;
-    let room: &mut [u8] = if skips.is_empty() {
+    let buffer: &mut [u8] = if skips.is_empty() {
         &mut []
     } else {
         small = [0; SMALL];
         &mut small
     };
-    let label = raw::scan_link_label(bytes, start, is_in_table, skips, room);
+    let label = raw::scan_link_label(bytes, start, is_in_table, skips, buffer);
     let text = match label.status {
         ffi::OK | ffi::TOO_SHORT if label.start != ffi::NONE => Ok(label.start..label.start + label.length),
-        ffi::OK => Err(string(room[..label.length].to_vec())),
+        ffi::OK => Err(string(buffer[..label.length].to_vec())),
         ffi::TOO_SHORT => {
-            let mut room = vec![0; label.length];
-            raw::scan_link_label(bytes, start, is_in_table, skips, &mut room);
-            Err(string(room))
+            let mut buffer = vec![0; label.length];
+            raw::scan_link_label(bytes, start, is_in_table, skips, &mut buffer);
+            Err(string(buffer))
         }
         _ => return None,
     };
@@ -415,12 +415,12 @@ impl<'text> HtmlScanGuard<'text> {
 #[inline]
 #[must_use]
 pub fn scan_entity(bytes: &[u8]) -> (usize, Option<Cow<'static, str>>) {
-    let mut room = [0; REFERENCE];
-    let text = raw::scan_entity(bytes, &mut room);
+    let mut buffer = [0; REFERENCE];
+    let text = raw::scan_entity(bytes, &mut buffer);
     if text.status != ffi::OK {
         return (0, None);
     }
-    (text.taken, Some(Cow::Owned(string(room[..text.length].to_vec()))))
+    (text.taken, Some(Cow::Owned(string(buffer[..text.length].to_vec()))))
 }
 
 /// The text with its backslash escapes and character references resolved, and without CR; in a cell of a table two
@@ -432,9 +432,9 @@ pub fn scan_entity(bytes: &[u8]) -> (usize, Option<Cow<'static, str>>) {
 #[inline]
 #[must_use]
 pub fn unescape(input: &str, is_in_table: bool) -> Cow<'_, str> {
-    with_room(input.len() + input.len() / 5, |room| {
-        let length = raw::unescape(input, is_in_table, room).length;
-        let text = &room[..length];
+    with_room(input.len() + input.len() / 5, |buffer| {
+        let length = raw::unescape(input, is_in_table, buffer).length;
+        let text = &buffer[..length];
         match text == input.as_bytes() {
             true => Cow::Borrowed(input),
             false => Cow::Owned(string(text.to_vec())),

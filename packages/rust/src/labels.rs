@@ -31,9 +31,9 @@ pub fn label_key(label: &str) -> String {
 }
 
 fn key_of(label: &str) -> Vec<u8> {
-    with_room(3 * label.len(), |room| {
-        let length = raw::label_key(label, room).length;
-        room[..length].to_vec()
+    with_room(3 * label.len(), |buffer| {
+        let length = raw::label_key(label, buffer).length;
+        buffer[..length].to_vec()
     })
 }
 

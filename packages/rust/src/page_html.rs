@@ -42,7 +42,7 @@ impl Extensions {
 /// ```
 #[must_use]
 pub fn html(text: &str, extensions: Extensions) -> String {
-    written(text.len(), |room| raw::html(text, extensions.bits(), room))
+    written(text.len(), |buffer| raw::html(text, extensions.bits(), buffer))
 }
 
 /// The HTML of a page by people who are not trusted: raw HTML is written as text; of links and images an address is written where it
@@ -57,7 +57,7 @@ pub fn html(text: &str, extensions: Extensions) -> String {
 /// ```
 #[must_use]
 pub fn safe_html(text: &str, extensions: Extensions) -> String {
-    written(text.len(), |room| raw::safe_html(text, extensions.bits(), &[], room))
+    written(text.len(), |buffer| raw::safe_html(text, extensions.bits(), &[], buffer))
 }
 
 /// The same as [`safe_html`], where addresses are written whose scheme is one of these, without regard to case, and relative ones.
@@ -73,18 +73,18 @@ pub fn safe_html(text: &str, extensions: Extensions) -> String {
 #[must_use]
 pub fn safe_html_with_schemes(text: &str, extensions: Extensions, schemes: &[&str]) -> String {
     let schemes = if schemes.is_empty() { &[""] } else { schemes }; // no address has this one
-    written(text.len(), |room| raw::safe_html(text, extensions.bits(), schemes, room))
+    written(text.len(), |buffer| raw::safe_html(text, extensions.bits(), schemes, buffer))
 }
 
 /// What is written where there is room, which is made anew where it is too short.
 fn written(length: usize, write: impl Fn(&mut [u8]) -> ffi::Text) -> String {
-    let mut room = vec![0; 2 * length + 64];
+    let mut buffer = vec![0; 2 * length + 64];
     loop {
-        let found = write(&mut room);
+        let found = write(&mut buffer);
         let is_short = found.status == ffi::TOO_SHORT;
-        room.resize(found.length, 0);
+        buffer.resize(found.length, 0);
         if !is_short {
-            return string(room);
+            return string(buffer);
         }
     }
 }

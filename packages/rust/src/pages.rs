@@ -258,7 +258,7 @@ pub struct BlockReader {
     needed: usize,
     has_ended: bool,
     page: ffi::OpenBlocks,
-    room: Vec<ffi::Block>,
+    structs: Vec<ffi::Block>,
     open: Arc<Open>,
     /// How much of the page is returned.
     start: usize,
@@ -349,17 +349,17 @@ impl BlockReader {
     fn read(&mut self, returned: &mut ffi::Block) -> ffi::LineBlock {
         loop {
             let text = &self.text[self.used..];
-            let found = raw::block_line(text, self.has_ended, &mut self.room, &mut self.page, returned);
+            let found = raw::block_line(text, self.has_ended, &mut self.structs, &mut self.page, returned);
             if found.status != ffi::TOO_SHORT {
                 return found;
             }
-            self.room.resize(found.depth.saturating_mul(2), ffi::Block::default());
+            self.structs.resize(found.depth.saturating_mul(2), ffi::Block::default());
         }
     }
 
     fn leaf(&mut self, kind: BlockKind, returned: ffi::Block, found: ffi::LineBlock) -> Block<'_> {
         let (start, line, used) = (self.start, self.line, self.used);
-        let begun = &self.room[found.kept..found.depth];
+        let begun = &self.structs[found.kept..found.depth];
         if !begun.is_empty() || found.kept < self.open.returned.len() {
             let open = Arc::make_mut(&mut self.open);
             open.truncate(found.kept);

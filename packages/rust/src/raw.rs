@@ -225,10 +225,10 @@ pub(crate) fn check_skips(bytes: &[u8], skips: &[Skip]) -> bool {
 
 #[inline]
 pub(crate) fn scan_html_tag_over_lines(bytes: &[u8], start: usize, skips: &[Skip], buffer: &mut [u8]) -> ffi::Tag {
-    let (room, capacity) = (buffer.as_mut_ptr(), buffer.len());
+    let (out, capacity) = (buffer.as_mut_ptr(), buffer.len());
     // SAFETY: each pointer and length are those of one slice, and what is written is a `&mut` of its own.
     let tag = unsafe {
-        ffi::mds_scan_html_tag_over_lines(front(bytes), bytes.len(), start, table(skips), skips.len(), room, capacity)
+        ffi::mds_scan_html_tag_over_lines(front(bytes), bytes.len(), start, table(skips), skips.len(), out, capacity)
     };
     if tag.status == ffi::NO_MEMORY {
         refused();
@@ -245,10 +245,10 @@ pub(crate) fn scan_link_label(
     buffer: &mut [u8],
 ) -> ffi::Label {
     let (listed, many) = (table(skips), skips.len());
-    let (room, capacity) = (buffer.as_mut_ptr(), buffer.len());
+    let (out, capacity) = (buffer.as_mut_ptr(), buffer.len());
     // SAFETY: each pointer and length are those of one slice, and what is written is a `&mut` of its own.
     let label =
-        unsafe { ffi::mds_scan_link_label(front(bytes), bytes.len(), start, in_table, listed, many, room, capacity) };
+        unsafe { ffi::mds_scan_link_label(front(bytes), bytes.len(), start, in_table, listed, many, out, capacity) };
     if label.status == ffi::NO_MEMORY {
         refused();
     }
@@ -335,9 +335,9 @@ pub(crate) fn block_content(
     buffer: &mut [u8],
 ) -> Text {
     let (listed, many) = (containers.as_ptr(), containers.len());
-    let (room, capacity) = (buffer.as_mut_ptr(), buffer.len());
+    let (out, capacity) = (buffer.as_mut_ptr(), buffer.len());
     // SAFETY: each pointer and length are those of one slice, the block is a `&`, and what is written is a `&mut` of its own.
-    returned(unsafe { ffi::mds_block_content(front(bytes), bytes.len(), block, listed, many, kept, room, capacity) })
+    returned(unsafe { ffi::mds_block_content(front(bytes), bytes.len(), block, listed, many, kept, out, capacity) })
 }
 
 pub(crate) fn scan_inlines(text: &str, labels: &[&str], extensions: u32, inlines: &mut [ffi::Inline]) -> ffi::Inlines {
@@ -366,18 +366,18 @@ pub(crate) fn html(text: &str, options: u32, buffer: &mut [u8]) -> Text {
 
 pub(crate) fn safe_html(text: &str, options: u32, schemes: &[&str], buffer: &mut [u8]) -> Text {
     let (bytes, views) = (text.as_bytes(), views_of(schemes));
-    let (room, capacity) = (buffer.as_mut_ptr(), buffer.len());
+    let (out, capacity) = (buffer.as_mut_ptr(), buffer.len());
     // SAFETY: each pointer and length are those of one slice, those of the views too, and what is written is a `&mut` of its own.
     returned(unsafe {
-        ffi::mds_safe_html(front(bytes), bytes.len(), options, views.as_ptr(), views.len(), room, capacity)
+        ffi::mds_safe_html(front(bytes), bytes.len(), options, views.as_ptr(), views.len(), out, capacity)
     })
 }
 
 pub(crate) fn events(text: &str, options: u32, events: &mut [ffi::Event], texts: &mut [u8]) -> ffi::Events {
     let bytes = text.as_bytes();
-    let (listed, many, room, capacity) = (events.as_mut_ptr(), events.len(), texts.as_mut_ptr(), texts.len());
+    let (listed, many, out, capacity) = (events.as_mut_ptr(), events.len(), texts.as_mut_ptr(), texts.len());
     // SAFETY: each pointer and length are those of one slice, and what is written are two `&mut` of its own.
-    let found = unsafe { ffi::mds_events(front(bytes), bytes.len(), options, listed, many, room, capacity) };
+    let found = unsafe { ffi::mds_events(front(bytes), bytes.len(), options, listed, many, out, capacity) };
     if found.status == ffi::NO_MEMORY {
         refused();
     }

@@ -49,17 +49,17 @@ export class Browser {
     /** Nothing is answered any more. */
     #end(why) {
         this.#ended = why;
-        this.#waiting.forEach((it) => it.reject(why));
+        this.#waiting.forEach((waiter) => waiter.reject(why));
         this.#waiting.clear();
     }
 
     #hear(data) {
         const parts = (this.#said + data).split("\0");
         this.#said = parts.pop();
-        for (const message of parts.map((it) => JSON.parse(it))) {
+        for (const message of parts.map((part) => JSON.parse(part))) {
             const waiting = this.#waiting.get(message.id);
             this.#waiting.delete(message.id);
-            if (!waiting) this.#listeners.forEach((it) => it(message));
+            if (!waiting) this.#listeners.forEach((listener) => listener(message));
             else if (message.error) waiting.reject(new Error(message.error.message));
             else waiting.resolve(message.result);
         }
@@ -81,7 +81,7 @@ export class Browser {
     async open(url, { width, height, dark = false }) {
         if (!this.#session) {
             const { targetInfos } = await this.send("Target.getTargets");
-            const { targetId } = targetInfos.find((it) => it.type === "page");
+            const { targetId } = targetInfos.find((target) => target.type === "page");
             this.#session = (await this.send("Target.attachToTarget", { targetId, flatten: true })).sessionId;
             await this.send("Page.enable");
             await this.send("Runtime.enable");

@@ -28,7 +28,7 @@ def fence(found):
 
 
 def table(found):
-    return found and {"end": found.end, "alignments": [ALIGNMENTS[it] for it in found.alignments]}
+    return found and {"end": found.end, "alignments": [ALIGNMENTS[number] for number in found.alignments]}
 
 
 def part(found):

@@ -23,7 +23,7 @@ const OUTLINE = fileURLToPath(new URL("packages/c/examples/outline.py", TOP));
 const LIBRARY = fileURLToPath(new URL("out/libproved_markdown.so.0", TOP));
 const DESK = { width: 1280, height: 820 };
 
-const room = mkdtempSync(join(tmpdir(), "page-"));
+const scratch = mkdtempSync(join(tmpdir(), "page-"));
 let served, browser, faults;
 
 /** The package with these bytes as its module, and with no other one; else with that of MODULE. */
@@ -37,13 +37,13 @@ function servedWith(module = readFileSync(MODULE), wide = undefined) {
 before(async () => {
     served = await servedWith();
     browser = new Browser();
-    browser.on("Runtime.exceptionThrown", (it) => faults.push(it.exceptionDetails.exception?.description));
+    browser.on("Runtime.exceptionThrown", (event) => faults.push(event.exceptionDetails.exception?.description));
 });
 
 after(async () => {
     await browser.close();
     served.close();
-    rmSync(room, { recursive: true });
+    rmSync(scratch, { recursive: true });
 });
 
 /** Waits until the page says of itself that it is so. */
@@ -65,9 +65,9 @@ async function open(size = DESK, url = served.url) {
 /** Types a text in place of what stands there. */
 async function type(text) {
     await browser.ask(() => {
-        const it = document.getElementById("text");
-        it.focus();
-        it.select();
+        const area = document.getElementById("text");
+        area.focus();
+        area.select();
     });
     await browser.send("Input.insertText", { text });
     await settled("drawn");
@@ -75,26 +75,26 @@ async function type(text) {
 
 /** Puts a text there that is too long to be typed, or that can't be. */
 async function fill(text) {
-    await browser.ask((it) => {
+    await browser.ask((typed) => {
         const area = document.getElementById("text");
-        area.value = it;
+        area.value = typed;
         area.dispatchEvent(new Event("input"));
     }, text);
 }
 
 async function choose(name) {
-    await browser.ask((it) => document.getElementById(`tab-${it}`).click(), name);
+    await browser.ask((tab) => document.getElementById(`tab-${tab}`).click(), name);
     await settled("drawn");
 }
 
 /** In the page: what is drawn of the lines that are in sight, each answer as it is shown when it is clicked. */
 function drawnRows() {
-    const words = (it) => document.getElementById(it).textContent;
-    const answer = (it) => {
-        it.click();
+    const words = (id) => document.getElementById(id).textContent;
+    const answer = (button) => {
+        button.click();
         const [, call, given] = /^(\w+)\((.*)\)$/.exec(words("call"));
         const [from, to] = words("bytes").match(/\d+/g).map(Number);
-        return { name: it.textContent, call, given: JSON.parse(`[${given}]`), answer: JSON.parse(words("found")), from, to };
+        return { name: button.textContent, call, given: JSON.parse(`[${given}]`), answer: JSON.parse(words("found")), from, to };
     };
     return [...document.querySelectorAll(".row")].map((row) => ({
         number: Number(row.dataset.line),
@@ -106,12 +106,12 @@ function drawnRows() {
 
 /** In the page: what is drawn of a list, each answer as it is shown. */
 function drawnEntries() {
-    const words = (it) => document.getElementById(it)?.textContent ?? null;
-    return [...document.querySelectorAll("#view button")].map((it) => {
-        it.click();
+    const words = (id) => document.getElementById(id)?.textContent ?? null;
+    return [...document.querySelectorAll("#view button")].map((button) => {
+        button.click();
         const [, call, given] = /^(\w+)\((.*)\)$/.exec(words("call"));
         const [from, to] = words("bytes").match(/\d+/g).map(Number);
-        const parts = [".number", ".what"].map((part) => it.querySelector(part)?.textContent ?? it.textContent);
+        const parts = [".number", ".what"].map((part) => button.querySelector(part)?.textContent ?? button.textContent);
         const marked = [...document.querySelectorAll("#marks mark")].map((mark) => mark.textContent).join("\n");
         return { parts, call, given: JSON.parse(`[${given}]`), answer: JSON.parse(words("found")), of: words("of"), from, to, marked };
     });
@@ -137,16 +137,16 @@ async function allRows(count) {
 
 /** What the C functions answer of these calls. */
 function native(text, calls) {
-    const input = [text, ...calls].map((it) => JSON.stringify(it)).join("\n");
+    const input = [text, ...calls].map((value) => JSON.stringify(value)).join("\n");
     const said = execFileSync("python3", [NATIVE], { input, encoding: "utf8", env: { ...process.env, PROVED_MARKDOWN_LIBRARY: LIBRARY } });
-    return said.trim().split("\n").map((it) => JSON.parse(it));
+    return said.trim().split("\n").map((line) => JSON.parse(line));
 }
 
 /** Compares what is drawn of a text with what C answers, and says how many answers these are. */
 function compare(text, drawn, calls) {
     const found = native(text, calls);
     assert.equal(found.length, drawn.length);
-    drawn.forEach((it, index) => assert.deepEqual(it, found[index], JSON.stringify(calls[index])));
+    drawn.forEach((answer, index) => assert.deepEqual(answer, found[index], JSON.stringify(calls[index])));
     return drawn.length;
 }
 
@@ -164,11 +164,11 @@ async function typeAndCompare(text) {
     const lines = linesOf(text);
     assert.match(await report(), new RegExp(`^${lines.length} lines, ${Buffer.byteLength(text)} bytes`));
     const rows = await allRows(lines.length);
-    const taken = rows.map((it) => it.taken.map(({ answer, from, to }) => ({ answer, from, to })));
-    compare(text, taken, rows.map((it, index) => ({ ...lines[index], taken: it.taken.map(({ call, given }) => ({ call, given })) })));
-    const blocks = rows.map((it) => it.block).filter((it) => it.call !== "upto" && it.call !== "unescape");
-    compare(text, blocks.map((it) => it.answer), blocks.map((it) => ({ call: it.call, given: it.given })));
-    blocks.forEach((it) => assert.deepEqual(it.given.slice(-2), [it.from, it.to]));
+    const taken = rows.map((row) => row.taken.map(({ answer, from, to }) => ({ answer, from, to })));
+    compare(text, taken, rows.map((row, index) => ({ ...lines[index], taken: row.taken.map(({ call, given }) => ({ call, given })) })));
+    const blocks = rows.map((row) => row.block).filter((block) => block.call !== "upto" && block.call !== "unescape");
+    compare(text, blocks.map((block) => block.answer), blocks.map((block) => ({ call: block.call, given: block.given })));
+    blocks.forEach((block) => assert.deepEqual(block.given.slice(-2), [block.from, block.to]));
     return taken.flat().length + blocks.length;
 }
 
@@ -183,24 +183,24 @@ test("each line that is drawn is what the C functions answer", async () => {
 test("columns are drawn to their tab stops", async () => {
     const rows = await allRows(linesOf(TYPED).length);
     const at = TYPED.slice(0, TYPED.indexOf(">\t\tfoo")).split("\n").length - 1;
-    const drawn = (index) => rows[at + index].taken.map((it) => it.name);
+    const drawn = (index) => rows[at + index].taken.map((part) => part.name);
     assert.deepEqual([drawn(0), rows[at].text], [[">→", "··→·"], ">→··→···foo"]);
     assert.deepEqual([drawn(1), rows[at + 1].text], [[">→", "··", "-·"], ">→··-·a tab after a quote"]);
 });
 
 test("headings, definitions and references are those of the outline in C", async () => {
-    writeFileSync(join(room, "typed.md"), TYPED);
-    const said = outline(join(room, "typed.md"));
+    writeFileSync(join(scratch, "typed.md"), TYPED);
+    const said = outline(join(scratch, "typed.md"));
     await choose("outline");
-    const headings = (await browser.ask(drawnEntries)).map((it) => `${it.parts[0]}: ${"#".repeat(it.answer)} ${it.parts[1]}`);
-    assert.deepEqual(headings, said.filter((it) => /^\d+: #/.test(it)));
+    const headings = (await browser.ask(drawnEntries)).map((entry) => `${entry.parts[0]}: ${"#".repeat(entry.answer)} ${entry.parts[1]}`);
+    assert.deepEqual(headings, said.filter((line) => /^\d+: #/.test(line)));
     await choose("labels");
     const labels = await browser.ask(drawnEntries);
-    const definitions = labels.filter((it) => it.parts[0] === "definition").map((it) => it.parts[1].replace(" → ", ": "));
-    assert.deepEqual(definitions, said.filter((it) => /^\d+: \[.*\]: /.test(it)).map((it) => it.replace(/^\d+: /, "")));
-    const missing = labels.filter((it) => it.parts[0] === "reference" && it.parts[1].endsWith("leads nowhere"));
-    const expected = said.filter((it) => it.endsWith("has no definition")).map((it) => /\[.*\]/.exec(it)[0]);
-    assert.deepEqual(missing.map((it) => /\[.*\]/.exec(it.parts[1])[0]), expected);
+    const definitions = labels.filter((label) => label.parts[0] === "definition").map((label) => label.parts[1].replace(" → ", ": "));
+    assert.deepEqual(definitions, said.filter((line) => /^\d+: \[.*\]: /.test(line)).map((line) => line.replace(/^\d+: /, "")));
+    const missing = labels.filter((label) => label.parts[0] === "reference" && label.parts[1].endsWith("leads nowhere"));
+    const expected = said.filter((line) => line.endsWith("has no definition")).map((line) => /\[.*\]/.exec(line)[0]);
+    assert.deepEqual(missing.map((label) => /\[.*\]/.exec(label.parts[1])[0]), expected);
     hold("drawn_outline", headings.length + definitions.length + missing.length);
 });
 
@@ -220,9 +220,9 @@ test("labels, links, HTML and cells are what the C functions answer", async () =
         await choose(name);
         const entries = await browser.ask(drawnEntries);
         const calls = entries.map(({ call, given, of }) => (of === null ? { call, given } : { call, given, of }));
-        tried += compare(TYPED, entries.map((it) => it.answer), calls);
+        tried += compare(TYPED, entries.map((entry) => entry.answer), calls);
         const bytes = Buffer.from(TYPED);
-        assert.deepEqual(entries.map((it) => it.marked), entries.map((it) => bytes.subarray(it.from, it.to).toString().replace(/\n$/, "")));
+        assert.deepEqual(entries.map((entry) => entry.marked), entries.map((entry) => bytes.subarray(entry.from, entry.to).toString().replace(/\n$/, "")));
     }
     hold("drawn_inline", tried);
     await choose("html");
@@ -233,7 +233,7 @@ test("labels, links, HTML and cells are what the C functions answer", async () =
 test("a click marks the bytes, and names a section and a contract", async () => {
     await choose("labels");
     await browser.ask(() => document.querySelector("#view button").click());
-    const marked = await browser.ask(() => [...document.querySelectorAll("#marks mark")].map((it) => it.textContent).join("\n"));
+    const marked = await browser.ask(() => [...document.querySelectorAll("#marks mark")].map((mark) => mark.textContent).join("\n"));
     assert.equal(marked, "[Two  words]");
     const words = await browser.ask(() => document.getElementById("answer").textContent);
     assert.match(words, /6\.3 Links.*mds_scan_link_label.*IsScannedLabel/);
@@ -242,14 +242,14 @@ test("a click marks the bytes, and names a section and a contract", async () => 
 test("a click names the place that the call was given", async () => {
     await choose("lines");
     await type("a\n\n## b\n>\t- c\n");
-    const shown = (line, part) => browser.ask((number, it) => {
-        document.querySelector(`[data-line="${number}"]`).querySelectorAll("button")[it].click();
+    const shownAnswer = (line, part) => browser.ask((number, index) => {
+        document.querySelector(`[data-line="${number}"]`).querySelectorAll("button")[index].click();
         return document.querySelector("#answer p").textContent;
     }, line, part);
-    assert.equal(await shown(1, 0), "interruptsParagraph(0, 2) answers false");
-    assert.equal(await shown(3, 0), "scanAtxHeading(3, 8) answers 2");
-    assert.equal(await shown(4, 1), "quote() of a line start at 8 answers true");
-    assert.equal(await shown(4, 2), "upto(4) of a line start at 10 with 2 columns pending answers 2"); // of a tab from column 1 to 4
+    assert.equal(await shownAnswer(1, 0), "interruptsParagraph(0, 2) answers false");
+    assert.equal(await shownAnswer(3, 0), "scanAtxHeading(3, 8) answers 2");
+    assert.equal(await shownAnswer(4, 1), "quote() of a line start at 8 answers true");
+    assert.equal(await shownAnswer(4, 2), "upto(4) of a line start at 10 with 2 columns pending answers 2"); // of a tab from column 1 to 4
     await type(TYPED);
 });
 
@@ -272,15 +272,15 @@ test("keys go through tabs and answers", async () => {
 /** In the page: the middle of the first element of this name in the frame. */
 function middleOf(name) {
     const frame = document.querySelector("#view iframe");
-    const [outer, inner] = [frame, frame.contentDocument.querySelector(name)].map((it) => it.getBoundingClientRect());
+    const [outer, inner] = [frame, frame.contentDocument.querySelector(name)].map((element) => element.getBoundingClientRect());
     return { x: outer.x + inner.x + inner.width / 2, y: outer.y + inner.y + inner.height / 2 };
 }
 
 /** In the page: what the frame has. */
 function inFrame() {
     const frame = document.querySelector("#view iframe");
-    const marks = [...document.querySelectorAll("#marks mark")].map((it) => it.textContent).join("\n");
-    const pointed = [...frame.contentDocument.querySelectorAll("[data-pointed]")].map((it) => it.localName);
+    const marks = [...document.querySelectorAll("#marks mark")].map((mark) => mark.textContent).join("\n");
+    const pointed = [...frame.contentDocument.querySelectorAll("[data-pointed]")].map((element) => element.localName);
     return { html: frame.contentDocument.body.innerHTML, sandbox: frame.getAttribute("sandbox"), marks, pointed };
 }
 
@@ -326,8 +326,8 @@ test("nothing is wider than 400 pixels, in light and in dark", async () => {
         await open({ width: 400, height: 800, dark });
         await settled("drawn");
         assert.ok((await browser.ask(() => document.documentElement.scrollWidth)) <= 400);
-        const style = await browser.ask(() => ["backgroundColor", "color"].map((it) => getComputedStyle(document.body)[it]));
-        const [paper, ink] = style.map((it) => Number(/\d+/.exec(it)[0]));
+        const style = await browser.ask(() => ["backgroundColor", "color"].map((property) => getComputedStyle(document.body)[property]));
+        const [paper, ink] = style.map((color) => Number(/\d+/.exec(color)[0]));
         assert.ok(dark ? paper < 60 && ink > 180 : paper > 200 && ink < 80);
     }
 });
@@ -346,9 +346,9 @@ test("1 MB is read without a stall", async () => {
 
 /** Fills in a text, and answers the longest time that the page waited until it was drawn, in milliseconds. */
 async function longestWait(text) {
-    await browser.ask((it) => {
+    await browser.ask((typed) => {
         const area = document.getElementById("text");
-        area.value = it;
+        area.value = typed;
         area.getBoundingClientRect();
     }, text);
     return browser.ask(async () => {
@@ -373,7 +373,7 @@ async function overtaken(text, milliseconds) {
     await new Promise((resolve) => setTimeout(resolve, milliseconds));
     await browser.ask(() => document.getElementById("view").dispatchEvent(new Event("scroll")));
     await new Promise((resolve) => setTimeout(resolve, 300));
-    assert.deepEqual((await browser.ask(drawnRows)).map((it) => it.text), ["# new"]);
+    assert.deepEqual((await browser.ask(drawnRows)).map((row) => row.text), ["# new"]);
 }
 
 test("of a line of 1 MB the page is sent what it draws", async () => {
@@ -384,7 +384,7 @@ test("of a line of 1 MB the page is sent what it draws", async () => {
         console.log(`# 1 MB of \`${name}\`: ${await report()}; the page never waited longer than ${Math.round(most)} ms`);
         const milliseconds = Number(/in (\d+) ms/.exec(await report())[1]);
         assert.ok(most < milliseconds / 2, `the page waited ${most} ms`);
-        const columns = await browser.ask(() => [...document.querySelectorAll(".row button.strip")].map((it) => it.textContent).join(""));
+        const columns = await browser.ask(() => [...document.querySelectorAll(".row button.strip")].map((strip) => strip.textContent).join(""));
         assert.equal(columns.length, 200);
     }
     await fill(`# ${"a".repeat(1_000_000)}\n\n[b]: /${"c".repeat(1_000_000)}\n`);
@@ -423,9 +423,9 @@ test("bad input has a message, and the page goes on", async () => {
 
 /** Chooses a file of these bytes. */
 async function choosing(bytes) {
-    await browser.ask((it) => {
+    await browser.ask((content) => {
         const files = new DataTransfer();
-        files.items.add(new File([new Uint8Array(it)], "chosen.md"));
+        files.items.add(new File([new Uint8Array(content)], "chosen.md"));
         const file = document.getElementById("file");
         file.files = files.files;
         document.body.dataset.state = "reading";
@@ -475,7 +475,7 @@ test("a policy needs `wasm-unsafe-eval`, and a URL is one from the page's on", a
         await open(DESK, `${changed.url}a/page.html`);
         const found = await browser.ask(async () => {
             const { load } = await import("/proved_markdown.mjs");
-            return load("module.wasm").then((it) => String(it.text("# a").scanAtxHeading()), (why) => why.name);
+            return load("module.wasm").then((loaded) => String(loaded.text("# a").scanAtxHeading()), (why) => why.name);
         });
         assert.equal(found, expected);
         changed.close();
@@ -497,7 +497,7 @@ test("a file with an underline of definitions alone is drawn", async () => {
     await settled("drawn");
     await type("[foo]: /url\n===\n[foo]\n");
     const rows = await browser.ask(drawnRows);
-    assert.deepEqual(rows.map((it) => [it.text, it.block.name]), [["[foo]: /url", "definition"], ["===", "paragraph"], ["[foo]", "goes on"]]);
+    assert.deepEqual(rows.map((row) => [row.text, row.block.name]), [["[foo]: /url", "definition"], ["===", "paragraph"], ["[foo]", "goes on"]]);
     assert.deepEqual(faults, []);
 });
 
@@ -507,7 +507,7 @@ async function readAll(texts) {
     const { Reading } = await import("/page/reading.mjs");
     const { readWhole } = await import("/tests/whole.mjs");
     const scanners = await load();
-    return texts.map((it) => readWhole(Reading, scanners, it)).length;
+    return texts.map((text) => readWhole(Reading, scanners, text)).length;
 }
 
 /** These texts in parts of about a megabyte. */
@@ -534,5 +534,5 @@ test("pages of each kind, the specification's examples and the files of this dis
     hold("made_pages", await count(madePages()));
     const written = examples();
     if (written) hold("examples_of_spec", await count(written));
-    assert.ok((await count(filesOfDisk().filter((it) => it !== null))) > 0);
+    assert.ok((await count(filesOfDisk().filter((file) => file !== null))) > 0);
 });

@@ -23,8 +23,8 @@ function bundle(name, entry) {
         if (modules.has(path)) return;
         const source = path.startsWith("/") ? readFileSync(path, "utf8") : ""; // Node's own, which parsing does without
         const isData = path.endsWith(".json");
-        const names = isData ? [] : [...source.matchAll(/^(?!\s*(?:\*|\/\/)).*require\(['"]([^'"]+)['"]\)/gm)].map(([, it]) => it);
-        const paths = Object.fromEntries(names.map((it) => [it, createRequire(path).resolve(it.endsWith("/") ? `${it}index.js` : it)]));
+        const names = isData ? [] : [...source.matchAll(/^(?!\s*(?:\*|\/\/)).*require\(['"]([^'"]+)['"]\)/gm)].map(([, id]) => id);
+        const paths = Object.fromEntries(names.map((id) => [id, createRequire(path).resolve(id.endsWith("/") ? `${id}index.js` : id)]));
         modules.set(path, { body: isData ? `module.exports = ${source}` : source, paths });
         Object.values(paths).forEach(add);
     };
@@ -53,7 +53,7 @@ const served = await serve(PACKAGE, (path) => {
 async function measured(modules) {
     const { load } = await import("/proved_markdown.mjs");
     const { Reading } = await import("/page/reading.mjs");
-    const all = await Promise.all(modules.map((it) => load(new URL(it, location.href))));
+    const all = await Promise.all(modules.map((module) => load(new URL(module, location.href))));
     const text = await (await fetch("/speed.md")).text();
     const best = (call) => {
         const times = Array.from({ length: 10 }, () => {
@@ -73,9 +73,9 @@ async function measured(modules) {
 
 const browser = new Browser();
 await browser.open(`${served.url}speed.html`, { width: 800, height: 600 });
-const modules = MODULES.filter((it) => existsSync(join(PACKAGE, it)));
+const modules = MODULES.filter((module) => existsSync(join(PACKAGE, module)));
 const { ours, theirs, bytes } = await browser.ask(measured, modules);
-const said = modules.map((it, index) => `the page's reading on ${it} ${ours[index].toFixed(2)} MB/s`);
+const said = modules.map((module, index) => `the page's reading on ${module} ${ours[index].toFixed(2)} MB/s`);
 console.log(`${bytes} bytes: ${said.join(", ")}, markdown-it ${theirs?.toFixed(2) ?? "is not there"}`);
 await browser.close();
 served.close();
