@@ -5,8 +5,8 @@ top=$PWD
 version=$(cat VERSION)
 header=packages/c/include/proved_markdown.h
 crate=crates/markdown_scanners_c
-made=$crate/out/libmarkdown_scanners_c.a # as rt makes it, of the crate alone
-proof=$crate/out/proof.txt               # what rt said when it made that, after its checksum
+made=$crate/out/libmarkdown_scanners_c.a # as the kit makes it, of the crate alone
+proof=$crate/out/proof.txt               # what was said when that was made, after its checksum
 archive=out/libproved_markdown.a
 shared_name=libproved_markdown.so.${version%%.*}
 shared=out/$shared_name
@@ -36,15 +36,27 @@ is_old() {
     [ ! -f "$1" ] || [ -n "$(find crates.txt "${of[@]:?}" -name out -prune -o \( -name '*.rt' -o -name '*.antt' -o -name '*.txt' \) -newer "$1" -print -quit)" ]
 }
 
-# prove: the crate, which makes its archive; rt says how far it is. As many jobs prove a crate as JOBS says, or as rt chooses.
+# archive_crate: proves the crate and makes its archive, over the libraries that are proved and built in the tree where all of them
+# are, else by rt, which proves them first. As many jobs prove it as JOBS says, or as rt chooses.
+archive_crate() {
+    if docs/kit.py markdown_scanners_c --are-built; then
+        echo "proving and building markdown_scanners_c, over the libraries that are built: some ten minutes"
+        docs/kit.py markdown_scanners_c --archive "$made"
+    else
+        echo "proving and building markdown_scanners_c, and what it stands on: some forty minutes from nothing"
+        (cd "$crate" && rt lib ${JOBS:+--jobs "$JOBS"})
+    fi
+}
+
+# prove: the crate, which makes its archive; what is said of that is recorded.
 prove() {
-    need rt
-    echo "proving and building markdown_scanners_c, and what it stands on: some twenty minutes from nothing"
-    (cd "$crate" && rt lib ${JOBS:+--jobs "$JOBS"} 2>&1) | tee "$scratch/said" || stop "the crate was not built"
+    need rt rattle python3
+    mkdir -p "$crate/out"
+    archive_crate 2>&1 | tee "$scratch/said" || stop "the crate was not built"
     { sha256sum <"$made" && rt version && tail -n 30 "$scratch/said"; } >"$proof"
 }
 
-# is_recorded: what rt said is of the archive that is there.
+# is_recorded: what was said is of the archive that is there.
 is_recorded() {
     [ -f "$proof" ] && [ "$(head -n 1 "$proof")" = "$(sha256sum <"$made")" ]
 }

@@ -1,6 +1,6 @@
 #!/usr/bin/env python3
-"""Compiles the crate markdown_scanners_c of the tree TREE, which is proved, as WebAssembly modules in FOLDER:
-proved_markdown.wasm with a 32-bit memory, proved_markdown64.wasm with a 64-bit one.
+"""Compiles the crate markdown_scanners_c, whose proof is kept in KEPT, as WebAssembly modules in FOLDER: proved_markdown.wasm with a
+32-bit memory, proved_markdown64.wasm with a 64-bit one.
 
 The kit compiles for WebAssembly what calls no C. The three functions of the heap, by which the crate asks for memory, are C's,
 and here the host's. So the kit makes its LLVM code for the plainest x86-64, which has the sizes and the layouts of wasm64, and
@@ -14,7 +14,6 @@ a section of it names the other one.
 import argparse
 import os
 import re
-import shutil
 import subprocess
 import sys
 import tempfile
@@ -25,7 +24,7 @@ from pathlib import Path
 sys.dont_write_bytecode = True
 TOP = Path(__file__).resolve().parents[2]
 sys.path.append(str(TOP / "docs"))
-from crate_list import libraries, made_of
+from kit import folder_of, kit, words
 
 CRATE = "markdown_scanners_c"
 LAYOUT = "e-m:e-p:64:64-p10:8:8-p20:8:8-i64:64-i128:128-n32:64-S128-ni:1:10:20"
@@ -36,7 +35,7 @@ FEATURES = ["-mbulk-memory", "-msign-ext"]
 WIDE_FEATURES = [*FEATURES, "-msimd128"]
 LOWERS = ["--enable-memory64", "--enable-bulk-memory", "--enable-sign-ext", "--memory64-lowering", "-O2"]
 KEEPS = """#!/bin/sh
-for it in "$@"; do case "$it" in *.bc) cp "$it" "{kept}" ;; esac; done
+for word in "$@"; do case "$word" in *.bc) cp "$word" "{kept}" ;; esac; done
 exec "{clang}" "$@"
 """
 
@@ -73,27 +72,16 @@ def keeping(toolchain, scratch):
     return other, kept
 
 
-def libraries_of(tree, kit):
-    """The words by which `rattle build` is given the libraries of the crate: those of the tree, which are built there, and the kit's."""
-    ours = [crate for crate in made_of(CRATE) if crate != CRATE]
-    folders = {crate: tree / "crates" / crate / "out/rlib" for crate in ours}
-    built = {crate: folders.get(crate, kit / "rlibs") / f"{crate}.rlib" for crate in ["std", *libraries()[CRATE]]}
-    words = [word for name, folder in built.items() for word in ("--extern", f"{name}={folder}")]
-    return words + [word for folder in [kit / "rlibs", *folders.values()] for word in ("-L", f"dependency={folder}")]
-
-
-def lowered(tree, scratch):
+def lowered(kept, scratch):
     """The crate as LLVM code."""
-    kit = Path(shutil.which("rattle")).resolve().parent.parent
-    toolchain = kit / "toolchain"
-    other, kept = keeping(toolchain, scratch)
-    os.chdir(tree / "crates" / CRATE)
-    logic = ["--antt-project", kit / "rattle/logic/antt-project.json", "--logic-built", kit / "logic_built", "--links", f"{CRATE}="]
-    words = ["--crate-name", CRATE, "src/lib.rt", *libraries_of(tree, kit), *logic, "--crate-type", "staticlib", "--cpu=x86-64"]
-    run("rattle", "build", *words, "--toolchain", other, "--backend", "llvm", "--incremental", "out/incremental", "-o", scratch / "archive.a")
-    if not kept.is_file():
+    toolchain = kit() / "toolchain"
+    other, code = keeping(toolchain, scratch)
+    os.chdir(folder_of(CRATE))
+    how = ["--cpu=x86-64", "--toolchain", other, "--backend", "llvm", "--incremental", kept, "-o", scratch / "archive.a"]
+    run("rattle", "build", *words(CRATE), *how)
+    if not code.is_file():
         stop("the kit has given its clang no LLVM code")
-    return kept, toolchain
+    return code, toolchain
 
 
 def retargeted(code):
@@ -157,10 +145,10 @@ def narrowed(made, scratch):
     return after.read_bytes()
 
 
-def main(tree, folder, bits):
+def main(kept, folder, bits):
     with tempfile.TemporaryDirectory() as name:
         scratch = Path(name)
-        code, toolchain = lowered(tree, scratch)
+        code, toolchain = lowered(kept, scratch)
         text = text_of(code, toolchain, scratch)
         if "64" in bits:
             (folder / WIDE).write_bytes(linked(text, toolchain, scratch, WIDE_FEATURES) + version_section())
@@ -171,7 +159,7 @@ def main(tree, folder, bits):
 
 if __name__ == "__main__":
     parser = argparse.ArgumentParser(description=__doc__, formatter_class=argparse.RawDescriptionHelpFormatter)
-    parser.add_argument("tree", metavar="TREE", type=lambda path: Path(path).resolve())
+    parser.add_argument("kept", metavar="KEPT", type=lambda path: Path(path).resolve())
     parser.add_argument("folder", metavar="FOLDER", type=lambda path: Path(path).resolve())
     parser.add_argument("bits", metavar="32|64", nargs="+", choices=["32", "64"])
     main(**vars(parser.parse_args()))
