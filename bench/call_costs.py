@@ -41,23 +41,12 @@ def kit_c():
     return f"{os.path.dirname(kit)}/c"
 
 
-def prove(crate, archive, log, cpu=None):
-    """Proves and builds the calls, over the libraries of the tree where all are built, else by rt, which builds them too."""
-    kit, flags = [f"{HERE}/../docs/kit.py", os.path.basename(crate)], [f"--cpu={cpu}"] if cpu else []
-    if not subprocess.run([*kit, "--are-built"]).returncode:
-        return run([*kit, "--archive", archive, *flags], log)
-    run(["rt", "lib", *flags], log, cwd=crate)
-    made = f"{crate}/out/libcmark_bench.a"
-    if archive != made:
-        shutil.move(made, archive)
-
-
 def build_calls(scratch, cpu=None, crate=BENCH):
     """Proves and builds the calls; the folder of their archive. What is left in the tree is as built by default."""
-    made = f"{crate}/out/libcmark_bench.a"
+    prove = [f"{HERE}/../docs/kit.py", os.path.basename(crate), "--archive"]
     if cpu:
-        prove(crate, f"{scratch}/libcmark_bench.a", f"{scratch}/rt.log", cpu)
-    prove(crate, made, f"{scratch}/rt.log")
+        run([*prove, f"{scratch}/libcmark_bench.a", f"--cpu={cpu}"], f"{scratch}/kit.log")
+    run([*prove, f"{crate}/out/libcmark_bench.a"], f"{scratch}/kit.log")
     return scratch if cpu else f"{crate}/out"
 
 

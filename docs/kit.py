@@ -2,7 +2,7 @@
 """Calls the kit's `rattle` on a static library, CRATE, over the libraries that `rt ci` or `rt lib` has proved and built in the tree.
 
     docs/kit.py CRATE --are-built       status 0 where each library below the crate is there, and is newer than its sources
-    docs/kit.py CRATE --archive FILE    proves the crate, and compiles it for C
+    docs/kit.py CRATE --archive FILE    proves the crate, and compiles it for C; where a library is not built, rt proves all of them first
     docs/kit.py CRATE --wasm64          proves it for wasm64
 
 What is proved is kept in out/incremental of the crate, or where --incremental says. JOBS says by how many jobs it is proved.
@@ -42,6 +42,11 @@ def is_built(library, folder):
     return max(path.stat().st_mtime for path in [CRATES, *files]) < folder.stat().st_mtime
 
 
+def are_built(crate):
+    """Whether all libraries below a crate are."""
+    return all(is_built(library, folder) for library, folder in below(crate).items())
+
+
 def words(crate):
     """The words for a command on a crate: its libraries, those of the tree and those of the kit, and the logic."""
     ours, kits = below(crate), kit() / "rlibs"
@@ -57,6 +62,16 @@ def rattle(command, crate, *more):
     return subprocess.run(["rattle", command, *map(str, [*words(crate), *more])], cwd=folder_of(crate)).returncode
 
 
+def rt_lib(crate, archive, flags):
+    """The status of rt, which proves a crate and what it stands on, and leaves the archive in the crate's out/."""
+    made = folder_of(crate) / f"out/lib{crate}.a"
+    jobs = ["--jobs", os.environ["JOBS"]] if "JOBS" in os.environ else []
+    status = subprocess.run(["rt", "lib", *jobs, *flags], cwd=folder_of(crate)).returncode
+    if not status and archive != made:
+        shutil.move(made, archive)
+    return status
+
+
 def main():
     parser = argparse.ArgumentParser(description=__doc__, formatter_class=argparse.RawDescriptionHelpFormatter)
     parser.add_argument("crate", metavar="CRATE", choices=crates())
@@ -68,13 +83,16 @@ def main():
     parser.add_argument("--incremental", metavar="FOLDER", type=lambda path: Path(path).resolve())
     asked = parser.parse_args()
     if asked.are_built:
-        return 0 if all(is_built(library, folder) for library, folder in below(asked.crate).items()) else 1
+        return 0 if are_built(asked.crate) else 1
+    flags = [f"--cpu={asked.cpu}"] if asked.cpu else []
+    if asked.archive and not are_built(asked.crate):
+        return rt_lib(asked.crate, asked.archive, flags)
     kept = asked.incremental or folder_of(asked.crate) / "out/incremental"
     kept.mkdir(parents=True, exist_ok=True)
     keeps = ["--incremental", kept, "--jobs", os.environ.get("JOBS", "1")]
     if asked.wasm64:
         return rattle("check", asked.crate, "--target", "wasm64-unknown-unknown", *keeps)
-    how = ["--toolchain", kit() / "toolchain", "--backend", "llvm", *([f"--cpu={asked.cpu}"] if asked.cpu else [])]
+    how = ["--toolchain", kit() / "toolchain", "--backend", "llvm", *flags]
     return rattle("build", asked.crate, *how, *keeps, "-o", asked.archive)
 
 

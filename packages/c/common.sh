@@ -36,23 +36,12 @@ is_old() {
     [ ! -f "$1" ] || [ -n "$(find crates.txt "${of[@]:?}" -name out -prune -o \( -name '*.rt' -o -name '*.antt' -o -name '*.txt' \) -newer "$1" -print -quit)" ]
 }
 
-# archive_crate: proves the crate and makes its archive, over the libraries that are proved and built in the tree where all of them
-# are, else by rt, which proves them first. As many jobs prove it as JOBS says, or as rt chooses.
-archive_crate() {
-    if docs/kit.py markdown_scanners_c --are-built; then
-        echo "proving and building markdown_scanners_c, over the libraries that are built: some ten minutes"
-        docs/kit.py markdown_scanners_c --archive "$made"
-    else
-        echo "proving and building markdown_scanners_c, and what it stands on: some forty minutes from nothing"
-        (cd "$crate" && rt lib ${JOBS:+--jobs "$JOBS"})
-    fi
-}
-
-# prove: the crate, which makes its archive; what is said of that is recorded.
+# prove: the crate, which makes its archive; what is said of that is recorded. As many jobs prove it as JOBS says.
 prove() {
     need rt rattle python3
+    echo "proving and building markdown_scanners_c: some ten minutes, and forty where what it stands on is not built"
     mkdir -p "$crate/out"
-    archive_crate 2>&1 | tee "$scratch/said" || stop "the crate was not built"
+    docs/kit.py markdown_scanners_c --archive "$made" 2>&1 | tee "$scratch/said" || stop "the crate was not built"
     { sha256sum <"$made" && rt version && tail -n 30 "$scratch/said"; } >"$proof"
 }
 
