@@ -45,7 +45,14 @@ pub fn code_text<'a>(alloc: Global, content: &'a str) -> Result<CowStr<'a>, Allo
 fn has_line_ending(bytes: &[u8]) -> bool
     ensures { result ≡ list_any is_line_ending bytes.now }
 {
-    bytes.iter().any(|b| *b == b'\n' || *b == b'\r')
+    bytes.iter().any(|b| ends_line(*b))
+}
+
+// Whether the byte is a line ending. Most bytes of code are no control characters, which one test tells.
+fn ends_line(byte: u8) -> bool
+    ensures { result ≡ is_line_ending byte }
+{
+    byte < b' ' && (byte == b'\n' || byte == b'\r')
 }
 
 // Where what is left stands when the space at each end is left out, or the line ending that becomes
