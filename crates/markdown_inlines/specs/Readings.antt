@@ -1,11 +1,12 @@
 -- What the openers that have been read hold to.
-use Rattle.std.specs.Prelude.{ℕ, ◌<◌, ◌≤◌, List, [], ◌∷◌, ⊤}
+use Rattle.std.specs.Prelude.{ℕ, ◌<◌, ◌≤◌, List, [], ◌∷◌, length, reverse, ⊤}
 use Rattle.std.specs.List.{AllByRecursion}
 use Rattle.std.specs.Str.{IsCharBoundary}
-use Rattle.markdown_inlines.specs.EmphasisBounds.{IsOfDelimiters}
-use Rattle.markdown_inlines.specs.declared.pieces.PieceKind.{PieceKind}
-use Rattle.markdown_inlines.specs.declared.pieces.PieceKind.TheVariants as K
+use Rattle.markdown_inlines.specs.EmphasisBounds.{AreOfDelimiters}
+use Rattle.markdown_inlines.specs.Inlines.{Reading}
+use Rattle.markdown_inlines.specs.Sources.{AreLinkSources}
 use Rattle.markdown_inlines.specs.declared.reading.Opener.{Opener}
+use Rattle.markdown_inlines.specs.declared.reading.Reader.{Reader}
 
 -- A text may be cut on both sides of an opener.
 pub record IsOpenerSource (text : List ℕ) (opener : Opener) : Type 0 where
@@ -24,7 +25,19 @@ AreOpen text [] runs number = ⊤
 AreOpen text (opener ∷ outer) runs number =
     (opener.runs ≤ runs) × (opener.number < number) × IsOpenerSource text opener × AreOpen text outer opener.runs opener.number
 
--- a delimiter run is one of delimiters
-abbrev pub HasRuns : PieceKind → Type 0
-HasRuns (K.Delimiters run) = IsOfDelimiters run
-HasRuns kind = ⊤
+-- what a reader knows of a text
+abbrev pub reading_of : List ℕ → Reader → Reading
+reading_of text reader = record {
+  text = text;
+  openers = reverse reader.openers.items;
+  runs = reader.runs.items;
+  last_link = reader.last_link;
+  links = reader.links.items;
+  emphasis = reader.emphasis.items;
+}
+
+-- The runs are of delimiters, and the openers and the links stand in the text.
+pub record IsKept (reading : Reading) : Type 0 where
+  pub runs : AreOfDelimiters reading.runs
+  pub openers : AreOpen reading.text reading.openers (length reading.runs) (length reading.links)
+  pub links : AreLinkSources reading.text reading.links

@@ -2,7 +2,7 @@
 ghost use Rattle.std.specs.Prelude.{ℕ, List, ◌≡◌, ◌++◌, ◌<◌, ◌≤◌, ◌+◌, ◌*◌, [], length, IfOk, OnOk};
 ghost use Rattle.std.specs.Str.{IsCharBoundary};
 ghost use Rattle.markdown_inlines.specs.Inlines.{IsCut, IsRead, IsPieceAt, text_between};
-ghost use Rattle.markdown_inlines.specs.Readings.{AreBefore};
+ghost use Rattle.markdown_inlines.specs.Readings.{AreBefore, IsKept, reading_of};
 ghost use Rattle.markdown_inlines.specs.Searches.{Searched, bytes_searched, kind_searched};
 ghost use Rattle.markdown_inlines.specs.Sources.{AreSources, AreLinkSources, IsSource};
 
@@ -11,7 +11,7 @@ use crate::extensions::InlineExtensions;
 use crate::links::{Labels, Link};
 use crate::piece_scanner::PieceScanner;
 use crate::pieces::{Piece, PieceKind};
-use crate::reading::{Reader, ReaderBuffers};
+use crate::reading::Reader;
 use std::alloc::{AllocError, Global};
 use std::mem;
 
@@ -79,7 +79,7 @@ pub fn cut_inlines<L: Labels>(
 #[derive(Drop)]
 pub(crate) struct CutBuffers {
     pub(crate) pieces: Vec<Piece>,
-    pub(crate) reader: ReaderBuffers,
+    pub(crate) reader: Reader,
     passed: u128,
     strings: Vec<usize>,
 }
@@ -91,7 +91,7 @@ impl CutBuffers {
     {
         CutBuffers {
             pieces: Vec::new(alloc),
-            reader: ReaderBuffers::new(alloc),
+            reader: Reader::new(alloc),
             passed: 0,
             strings: Vec::new(alloc),
         }
@@ -118,13 +118,12 @@ pub(crate) fn cut_within<L: Labels>(
 {
     let strings = mem::replace(&mut buffers.strings, Vec::new(alloc));
     let mut scanner = PieceScanner::within(strings, text, extensions);
-    let found = mem::replace(&mut buffers.reader, ReaderBuffers::new(alloc));
-    let mut reader = Reader::new(found, text);
+    buffers.reader.restart();
     buffers.pieces.clear();
     let mut place = 0;
     while let Some(piece) = scanner.next(alloc)? {
         push_text(&mut buffers.pieces, place, piece.start)?;
-        place = read_piece(alloc, labels, extensions, &mut reader, piece)?;
+        place = read_piece(alloc, text, labels, extensions, &mut buffers.reader, piece)?;
         buffers.pieces.push(Piece {
             end: place,
             ..piece
@@ -132,7 +131,7 @@ pub(crate) fn cut_within<L: Labels>(
         scanner.read_to(place);
     }
     push_text(&mut buffers.pieces, place, text.len())?;
-    buffers.reader = reader.finish(alloc)?;
+    buffers.reader.finish(alloc)?;
     buffers.passed = scanner.passed();
     buffers.strings = scanner.into_buffer();
     Ok(())
@@ -155,26 +154,28 @@ fn push_text(pieces: &mut Vec<Piece>, from: usize, to: usize) -> Result<(), Allo
 // Reads a piece that isn't text, and answers where it ends: after the link, if it ends one.
 fn read_piece<L: Labels>(
     alloc: Global,
+    text: &str,
     labels: &L,
     extensions: InlineExtensions,
     reader: &mut Reader,
     piece: Piece,
 ) -> Result<usize, AllocError>
-    requires here { IsPieceAt extensions reader.old.text piece }
-    requires source { IsSource reader.old.text piece }
-    requires before { AreBefore reader.old.openers piece.start }
+    requires here { IsPieceAt extensions text.now piece }
+    requires source { IsSource text.now piece }
+    requires before { AreBefore (reading_of text.now reader.old).openers piece.start }
+    requires kept { IsKept (reading_of text.now reader.old) }
     ensures read { IfOk result (λ end. IsRead piece.kind
-        (record { asked = extensions; known = L.known labels.now }) reader.old
-        (record piece { end = end }) reader.new) }
-    ensures text { OnOk result (reader.new.text ≡ reader.old.text) }
+        (record { asked = extensions; known = L.known labels.now }) (reading_of text.now reader.old)
+        (record piece { end = end }) (reading_of text.now reader.new)) }
+    ensures kept { OnOk result (IsKept (reading_of text.now reader.new)) }
     ensures searched { IfOk result (λ end. (text : List ℕ) (searched : Searched)
         → kind_searched piece.kind text piece.start end searched
         ≡ kind_searched piece.kind text piece.start piece.end searched) }
-    ensures within { IfOk result (λ end. (piece.end ≤ end) × (end ≤ length reader.old.text)) }
-    ensures boundary { IfOk result (λ end. IsCharBoundary reader.old.text end) }
+    ensures within { IfOk result (λ end. (piece.end ≤ end) × (end ≤ length text.now)) }
+    ensures boundary { IfOk result (λ end. IsCharBoundary text.now end) }
 {
     if matches!(piece.kind, PieceKind::Closer) {
-        return reader.close(alloc, labels, piece);
+        return reader.close(alloc, text, labels, piece);
     }
     reader.read(piece)?;
     Ok(piece.end)

@@ -4,10 +4,11 @@ ghost use Rattle.std.specs.Prelude.{◌≡◌, ◌++◌, ◌<◌, ◌≤◌, ◌
 ghost use Rattle.std.specs.Str.{IsCharBoundary};
 ghost use Rattle.markdown_scanners_tree.specs.SomeExactly.{SomeExactly};
 ghost use Rattle.markdown_inlines.specs.Emphasis.{emphasis_of};
-ghost use Rattle.markdown_inlines.specs.Inlines.{Reading, at_start, with_piece, with_run, with_opener, with_link, may_begin, IsClosed};
+ghost use Rattle.markdown_inlines.specs.EmphasisBounds.{AreOfDelimiters};
+ghost use Rattle.markdown_inlines.specs.Inlines.{at_start, with_piece, with_opener, with_link, may_begin, IsClosed};
 ghost use Rattle.markdown_inlines.specs.Inlines.{bracket_of, LeadsTo};
-ghost use Rattle.markdown_inlines.specs.Readings.{AreOpen, AreBefore, HasRuns, IsOpenerSource};
-ghost use Rattle.markdown_inlines.specs.Sources.{IsSource, IsLinkSource, AreLinkSources, IsTargetSource};
+ghost use Rattle.markdown_inlines.specs.Readings.{AreBefore, IsKept, IsOpenerSource, reading_of};
+ghost use Rattle.markdown_inlines.specs.Sources.{IsSource, IsTargetSource};
 
 use crate::delimiter_runs::DelimiterRun;
 use crate::emphasis::{Delimiters, Emphasis, push_emphasis};
@@ -16,7 +17,6 @@ use crate::links::{Labels, Link, LinkTarget};
 use crate::pieces::{Piece, PieceKind};
 use crate::wiki_links::scan_wiki_target;
 use std::alloc::{AllocError, Global};
-use std::marker::Model;
 
 /// A bracket that may begin a link or an image.
 #[derive(Clone, Copy)]
@@ -32,100 +32,49 @@ pub(crate) struct Opener {
     number: usize,
 }
 
-// The memory that a text is read in, with what is known of it at the end.
+// What is known of the pieces of a text that have been read, in memory that is used again.
 #[derive(Drop)]
-pub(crate) struct ReaderBuffers {
+pub(crate) struct Reader {
     openers: Vec<Opener>,
     runs: Vec<Delimiters>,
     run_openers: Vec<Delimiters>,
+    last_link: usize,
     // Of each opener the link that it begins.
     pub(crate) links: Vec<Option<Link>>,
     pub(crate) emphasis: Vec<Emphasis>,
 }
 
-impl ReaderBuffers {
+impl Reader {
     // Nothing is read yet.
-    pub(crate) fn new(alloc: Global) -> ReaderBuffers
+    pub(crate) fn new(alloc: Global) -> Reader
         ensures { result.links.items ≡ [] }
     {
-        ReaderBuffers {
+        Reader {
             openers: Vec::new(alloc),
             runs: Vec::new(alloc),
             run_openers: Vec::new(alloc),
+            last_link: 0,
             links: Vec::new(alloc),
             emphasis: Vec::new(alloc),
         }
     }
-}
 
-// What is known of the pieces that have been read.
-#[derive(Drop)]
-pub(crate) struct Reader<'a> {
-    text: &'a str,
-    run_openers: Vec<Delimiters>,
-    openers: Vec<Opener>,
-    runs: Vec<Delimiters>,
-    last_link: usize,
-    links: Vec<Option<Link>>,
-    emphasis: Vec<Emphasis>,
-}
-
-impl<'a> Model for Reader<'a> {
-    ghost use Rattle.std.specs.Prelude.{reverse, length};
-    ghost use Rattle.markdown_inlines.specs.Inlines.{Reading};
-    ghost use Rattle.markdown_inlines.specs.EmphasisBounds.{AreOfDelimiters};
-    ghost use Rattle.markdown_inlines.specs.Readings.{AreOpen};
-    ghost use Rattle.markdown_inlines.specs.Sources.{AreLinkSources};
-
-    ghost Value = { Reading };
-
-    ghost view = { λ r. record {
-      text = r.text.now;
-      openers = reverse r.openers.items;
-      runs = r.runs.items;
-      last_link = r.last_link;
-      links = r.links.items;
-      emphasis = r.emphasis.items;
-    } };
-
-    ghost invariant = { λ r. AreOfDelimiters r.runs.items
-        × AreOpen r.text.now (reverse r.openers.items) (length r.runs.items) (length r.links.items)
-        × AreLinkSources r.text.now r.links.items };
-}
-
-impl<'a> Reader<'a> {
-    // No piece is read. Nothing depends on what is in the buffers.
-    pub(crate) fn new(buffers: ReaderBuffers, text: &'a str) -> Reader<'a>
-        ensures start { result ≡ at_start text.now }
+    // No piece of the next text is read. Nothing depends on what was read before.
+    pub(crate) fn restart(&mut self)
+        ensures { (text : List ℕ) → reading_of text self.new ≡ at_start text }
     {
-        let ReaderBuffers {
-            mut openers,
-            mut runs,
-            run_openers,
-            mut links,
-            mut emphasis,
-        } = buffers;
-        openers.clear();
-        runs.clear();
-        links.clear();
-        emphasis.clear();
-        Reader {
-            text,
-            run_openers,
-            openers,
-            runs,
-            last_link: 0,
-            links,
-            emphasis,
-        }
+        self.openers.clear();
+        self.runs.clear();
+        self.last_link = 0;
+        self.links.clear();
+        self.emphasis.clear();
     }
 
     // Reads a piece that is no right bracket.
     #[inline(always)]
     pub(crate) fn read(&mut self, piece: Piece) -> Result<(), AllocError>
-        requires runs { HasRuns piece.kind }
-        requires source { IsSource self.old.text piece }
-        ensures { OnOk result (self.new ≡ with_piece piece.kind piece self.old) }
+        ensures { OnOk result ((text : List ℕ)
+            → reading_of text self.new ≡ with_piece piece.kind piece (reading_of text self.old)) }
     {
         match piece.kind {
             PieceKind::Delimiters(run) => self.runs.push(Delimiters {
@@ -142,8 +91,8 @@ impl<'a> Reader<'a> {
 
     // Reads an opener.
     fn open(&mut self, is_image: bool, piece: Piece) -> Result<(), AllocError>
-        requires source { IsSource self.old.text piece }
-        ensures { OnOk result (self.new ≡ with_opener is_image piece self.old) }
+        ensures { OnOk result ((text : List ℕ)
+            → reading_of text self.new ≡ with_opener is_image piece (reading_of text self.old)) }
     {
         let opener = Opener {
             start: piece.start,
@@ -157,21 +106,25 @@ impl<'a> Reader<'a> {
         Ok(())
     }
 
-    // Reads a right bracket, and answers the place after the link that it ends, or after itself.
+    // Reads a right bracket of the text, and answers the place after the link that it ends, or after
+    // itself.
     pub(crate) fn close<L: Labels>(
         &mut self,
         alloc: Global,
+        text: &str,
         labels: &L,
         bracket: Piece,
     ) -> Result<usize, AllocError>
         requires bracket { bracket.end ≡ bracket.start + 1 }
-        requires source { IsSource self.old.text bracket }
-        requires before { AreBefore self.old.openers bracket.start }
-        ensures closed { IfOk result (λ end. IsClosed (L.known labels.now) self.old.openers self.old
-            bracket.start end self.new) }
-        ensures within { IfOk result (λ end. (bracket.start < end) × (end ≤ length self.old.text)) }
-        ensures boundary { IfOk result (λ end. IsCharBoundary self.old.text end) }
-        ensures text { OnOk result (self.new.text ≡ self.old.text) }
+        requires source { IsSource text.now bracket }
+        requires before { AreBefore (reading_of text.now self.old).openers bracket.start }
+        requires kept { IsKept (reading_of text.now self.old) }
+        ensures closed { IfOk result (λ end.
+            IsClosed (L.known labels.now) (reading_of text.now self.old).openers
+            (reading_of text.now self.old) bracket.start end (reading_of text.now self.new)) }
+        ensures within { IfOk result (λ end. (bracket.start < end) × (end ≤ length text.now)) }
+        ensures boundary { IfOk result (λ end. IsCharBoundary text.now end) }
+        ensures kept { OnOk result (IsKept (reading_of text.now self.new)) }
     {
         let Some(opener) = self.pop() else {
             return Ok(bracket.end);
@@ -179,7 +132,7 @@ impl<'a> Reader<'a> {
         if !self.may_begin(opener) {
             return Ok(bracket.end);
         }
-        match opener_target(alloc, self.text, labels, opener, bracket.start)? {
+        match opener_target(alloc, text, labels, opener, bracket.start)? {
             None => Ok(bracket.end),
             Some((target, end)) => {
                 let link = Link {
@@ -196,32 +149,31 @@ impl<'a> Reader<'a> {
 
     // Takes the innermost opener away.
     fn pop(&mut self) -> Option<Opener>
-        ensures some { IfSome result (λ opener.
-            self.old ≡ record self.new { openers = opener ∷ self.new.openers }) }
-        ensures few { IfSome result (λ opener. opener.runs ≤ length self.new.runs) }
-        ensures known { IfSome result (λ opener. opener.number < length self.new.links) }
-        ensures source { IfSome result (IsOpenerSource self.new.text) }
-        ensures outer { IfSome result (λ opener.
-            AreOpen self.new.text self.new.openers opener.runs opener.number) }
-        ensures none { IfNone result ((self.old.openers ≡ []) × (self.new ≡ self.old)) }
+        ensures some { IfSome result (λ opener. (text : List ℕ) → reading_of text self.old
+            ≡ record (reading_of text self.new) {
+              openers = opener ∷ (reading_of text self.new).openers;
+            }) }
+        ensures none { IfNone result ((text : List ℕ)
+            → ((reading_of text self.old).openers ≡ [])
+            × (reading_of text self.new ≡ reading_of text self.old)) }
     {
         self.openers.pop()
     }
 
     // Whether the opener may begin a link or an image.
     fn may_begin(&self, opener: Opener) -> bool
-        ensures { result ≡ may_begin opener self.now }
+        ensures { (text : List ℕ) → result ≡ may_begin opener (reading_of text self.now) }
     {
         opener.is_image || opener.start >= self.last_link
     }
 
     // Reads the end of a link. Its opener is no longer among the others.
     fn end_link(&mut self, alloc: Global, opener: Opener, link: Link) -> Result<(), AllocError>
-        requires few { opener.runs ≤ length self.old.runs }
-        requires known { opener.number < length self.old.links }
-        requires outer { AreOpen self.old.text self.old.openers opener.runs opener.number }
-        requires source { IsLinkSource self.old.text link }
-        ensures { OnOk result (self.new ≡ with_link link opener self.old.openers self.old) }
+        requires few { opener.runs ≤ length self.old.runs.items }
+        requires known { opener.number < length self.old.links.items }
+        requires delimiters { AreOfDelimiters self.old.runs.items }
+        ensures { OnOk result ((text : List ℕ) → reading_of text self.new
+            ≡ with_link link opener (reading_of text self.old).openers (reading_of text self.old)) }
     {
         let runs = &self.runs[opener.runs..];
         push_emphasis(alloc, &mut self.run_openers, runs, &mut self.emphasis)?;
@@ -235,29 +187,14 @@ impl<'a> Reader<'a> {
         Ok(())
     }
 
-    // The emphasis of the text, and the link that each opener begins.
-    pub(crate) fn finish(self, alloc: Global) -> Result<ReaderBuffers, AllocError>
-        ensures links { IfOk result (λ r. r.links.items ≡ self.entry.links) }
-        ensures sources { IfOk result (λ r. AreLinkSources self.entry.text r.links.items) }
-        ensures emphasis { IfOk result (λ r. r.emphasis.items
-            ≡ self.entry.emphasis ++ emphasis_of self.entry.runs) }
+    // Adds the emphasis that is in no link text.
+    pub(crate) fn finish(&mut self, alloc: Global) -> Result<(), AllocError>
+        requires { AreOfDelimiters self.old.runs.items }
+        ensures links { OnOk result (self.new.links.items ≡ self.old.links.items) }
+        ensures emphasis { OnOk result (self.new.emphasis.items
+            ≡ self.old.emphasis.items ++ emphasis_of self.old.runs.items) }
     {
-        let Reader {
-            openers,
-            runs,
-            mut run_openers,
-            links,
-            mut emphasis,
-            ..
-        } = self;
-        push_emphasis(alloc, &mut run_openers, &runs, &mut emphasis)?;
-        Ok(ReaderBuffers {
-            openers,
-            runs,
-            run_openers,
-            links,
-            emphasis,
-        })
+        push_emphasis(alloc, &mut self.run_openers, &self.runs, &mut self.emphasis)
     }
 }
 

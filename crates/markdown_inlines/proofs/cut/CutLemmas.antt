@@ -7,7 +7,7 @@ use Rattle.markdown_inlines.specs.Links.{Known}
 use Rattle.markdown_inlines.specs.Readings.{AreBefore}
 use Rattle.markdown_inlines.specs.declared.extensions.InlineExtensions.{InlineExtensions}
 use Rattle.markdown_inlines.specs.declared.reading.Opener.{Opener}
-use Rattle.markdown_inlines.specs.Inlines.{IsClosed, with_opener, Setting, Reading, at_start, AreRead, IsRead, IsPieceAt, text_between}
+use Rattle.markdown_inlines.specs.Inlines.{IsClosed, with_opener, with_piece, Setting, Reading, at_start, AreRead, IsRead, IsPieceAt, text_between}
 use Rattle.markdown_inlines.specs.Pieces.{BeginsAt, HasOnlyText, IsNext}
 use Rattle.markdown_inlines.specs.declared.pieces.Piece.{Piece}
 use Rattle.markdown_inlines.specs.declared.pieces.PieceKind.{PieceKind}
@@ -42,6 +42,24 @@ next_piece_at asked text from piece is = record {
   begins = begins_here asked text from piece.start piece.kind is.len is.begins;
   end_is = is.ends;
 }
+
+-- a piece that is no right bracket is read
+pub is_read : (setting : Setting) (reading next : Reading) (piece : Piece) (kind : PieceKind) → piece.kind ≡ kind → ¬ (kind ≡ K.Closer)
+    → IsPieceAt setting.asked reading.text piece → next ≡ with_piece kind piece reading → IsRead kind setting reading piece next
+is_read setting reading next piece K.Text same other at is =
+    absurd (subst (λ k. BeginsAt setting.asked reading.text piece.start piece.start k at.len) same at.begins)
+is_read setting reading next piece K.Escape same other at is = (at, is)
+is_read setting reading next piece K.HardBreak same other at is = (at, is)
+is_read setting reading next piece K.SoftBreak same other at is = (at, is)
+is_read setting reading next piece K.Reference same other at is = (at, is)
+is_read setting reading next piece (K.Code backticks) same other at is = (at, is)
+is_read setting reading next piece K.Uri same other at is = (at, is)
+is_read setting reading next piece K.Email same other at is = (at, is)
+is_read setting reading next piece K.Html same other at is = (at, is)
+is_read setting reading next piece (K.Delimiters run) same other at is = (at, is)
+is_read setting reading next piece K.LinkOpener same other at is = (at, is)
+is_read setting reading next piece K.ImageOpener same other at is = (at, is)
+is_read setting reading next piece K.Closer same other at is = absurd (other refl)
 
 -- the next piece is read, and the text before it
 pub read_next : (setting : Setting) (from end : ℕ) (reading next : Reading) (piece : Piece) → IsNext setting.asked reading.text from piece

@@ -3,49 +3,49 @@ use Rattle.std.proofs.lemmas.Str.{IsCharBoundary-start, IsCharBoundary-end}
 use Rattle.std.specs.Str.{IsCharBoundary}
 use Rattle.markdown_inlines.specs.Inlines.{Setting, Reading, at_start, AreRead, text_between}
 use Rattle.markdown_inlines.specs.Pieces.{IsNext, HasOnlyText, ReadText}
-use Rattle.markdown_inlines.specs.Readings.{AreBefore}
+use Rattle.markdown_inlines.specs.Readings.{AreBefore, IsKept, reading_of}
 use Rattle.markdown_inlines.specs.Searches.{bytes_passed, next_searched, pieces_searched, text_searched, unsearched}
 use Rattle.markdown_inlines.specs.Sources.{AreSources, AreLinkSources}
 use Rattle.markdown_inlines.specs.declared.pieces.Piece.{Piece}
 use Rattle.markdown_inlines.proofs.cut.CutLemmas.{next_piece_at, read_next, read_out, added, before_later, read_before}
 use Rattle.markdown_inlines.proofs.cut.SourceLemmas.{source_added, text_added}
+use Rattle.markdown_inlines.proofs.reading.ReadingLemmas.{start_kept}
 use Rattle.markdown_inlines.proofs.searches.SearchLemmas.{last_joined, next_joined}
 use Rattle.markdown_inlines.proofs.cut.cut_within.Goals as goal
 
-pub loop-reader-init : goal.loop-reader-init
-loop-reader-init g c =
+pub loop-scanner-init : goal.loop-scanner-init
+loop-scanner-init g c =
     let setting : Setting = record { asked = c.args.extensions; known = g.L.Labels.known c.args.labels.now } in
-    let start = c.new-reader.ensures.start in (
+    let text = c.args.text.now in
+    let start = c.restart.ensures text in (
       subst (λ (l : List Piece). c.within-scanner.result ≡ record {
-        text = c.args.text.now;
+        text = text;
         asked = c.args.extensions;
         place = 0;
-        searched = pieces_searched c.args.text.now l (unsearched c.args.text.now);
+        searched = pieces_searched text l (unsearched text);
       }) (sym c.clear.ensures.items) c.within-scanner.ensures.start,
-      ap (λ (r : Reading). r.text) start,
       omega arith,
-      (λ later last read. subst (λ (l : List Piece). AreRead setting 0 (at_start c.args.text.now) (l ++ later) last) (sym c.clear.ensures.items)
+      (λ later last read. subst (λ (l : List Piece). AreRead setting 0 (at_start text) (l ++ later) last) (sym c.clear.ensures.items)
           (subst (λ (r : Reading). AreRead setting 0 r later last) start read)),
-      subst (λ (l : List Piece). AreSources c.args.text.now l 0) (sym c.clear.ensures.items)
+      subst (λ (l : List Piece). AreSources text l 0) (sym c.clear.ensures.items)
           (record { each = λ k d inside. absurd (omega (arith, inside)); joined = refl }),
-      IsCharBoundary-start c.args.text.now c.utf8.text,
+      IsCharBoundary-start text c.utf8.text,
       subst (λ (r : Reading). AreBefore r.openers 0) (sym start) tt,
+      subst IsKept (sym start) (start_kept text),
     )
 
 pub read_piece-requires-clause-here : goal.read_piece-requires-clause-here
 read_piece-requires-clause-here g c =
     let is_found = rw c.in-Some.is at c.in_ok-piece.ensures.found in
-    let is = c.loop-reader.invariant in
-    next_piece_at c.args.extensions c.loop-reader.reader.text c.loop-reader.place c.in-Some.piece
-    (subst (λ text. IsNext c.args.extensions text c.loop-reader.place c.in-Some.piece) (sym is.1)
-    (subst (λ (s : ReadText). IsNext s.asked s.text s.place c.in-Some.piece) is.0 is_found))
+    let is = c.loop-scanner.invariant in
+    next_piece_at c.args.extensions c.args.text.now c.loop-scanner.place c.in-Some.piece
+    (subst (λ (s : ReadText). IsNext s.asked s.text s.place c.in-Some.piece) is.0 is_found)
 
 pub read_piece-requires-clause-source : goal.read_piece-requires-clause-source
 read_piece-requires-clause-source g c =
     let is_within = rw c.in-Some.is at c.in_ok-piece.ensures.within in
     let is_boundary = rw c.in-Some.is at c.in_ok-piece.ensures.boundary in
-    let is = c.loop-reader.invariant in
-    let text = ap (λ (s : ReadText). s.text) is.0 ∙ sym is.1 in
+    let text = ap (λ (s : ReadText). s.text) c.loop-scanner.invariant.0 in
     record {
       some = is_within.0;
       begins = subst (λ t. IsCharBoundary t c.in-Some.piece.start) text is_boundary.0;
@@ -55,10 +55,10 @@ read_piece-requires-clause-source g c =
 pub read_piece-requires-clause-before : goal.read_piece-requires-clause-before
 read_piece-requires-clause-before g c =
     let is_found = rw c.in-Some.is at c.in_ok-piece.ensures.found in
-    let is = c.loop-reader.invariant in
-    let later : c.loop-reader.place ≤ c.in-Some.piece.start =
+    let is = c.loop-scanner.invariant in
+    let later : c.loop-scanner.place ≤ c.in-Some.piece.start =
     subst (λ (s : ReadText). s.place ≤ c.in-Some.piece.start) is.0 is_found.later in
-    before_later c.loop-reader.reader.openers c.loop-reader.place c.in-Some.piece.start later is.6
+    before_later (reading_of c.args.text.now c.loop-scanner.buffers.reader).openers c.loop-scanner.place c.in-Some.piece.start later is.5
 
 pub read_to-requires-clause-later : goal.read_to-requires-clause-later
 read_to-requires-clause-later g c =
@@ -68,96 +68,89 @@ read_to-requires-clause-later g c =
 pub read_to-requires-clause-within : goal.read_to-requires-clause-within
 read_to-requires-clause-within g c =
     let is_read = rw c.in-Some.is at c.in_ok-piece.ensures.read in
-    let is = c.loop-reader.invariant in
     subst (λ text. c.in_ok-place.place ≤ length text)
-    (is.1 ∙ (sym (ap (λ (s : ReadText). s.text) is.0) ∙ sym (ap (λ (s : ReadText). s.text) is_read)))
+    (sym (ap (λ (s : ReadText). s.text) c.loop-scanner.invariant.0) ∙ sym (ap (λ (s : ReadText). s.text) is_read))
     c.in_ok-place.ensures.within.1
 
-pub loop-reader-smaller : goal.loop-reader-smaller
-loop-reader-smaller g c =
+pub loop-scanner-smaller : goal.loop-scanner-smaller
+loop-scanner-smaller g c =
     let is_found = rw c.in-Some.is at c.in_ok-piece.ensures.found in
     let is_within = rw c.in-Some.is at c.in_ok-piece.ensures.within in
-    let is = c.loop-reader.invariant in
-    let later : c.loop-reader.place ≤ c.in-Some.piece.start =
-    subst (λ (s : ReadText). s.place ≤ c.in-Some.piece.start) is.0 is_found.later in
-    let within : c.in_ok-place.place ≤ length c.args.text.now =
-    subst (λ text. c.in_ok-place.place ≤ length text) is.1 c.in_ok-place.ensures.within.1 in
-    omega (arith, later, within, is_within.0, c.in_ok-place.ensures.within.0)
+    let later : c.loop-scanner.place ≤ c.in-Some.piece.start =
+    subst (λ (s : ReadText). s.place ≤ c.in-Some.piece.start) c.loop-scanner.invariant.0 is_found.later in
+    omega (arith, later, c.in_ok-place.ensures.within.1, is_within.0, c.in_ok-place.ensures.within.0)
 
-pub loop-reader-preserved : goal.loop-reader-preserved
-loop-reader-preserved g c =
+pub loop-scanner-preserved : goal.loop-scanner-preserved
+loop-scanner-preserved g c =
     let is_found = rw c.in-Some.is at c.in_ok-piece.ensures.found in
     let is_within = rw c.in-Some.is at c.in_ok-piece.ensures.within in
     let is_boundary = rw c.in-Some.is at c.in_ok-piece.ensures.boundary in
     let is_read = rw c.in-Some.is at c.in_ok-piece.ensures.read in
-    let is = c.loop-reader.invariant in
+    let is = c.loop-scanner.invariant in
     let setting : Setting = record { asked = c.args.extensions; known = g.L.Labels.known c.args.labels.now } in
     let text = c.args.text.now in
-    let reading = c.loop-reader.reader in
+    let reading = reading_of text c.loop-scanner.buffers.reader in
     let piece = c.in-Some.piece in
+    let pieces = c.loop-scanner.buffers.pieces.items in
     let end = c.in_ok-place.place in
-    let from = c.loop-reader.place in
-    let next = c.read_piece.new.reader in
+    let from = c.loop-scanner.place in
+    let next = reading_of text c.read_piece.new.reader in
     let between = text_between from piece.start in
-    let here : IsNext c.args.extensions reading.text from piece =
-    subst (λ t. IsNext c.args.extensions t from piece) (sym is.1)
-    (subst (λ (s : ReadText). IsNext s.asked s.text s.place piece) is.0 is_found) in
+    let here : IsNext c.args.extensions text from piece = subst (λ (s : ReadText). IsNext s.asked s.text s.place piece) is.0 is_found in
     let begins : IsCharBoundary text piece.start =
     subst (λ t. IsCharBoundary t piece.start) (ap (λ (s : ReadText). s.text) is.0) is_boundary.0 in
-    let ends : IsCharBoundary text end = subst (λ t. IsCharBoundary t end) is.1 c.in_ok-place.ensures.boundary in
+    let ends = c.in_ok-place.ensures.boundary in
     let pushed = c.in_ok-push.ensures.items ∙ ap (λ (l : List Piece). l ++ record piece { end = end } ∷ []) c.in_ok-push_text.ensures in (
       c.read_to.ensures ∙ (ap (λ (s : ReadText). record s { place = end }) is_read
           ∙ (ap (λ (s : ReadText). record s { place = end; searched = next_searched s.text s.place piece s.searched }) is.0
           ∙ ap (λ s. record { text = text; asked = c.args.extensions; place = end; searched = s })
-          (next_joined text c.loop-reader.buffers.pieces.items from end piece (unsearched text) (c.in_ok-place.ensures.searched text)
+          (next_joined text pieces from end piece (unsearched text) (c.in_ok-place.ensures.searched text)
           ∙ ap (λ (l : List Piece). pieces_searched text l (unsearched text)) (sym pushed)))),
-      c.in_ok-place.ensures.text ∙ is.1,
-      subst (λ t. end ≤ length t) is.1 c.in_ok-place.ensures.within.1,
+      c.in_ok-place.ensures.within.1,
       (λ later last read. subst (λ (l : List Piece). AreRead setting 0 (at_start text) l last)
-          (sym (added c.loop-reader.buffers.pieces.items between later (record piece { end = end }) c.push.new.self.items pushed))
-          (is.3 (between ++ record piece { end = end } ∷ later) last
+          (sym (added pieces between later (record piece { end = end }) c.push.new.self.items pushed))
+          (is.2 (between ++ record piece { end = end } ∷ later) last
           (read_next setting from end reading next piece here c.in_ok-place.ensures.read later last read))),
       subst (λ (l : List Piece). AreSources text l end) (sym pushed)
-          (source_added text (c.loop-reader.buffers.pieces.items ++ between) (record piece { end = end })
-          (text_added text c.loop-reader.buffers.pieces.items from piece.start is.4 here.later is.5 begins)
+          (source_added text (pieces ++ between) (record piece { end = end })
+          (text_added text pieces from piece.start is.3 here.later is.4 begins)
           (record { some = omega (arith, is_within.0, c.in_ok-place.ensures.within.0); begins = begins; ends = ends })),
       ends,
       read_before setting reading next (record piece { end = end }) (omega (arith, is_within.0, c.in_ok-place.ensures.within.0))
-          (before_later reading.openers from piece.start here.later is.6) piece.kind c.in_ok-place.ensures.read,
+          (before_later reading.openers from piece.start here.later is.5) piece.kind c.in_ok-place.ensures.read,
+      c.in_ok-place.ensures.kept,
     )
 
 pub returns : goal.returns
 returns g c =
     let is_none = rw c.in_default.is at c.in_ok-piece.ensures.none in
     let is_all = rw c.in_default.is at c.in_ok-piece.ensures.all in
-    let is = c.loop-reader.invariant in
+    let is = c.loop-scanner.invariant in
     let setting : Setting = record { asked = c.args.extensions; known = g.L.Labels.known c.args.labels.now } in
     let text = c.args.text.now in
-    let reading = c.loop-reader.reader in
-    let from = c.loop-reader.place in
-    let only : HasOnlyText c.args.extensions reading.text from (length reading.text) =
-    subst (λ t. HasOnlyText c.args.extensions t from (length t)) (sym is.1)
-    (subst (λ (s : ReadText). HasOnlyText s.asked s.text s.place (length s.text)) is.0 is_none) in
-    let within : from ≤ length reading.text = subst (λ t. from ≤ length t) (sym is.1) is.2 in
+    let reading = reading_of text c.loop-scanner.buffers.reader in
+    let pieces = c.loop-scanner.buffers.pieces.items in
+    let from = c.loop-scanner.place in
+    let only : HasOnlyText c.args.extensions text from (length text) =
+    subst (λ (s : ReadText). HasOnlyText s.asked s.text s.place (length s.text)) is.0 is_none in
     let last = is_all
     ∙ ap (λ (s : ReadText). record s {
       place = length s.text;
       searched = text_searched s.text s.place (length s.text - s.place) s.searched;
     }) is.0 in
-    let out = subst (λ t. AreRead setting from reading (text_between from (length t)) reading) is.1 (read_out setting from reading within only) in
     record {
       cut = record {
         last = reading;
         read = subst (λ (l : List Piece). AreRead setting 0 (at_start text) l reading) (sym c.in_ok-push_text-2.ensures)
-            (is.3 (text_between from (length text)) reading out);
-        links_are = c.in_ok-buffers.ensures.links;
-        emphasis_is = c.in_ok-buffers.ensures.emphasis;
+            (is.2 (text_between from (length text)) reading (read_out setting from reading is.1 only));
+        links_are = c.in_ok-finish.ensures.links;
+        emphasis_is = c.in_ok-finish.ensures.emphasis;
       };
       sources = subst (λ (l : List Piece). AreSources text l (length text)) (sym c.in_ok-push_text-2.ensures)
-          (text_added text c.loop-reader.buffers.pieces.items from (length text) is.4 is.2 is.5 (IsCharBoundary-end text));
-      links = subst (λ t. AreLinkSources t c.in_ok-buffers.field-0.links.items) is.1 c.in_ok-buffers.ensures.sources;
+          (text_added text pieces from (length text) is.3 is.1 is.4 (IsCharBoundary-end text));
+      links = subst (AreLinkSources text) (sym c.in_ok-finish.ensures.links) is.6.links;
       passed = c.passed-buffers.ensures.value ∙ ap bytes_passed (ap (λ (s : ReadText). s.searched) last
-          ∙ (last_joined text c.loop-reader.buffers.pieces.items from (length text) (unsearched text)
+          ∙ (last_joined text pieces from (length text) (unsearched text)
           ∙ ap (λ (l : List Piece). pieces_searched text l (unsearched text)) (sym c.in_ok-push_text-2.ensures)));
       budget = subst (λ t. c.passed-buffers.result ≤ 10 * length t) (ap (λ (s : ReadText). s.text) last) c.passed-buffers.ensures.budget;
     }

@@ -1,22 +1,23 @@
 use Rattle.std.proofs.Common.{◌≡◌, ◌≤◌, ◌-◌, length}
 use Rattle.std.specs.Str.{IsCharBoundary}
-use Rattle.markdown_inlines.specs.Readings.{AreBefore}
+use Rattle.markdown_inlines.specs.Readings.{AreBefore, IsKept, reading_of}
 use Rattle.markdown_inlines.specs.Searches.{pieces_searched, unsearched}
 use Rattle.markdown_inlines.specs.Sources.{AreSources}
 use Rattle.markdown_inlines.proofs.cut.CutLemmas.{ReadsOn}
 use Rattle.markdown_inlines.proofs.cut.cut_within.Given as goal
 
-abbrev pub invariant-loop-reader : goal.invariant-loop-reader
-invariant-loop-reader g l =
+abbrev pub invariant-loop-scanner : goal.invariant-loop-scanner
+invariant-loop-scanner g l =
     (l.scanner ≡ record {
       text = l.text;
       asked = l.extensions;
       place = l.place;
       searched = pieces_searched l.text l.buffers.pieces.items (unsearched l.text);
-    }) × (l.reader.text ≡ l.text) × (l.place ≤ length l.text)
-    × ReadsOn (record { asked = l.extensions; known = g.L.Labels.known l.labels }) l.text l.place l.reader l.buffers.pieces.items
+    }) × (l.place ≤ length l.text)
+    × ReadsOn (record { asked = l.extensions; known = g.L.Labels.known l.labels }) l.text l.place (reading_of l.text l.buffers.reader)
+    l.buffers.pieces.items
     × AreSources l.text l.buffers.pieces.items l.place × IsCharBoundary l.text l.place
-    × AreBefore l.reader.openers l.place
+    × AreBefore (reading_of l.text l.buffers.reader).openers l.place × IsKept (reading_of l.text l.buffers.reader)
 
-abbrev pub decreases-loop-reader : goal.decreases-loop-reader
-decreases-loop-reader g l = length l.text - l.place
+abbrev pub decreases-loop-scanner : goal.decreases-loop-scanner
+decreases-loop-scanner g l = length l.text - l.place
