@@ -4,3 +4,4 @@ pub mod LinkLaws
 pub mod OneCut
 pub mod StrikethroughLaws
 pub mod WikilinkLaws
+pub mod WrittenLemmas

@@ -20,3 +20,4 @@ pub mod Readings
 pub mod Searches
 pub mod Sources
 pub mod WikiLinks
+pub mod Written

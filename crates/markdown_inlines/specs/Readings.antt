@@ -1,10 +1,11 @@
 -- What the openers that have been read hold to.
-use Rattle.std.specs.Prelude.{ℕ, ◌<◌, ◌≤◌, List, [], ◌∷◌, length, reverse, ⊤}
+use Rattle.std.specs.Prelude.{ℕ, ◌≡◌, ◌<◌, ◌≤◌, List, [], ◌∷◌, get_or, length, reverse, Option, None, ⊤}
 use Rattle.std.specs.List.{AllByRecursion}
 use Rattle.std.specs.Str.{IsCharBoundary}
 use Rattle.markdown_inlines.specs.EmphasisBounds.{AreOfDelimiters}
 use Rattle.markdown_inlines.specs.Inlines.{Reading}
 use Rattle.markdown_inlines.specs.Sources.{AreLinkSources}
+use Rattle.markdown_inlines.specs.declared.links.Link.{Link}
 use Rattle.markdown_inlines.specs.declared.reading.Opener.{Opener}
 use Rattle.markdown_inlines.specs.declared.reading.Reader.{Reader}
 
@@ -24,6 +25,10 @@ abbrev pub AreOpen : List ℕ → List Opener → ℕ → ℕ → Type 0
 AreOpen text [] runs number = ⊤
 AreOpen text (opener ∷ outer) runs number =
     (opener.runs ≤ runs) × (opener.number < number) × IsOpenerSource text opener × AreOpen text outer opener.runs opener.number
+
+-- none of these openers begins a link
+abbrev pub AreFree : List (Option Link) → List Opener → Type 0
+AreFree links openers = AllByRecursion (λ (opener : Opener). get_or links opener.number None ≡ None) openers
 
 -- what a reader knows of a text
 abbrev pub reading_of : List ℕ → Reader → Reading

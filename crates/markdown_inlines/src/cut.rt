@@ -1,13 +1,16 @@
 //! A text cut into its inlines. (CommonMark 0.31.2, chapter 6)
-ghost use Rattle.std.specs.Prelude.{ℕ, List, ◌≡◌, ◌++◌, ◌<◌, ◌≤◌, ◌+◌, ◌*◌, [], length, IfOk, OnOk};
+ghost use Rattle.std.specs.Prelude.{ℕ, Bool, List, ◌≡◌, ◌++◌, ◌∷◌, ◌<◌, ◌≤◌, ◌+◌, ◌*◌, ◌||◌, [], false, length, IfOk, OnOk};
 ghost use Rattle.std.specs.Str.{IsCharBoundary};
 ghost use Rattle.markdown_inlines.specs.Inlines.{IsCut, IsRead, IsPieceAt, text_between};
-ghost use Rattle.markdown_inlines.specs.Readings.{AreBefore, IsKept, reading_of};
+ghost use Rattle.markdown_inlines.specs.Marks.{ends_link};
+ghost use Rattle.markdown_inlines.specs.Readings.{AreBefore, AreFree, IsKept, reading_of};
 ghost use Rattle.markdown_inlines.specs.Searches.{Searched, bytes_searched, kind_searched};
 ghost use Rattle.markdown_inlines.specs.Sources.{AreSources, AreLinkSources, IsSource};
+ghost use Rattle.markdown_inlines.specs.Written.{have_runs, is_run, piece_of, pieces_of, written, written_as};
 
 use crate::emphasis::Emphasis;
 use crate::extensions::InlineExtensions;
+use crate::inlines::Inline;
 use crate::links::{Labels, Link};
 use crate::piece_scanner::PieceScanner;
 use crate::pieces::{Piece, PieceKind};
@@ -66,19 +69,47 @@ pub fn cut_inlines<L: Labels>(
 {
     let mut cut = CutBuffers::new(alloc);
     cut_within(alloc, &mut cut, text, labels, extensions)?;
+    let pieces = pieces_of(alloc, &cut.inlines)?;
     let found = cut.reader;
     Ok(Cut {
-        pieces: cut.pieces,
+        pieces,
         links: found.links,
         emphasis: found.emphasis,
         passed: cut.passed,
     })
 }
 
-// The memory that a text is cut in, with its cut at the end.
+// The pieces that these inlines were written for.
+fn pieces_of(alloc: Global, inlines: &[Inline]) -> Result<Vec<Piece>, AllocError>
+    ensures { IfOk result (λ pieces. pieces.items ≡ pieces_of inlines.now) }
+{
+    let mut pieces = Vec::with_capacity(alloc, inlines.len())?;
+    for inline in inlines {
+        pieces.push(piece_of(inline))?;
+    }
+    Ok(pieces)
+}
+
+// The piece that an inline was written for.
+fn piece_of(inline: &Inline) -> Piece
+    ensures { result ≡ piece_of inline.now }
+{
+    match inline {
+        Inline::Leaf(piece) => *piece,
+        Inline::EndLink(piece) => *piece,
+        _ => Piece {
+            kind: PieceKind::Text,
+            start: 0,
+            end: 0,
+        },
+    }
+}
+
+// The memory that a text is cut in, with its cut at the end: the pieces are written as inlines, in which
+// no link and no emphasis begins yet.
 #[derive(Drop)]
 pub(crate) struct CutBuffers {
-    pub(crate) pieces: Vec<Piece>,
+    pub(crate) inlines: Vec<Inline>,
     pub(crate) reader: Reader,
     passed: u128,
     strings: Vec<usize>,
@@ -87,10 +118,11 @@ pub(crate) struct CutBuffers {
 impl CutBuffers {
     // Nothing is cut yet.
     pub(crate) fn new(alloc: Global) -> CutBuffers
-        ensures { result.reader.links.items ≡ [] }
+        ensures inlines { result.inlines.items ≡ [] }
+        ensures links { result.reader.links.items ≡ [] }
     {
         CutBuffers {
-            pieces: Vec::new(alloc),
+            inlines: Vec::new(alloc),
             reader: Reader::new(alloc),
             passed: 0,
             strings: Vec::new(alloc),
@@ -98,55 +130,67 @@ impl CutBuffers {
     }
 }
 
-// Cuts a text as `cut_inlines` does. Nothing depends on what is in the buffers.
+// Cuts a text as `cut_inlines` does, and answers whether a delimiter run is among the pieces. Nothing
+// depends on what is in the buffers.
 pub(crate) fn cut_within<L: Labels>(
     alloc: Global,
     buffers: &mut CutBuffers,
     text: &str,
     labels: &L,
     extensions: InlineExtensions,
-) -> Result<(), AllocError>
+) -> Result<bool, AllocError>
     ensures cut { OnOk result (
         IsCut text.now (record { asked = extensions; known = L.known labels.now })
-        buffers.new.pieces.items buffers.new.reader.links.items buffers.new.reader.emphasis.items) }
+        (pieces_of buffers.new.inlines.items) buffers.new.reader.links.items
+        buffers.new.reader.emphasis.items) }
+    ensures written { OnOk result (buffers.new.inlines.items
+        ≡ written buffers.new.reader.links.items (pieces_of buffers.new.inlines.items)) }
+    ensures runs { IfOk result (λ has_runs.
+        has_runs ≡ have_runs (pieces_of buffers.new.inlines.items)) }
     ensures sources { OnOk result (
-        AreSources text.now buffers.new.pieces.items (length text.now)) }
+        AreSources text.now (pieces_of buffers.new.inlines.items) (length text.now)) }
     ensures links { OnOk result (AreLinkSources text.now buffers.new.reader.links.items) }
-    ensures passed { OnOk result (
-        buffers.new.passed ≡ bytes_searched text.now buffers.new.pieces.items) }
+    ensures passed { OnOk result (buffers.new.passed
+        ≡ bytes_searched text.now (pieces_of buffers.new.inlines.items)) }
     ensures budget { OnOk result (buffers.new.passed ≤ 10 * length text.now) }
 {
     let strings = mem::replace(&mut buffers.strings, Vec::new(alloc));
     let mut scanner = PieceScanner::within(strings, text, extensions);
     buffers.reader.restart();
-    buffers.pieces.clear();
+    buffers.inlines.clear();
+    let mut has_runs = false;
     let mut place = 0;
     while let Some(piece) = scanner.next(alloc)? {
-        push_text(&mut buffers.pieces, place, piece.start)?;
-        place = read_piece(alloc, text, labels, extensions, &mut buffers.reader, piece)?;
-        buffers.pieces.push(Piece {
-            end: place,
-            ..piece
-        })?;
+        push_text(&mut buffers.inlines, place, piece.start)?;
+        has_runs = or_is_run(has_runs, &piece.kind);
+        place = read_piece(alloc, text, labels, extensions, buffers, piece)?;
         scanner.read_to(place);
     }
-    push_text(&mut buffers.pieces, place, text.len())?;
+    push_text(&mut buffers.inlines, place, text.len())?;
     buffers.reader.finish(alloc)?;
     buffers.passed = scanner.passed();
     buffers.strings = scanner.into_buffer();
-    Ok(())
+    Ok(has_runs)
+}
+
+// Whether one more piece is a delimiter run, or one was before it.
+fn or_is_run(has_runs: bool, kind: &PieceKind) -> bool
+    ensures { result ≡ (has_runs || is_run kind.now) }
+{
+    has_runs || matches!(kind, PieceKind::Delimiters(_))
 }
 
 // Adds the text from one place up to another, if there is any.
-fn push_text(pieces: &mut Vec<Piece>, from: usize, to: usize) -> Result<(), AllocError>
-    ensures { OnOk result (pieces.new.items ≡ pieces.old.items ++ text_between from to) }
+fn push_text(inlines: &mut Vec<Inline>, from: usize, to: usize) -> Result<(), AllocError>
+    ensures { OnOk result (inlines.new.items
+        ≡ inlines.old.items ++ written [] (text_between from to)) }
 {
     if from < to {
-        pieces.push(Piece {
+        inlines.push(Inline::Leaf(Piece {
             kind: PieceKind::Text,
             start: from,
             end: to,
-        })?;
+        }))?;
     }
     Ok(())
 }
@@ -157,26 +201,44 @@ fn read_piece<L: Labels>(
     text: &str,
     labels: &L,
     extensions: InlineExtensions,
-    reader: &mut Reader,
+    buffers: &mut CutBuffers,
     piece: Piece,
 ) -> Result<usize, AllocError>
     requires here { IsPieceAt extensions text.now piece }
     requires source { IsSource text.now piece }
-    requires before { AreBefore (reading_of text.now reader.old).openers piece.start }
-    requires kept { IsKept (reading_of text.now reader.old) }
+    requires before { AreBefore (reading_of text.now buffers.old.reader).openers piece.start }
+    requires kept { IsKept (reading_of text.now buffers.old.reader) }
+    requires free { AreFree buffers.old.reader.links.items
+        (reading_of text.now buffers.old.reader).openers }
+    requires new { ends_link buffers.old.reader.links.items piece.start ≡ false }
     ensures read { IfOk result (λ end. IsRead piece.kind
-        (record { asked = extensions; known = L.known labels.now }) (reading_of text.now reader.old)
-        (record piece { end = end }) (reading_of text.now reader.new)) }
-    ensures kept { OnOk result (IsKept (reading_of text.now reader.new)) }
+        (record { asked = extensions; known = L.known labels.now })
+        (reading_of text.now buffers.old.reader) (record piece { end = end })
+        (reading_of text.now buffers.new.reader)) }
+    ensures written { IfOk result (λ end. buffers.new.inlines.items ≡ buffers.old.inlines.items
+        ++ written_as piece.kind buffers.new.reader.links.items (record piece { end = end }) ∷ []) }
+    ensures kept { OnOk result (IsKept (reading_of text.now buffers.new.reader)) }
     ensures searched { IfOk result (λ end. (text : List ℕ) (searched : Searched)
         → kind_searched piece.kind text piece.start end searched
         ≡ kind_searched piece.kind text piece.start piece.end searched) }
     ensures within { IfOk result (λ end. (piece.end ≤ end) × (end ≤ length text.now)) }
     ensures boundary { IfOk result (λ end. IsCharBoundary text.now end) }
 {
-    if matches!(piece.kind, PieceKind::Closer) {
-        return reader.close(alloc, text, labels, piece);
+    if !matches!(piece.kind, PieceKind::Closer) {
+        buffers.reader.read(piece)?;
+        buffers.inlines.push(Inline::Leaf(piece))?;
+        return Ok(piece.end);
     }
-    reader.read(piece)?;
-    Ok(piece.end)
+    match buffers.reader.close(alloc, text, labels, piece)? {
+        None => {
+            buffers.inlines.push(Inline::Leaf(piece))?;
+            Ok(piece.end)
+        }
+        Some(end) => {
+            buffers
+                .inlines
+                .push(Inline::EndLink(Piece { end, ..piece }))?;
+            Ok(end)
+        }
+    }
 }

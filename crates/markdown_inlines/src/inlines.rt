@@ -1,12 +1,12 @@
 //! The inlines of a text in order: what begins, what ends, and what stands between. (CommonMark
 //! 0.31.2, chapter 6)
 ghost use Rattle.std.specs.Prelude.{◌≡◌, ◌++◌, ◌<◌, ◌≤◌, ◌+◌, ◌^◌, List, Option, length, IfOk, OnOk, OnErr};
+ghost use Rattle.std.specs.List.{All, flat_map};
 ghost use Rattle.markdown_inlines.specs.Marks.{AreMarks};
 ghost use Rattle.markdown_inlines.specs.Nesting.{Nest, StandFrom};
-ghost use Rattle.markdown_inlines.specs.Output.{AreInlines, counted, delimiters_between, delimiter_with, inlines_at, opener_as, none_found};
-ghost use Rattle.std.specs.List.{All};
-ghost use Rattle.markdown_inlines.specs.Output.{closer_with, inlines_from};
+ghost use Rattle.markdown_inlines.specs.Output.{AreInlines, delimiters_between, delimiter_with, none_found};
 ghost use Rattle.markdown_inlines.specs.Sources.{AreLinkSources};
+ghost use Rattle.markdown_inlines.specs.Written.{IsWithin, counted_in, is_opener, spread, spread_as, started, with_starts};
 
 use crate::cut::{CutBuffers, cut_within};
 use crate::emphasis::Emphasis;
@@ -14,8 +14,10 @@ use crate::extensions::InlineExtensions;
 use crate::links::{Labels, Link};
 use crate::marks::{Mark, put_marks};
 use crate::pieces::{Piece, PieceKind};
+use crate::reading::Reader;
 use std::alloc::{AllocError, Global};
 use std::marker::Model;
+use std::mem;
 
 /// An inline of a text, or where one that holds others begins or ends.
 #[derive(Clone, Copy, Debug, PartialEq, Eq)]
@@ -86,9 +88,10 @@ pub fn find_inlines<L: Labels>(
 /// from block to block makes one.
 #[derive(Drop)]
 pub struct InlineFinder {
-    inlines: Vec<Inline>,
-    marks: Vec<Mark>,
     cut: CutBuffers,
+    marks: Vec<Mark>,
+    // Where the inlines of a text with delimiter runs are put in.
+    spare: Vec<Inline>,
 }
 
 impl Model for InlineFinder {
@@ -96,7 +99,7 @@ impl Model for InlineFinder {
 
     ghost Value = { FoundInlines };
 
-    ghost view = { λ f. record { inlines = f.inlines.items; links = f.cut.reader.links.items } };
+    ghost view = { λ f. record { inlines = f.cut.inlines.items; links = f.cut.reader.links.items } };
 }
 
 impl InlineFinder {
@@ -105,9 +108,9 @@ impl InlineFinder {
         ensures { result ≡ none_found }
     {
         InlineFinder {
-            inlines: Vec::new(alloc),
-            marks: Vec::new(alloc),
             cut: CutBuffers::new(alloc),
+            marks: Vec::new(alloc),
+            spare: Vec::new(alloc),
         }
     }
 
@@ -164,8 +167,18 @@ impl InlineFinder {
             self.new.inlines self.new.links) }
         ensures links { OnOk result (AreLinkSources text.now self.new.links) }
     {
-        cut_within(alloc, &mut self.cut, text, labels, extensions)?;
-        put_inlines(&mut self.inlines, &mut self.marks, &self.cut, text.len())?;
+        let has_runs = cut_within(alloc, &mut self.cut, text, labels, extensions)?;
+        put_starts(&mut self.cut.inlines, &self.cut.reader.links);
+        if !has_runs {
+            return Ok(());
+        }
+        put_delimiters(
+            &mut self.cut.inlines,
+            &mut self.spare,
+            &mut self.marks,
+            &self.cut.reader,
+            text.len(),
+        )?;
         Ok(())
     }
 
@@ -173,7 +186,7 @@ impl InlineFinder {
     fn forget(&mut self)
         ensures { self.new ≡ none_found }
     {
-        self.inlines.clear();
+        self.cut.inlines.clear();
         self.cut.reader.links.clear();
     }
 
@@ -181,7 +194,7 @@ impl InlineFinder {
     pub fn inlines(&self) -> &[Inline]
         ensures { result.now ≡ self.now.inlines }
     {
-        &self.inlines
+        &self.cut.inlines
     }
 
     /// Its links, as in `Inlines::links`.
@@ -196,8 +209,12 @@ impl InlineFinder {
         ensures inlines { result.inlines.items ≡ self.inlines }
         ensures links { result.links.items ≡ self.links }
     {
-        let InlineFinder { inlines, cut, .. } = self;
-        let CutBuffers { reader, .. } = cut;
+        let InlineFinder { cut, .. } = self;
+        let CutBuffers {
+            inlines,
+            reader,
+            ..
+        } = cut;
         Inlines {
             inlines,
             links: reader.links,
@@ -205,101 +222,108 @@ impl InlineFinder {
     }
 }
 
-// Puts in the inlines of a text of this length that has been cut.
-fn put_inlines(
+// Puts in the starts of the links.
+fn put_starts(inlines: &mut [Inline], links: &[Option<Link>])
+    ensures { inlines.new ≡ with_starts links.now 0 inlines.old }
+{
+    if links.is_empty() {
+        return;
+    }
+    let mut number = 0;
+    for inline in inlines.iter_mut() {
+        number = put_start(inline, links, number);
+    }
+}
+
+// Makes an opener with this number the start of its link, if it begins one, and answers the number of
+// the next one.
+fn put_start(inline: &mut Inline, links: &[Option<Link>], number: usize) -> usize
+    requires { number + 1 < 2 ^ 64 }
+    ensures inline { inline.new ≡ started links.now number inline.old }
+    ensures next { result ≡ counted_in inline.old number }
+{
+    if !is_opener(inline) {
+        return number;
+    }
+    if let Some(Some(_)) = links.get(number) {
+        *inline = Inline::StartLink(number);
+    }
+    number + 1
+}
+
+// Whether a bracket may begin a link or an image.
+fn is_opener(inline: &Inline) -> bool
+    ensures { result ≡ is_opener inline.now }
+{
+    match inline {
+        Inline::Leaf(piece) => {
+            matches!(piece.kind, PieceKind::LinkOpener | PieceKind::ImageOpener)
+        }
+        _ => false,
+    }
+}
+
+// Puts in the delimiters of the runs of a text of this length. Nothing depends on what is in the spare
+// memory.
+fn put_delimiters(
     inlines: &mut Vec<Inline>,
+    spare: &mut Vec<Inline>,
     marks: &mut Vec<Mark>,
-    cut: &CutBuffers,
+    reader: &Reader,
     len: usize,
 ) -> Result<(), AllocError>
-    requires { All (λ piece. (piece.start < piece.end) × (piece.end ≤ len)) cut.now.pieces.items }
+    requires { All (IsWithin len) inlines.old.items }
     ensures { OnOk result (inlines.new.items
-        ≡ inlines_from cut.now.reader.links.items cut.now.reader.emphasis.items 0
-        cut.now.pieces.items) }
+        ≡ flat_map (spread reader.now.links.items reader.now.emphasis.items) inlines.old.items) }
 {
-    put_marks(marks, len, &cut.reader.links, &cut.reader.emphasis)?;
-    inlines.clear();
-    push_inlines(inlines, &cut.pieces, marks, &cut.reader.links)?;
+    put_marks(marks, len, &reader.links, &reader.emphasis)?;
+    spare.clear();
+    push_spread(spare, inlines, marks)?;
+    mem::swap(inlines, spare);
     Ok(())
 }
 
-// Adds what these pieces are.
-fn push_inlines(
-    inlines: &mut Vec<Inline>,
-    pieces: &[Piece],
-    marks: &[Mark],
-    links: &[Option<Link>],
-) -> Result<(), AllocError>
-    requires { All (λ piece. (piece.start < piece.end)
-        × (piece.end ≤ length marks.now)) pieces.now }
-    ensures { OnOk result ((emphasis : List Emphasis)
-        → AreMarks links.now emphasis (length marks.now) marks.now
-        → inlines.new.items
-        ≡ inlines.old.items ++ inlines_from links.now emphasis 0 pieces.now) }
+// Adds these inlines with the delimiters of their runs.
+fn push_spread(out: &mut Vec<Inline>, inlines: &[Inline], marks: &[Mark]) -> Result<(), AllocError>
+    requires { All (IsWithin (length marks.now)) inlines.now }
+    ensures { OnOk result ((links : List (Option Link)) (emphasis : List Emphasis)
+        → AreMarks links emphasis (length marks.now) marks.now
+        → out.new.items ≡ out.old.items ++ flat_map (spread links emphasis) inlines.now) }
 {
-    let mut number = 0;
-    for piece in pieces {
-        push_piece(inlines, marks, links, number, piece)?;
-        number = counted(&piece.kind, number);
+    for inline in inlines {
+        push_inline(out, marks, inline)?;
     }
     Ok(())
 }
 
-// One more opener, if the piece is one.
-fn counted(kind: &PieceKind, number: usize) -> usize
-    requires { number + 1 < 2 ^ 64 }
-    ensures { result ≡ counted kind.now number }
+// Adds an inline, or the delimiters of a run.
+fn push_inline(inlines: &mut Vec<Inline>, marks: &[Mark], inline: &Inline) -> Result<(), AllocError>
+    requires { IsWithin (length marks.now) inline.now }
+    ensures { OnOk result ((links : List (Option Link)) (emphasis : List Emphasis)
+        → AreMarks links emphasis (length marks.now) marks.now
+        → inlines.new.items ≡ inlines.old.items ++ spread links emphasis inline.now) }
 {
-    match kind {
-        PieceKind::LinkOpener | PieceKind::ImageOpener => number + 1,
-        _ => number,
+    match inline {
+        Inline::Leaf(piece) => push_leaf(inlines, marks, piece)?,
+        _ => inlines.push(*inline)?,
     }
+    Ok(())
 }
 
-// Adds what a piece is, before which this number of openers stand.
-fn push_piece(
-    inlines: &mut Vec<Inline>,
-    marks: &[Mark],
-    links: &[Option<Link>],
-    number: usize,
-    piece: &Piece,
-) -> Result<(), AllocError>
+// Adds a leaf, or the delimiters of a run.
+fn push_leaf(inlines: &mut Vec<Inline>, marks: &[Mark], piece: &Piece) -> Result<(), AllocError>
     requires some { piece.now.start < piece.now.end }
     requires within { piece.now.end ≤ length marks.now }
-    ensures { OnOk result ((emphasis : List Emphasis)
-        → AreMarks links.now emphasis (length marks.now) marks.now
+    ensures { OnOk result ((links : List (Option Link)) (emphasis : List Emphasis)
+        → AreMarks links emphasis (length marks.now) marks.now
         → inlines.new.items
-        ≡ inlines.old.items ++ inlines_at piece.now.kind links.now emphasis number piece.now) }
+        ≡ inlines.old.items ++ spread_as piece.now.kind links emphasis piece.now) }
 {
     match piece.kind {
         PieceKind::Delimiters(_) => push_delimiters(inlines, marks, piece.start, piece.end)?,
-        PieceKind::LinkOpener | PieceKind::ImageOpener => {
-            inlines.push(opener_as(links, number, piece))?;
-        }
-        PieceKind::Closer => inlines.push(closer_with(marks[piece.start], piece))?,
         _ => inlines.push(Inline::Leaf(*piece))?,
     }
     Ok(())
-}
-
-// What the opener with a number is.
-fn opener_as(links: &[Option<Link>], number: usize, piece: &Piece) -> Inline
-    ensures { result ≡ opener_as links.now number piece.now }
-{
-    match links.get(number) {
-        Some(Some(_)) => Inline::StartLink(number),
-        _ => Inline::Leaf(*piece),
-    }
-}
-
-// What the right bracket with this mark is.
-fn closer_with(mark: Mark, piece: &Piece) -> Inline
-    ensures { result ≡ closer_with mark piece.now }
-{
-    match mark {
-        Mark::EndsLink => Inline::EndLink(*piece),
-        _ => Inline::Leaf(*piece),
-    }
 }
 
 // Adds what the delimiters from one place up to another are.

@@ -1,13 +1,15 @@
 //! What is known of a text that is read from left to right: which brackets may begin links, and which
 //! delimiter runs emphasis. (CommonMark 0.31.2, "Parsing strategy", phase 2)
-ghost use Rattle.std.specs.Prelude.{◌≡◌, ◌++◌, ◌<◌, ◌≤◌, ◌+◌, ℕ, List, [], ◌∷◌, length, IfOk, IfSome, IfNone, OnOk};
+ghost use Rattle.std.specs.Prelude.{◌≡◌, ◌++◌, ◌<◌, ◌≤◌, ◌+◌, ℕ, List, [], ◌∷◌, false, length, IfOk, IfSome, IfNone, OnOk};
+ghost use Rattle.std.specs.Option.{is_some, unwrap_or};
 ghost use Rattle.std.specs.Str.{IsCharBoundary};
 ghost use Rattle.markdown_scanners_tree.specs.SomeExactly.{SomeExactly};
 ghost use Rattle.markdown_inlines.specs.Emphasis.{emphasis_of};
 ghost use Rattle.markdown_inlines.specs.EmphasisBounds.{AreOfDelimiters};
 ghost use Rattle.markdown_inlines.specs.Inlines.{at_start, with_piece, with_opener, with_link, may_begin, IsClosed};
 ghost use Rattle.markdown_inlines.specs.Inlines.{bracket_of, LeadsTo};
-ghost use Rattle.markdown_inlines.specs.Readings.{AreBefore, IsKept, IsOpenerSource, reading_of};
+ghost use Rattle.markdown_inlines.specs.Marks.{ends_link};
+ghost use Rattle.markdown_inlines.specs.Readings.{AreBefore, AreFree, IsKept, IsOpenerSource, reading_of};
 ghost use Rattle.markdown_inlines.specs.Sources.{IsSource, IsTargetSource};
 
 use crate::delimiter_runs::DelimiterRun;
@@ -106,34 +108,41 @@ impl Reader {
         Ok(())
     }
 
-    // Reads a right bracket of the text, and answers the place after the link that it ends, or after
-    // itself.
+    // Reads a right bracket of the text, and answers the place after the link that it ends, if it ends
+    // one.
     pub(crate) fn close<L: Labels>(
         &mut self,
         alloc: Global,
         text: &str,
         labels: &L,
         bracket: Piece,
-    ) -> Result<usize, AllocError>
+    ) -> Result<Option<usize>, AllocError>
         requires bracket { bracket.end ≡ bracket.start + 1 }
         requires source { IsSource text.now bracket }
         requires before { AreBefore (reading_of text.now self.old).openers bracket.start }
         requires kept { IsKept (reading_of text.now self.old) }
-        ensures closed { IfOk result (λ end.
+        requires free { AreFree self.old.links.items (reading_of text.now self.old).openers }
+        requires new { ends_link self.old.links.items bracket.start ≡ false }
+        ensures closed { IfOk result (λ found.
             IsClosed (L.known labels.now) (reading_of text.now self.old).openers
-            (reading_of text.now self.old) bracket.start end (reading_of text.now self.new)) }
-        ensures within { IfOk result (λ end. (bracket.start < end) × (end ≤ length text.now)) }
-        ensures boundary { IfOk result (λ end. IsCharBoundary text.now end) }
+            (reading_of text.now self.old) bracket.start (unwrap_or found bracket.end)
+            (reading_of text.now self.new)) }
+        ensures ends { IfOk result (λ found.
+            ends_link self.new.links.items bracket.start ≡ is_some found) }
+        ensures within { IfOk result (λ found. IfSome found (λ end.
+            (bracket.start < end) × (end ≤ length text.now))) }
+        ensures boundary { IfOk result (λ found.
+            IfSome found (λ end. IsCharBoundary text.now end)) }
         ensures kept { OnOk result (IsKept (reading_of text.now self.new)) }
     {
         let Some(opener) = self.pop() else {
-            return Ok(bracket.end);
+            return Ok(None);
         };
         if !self.may_begin(opener) {
-            return Ok(bracket.end);
+            return Ok(None);
         }
         match opener_target(alloc, text, labels, opener, bracket.start)? {
-            None => Ok(bracket.end),
+            None => Ok(None),
             Some((target, end)) => {
                 let link = Link {
                     is_image: opener.is_image,
@@ -142,7 +151,7 @@ impl Reader {
                     target,
                 };
                 self.end_link(alloc, opener, link)?;
-                Ok(end)
+                Ok(Some(end))
             }
         }
     }

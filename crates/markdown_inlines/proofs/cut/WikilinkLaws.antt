@@ -1,11 +1,11 @@
 -- Nothing is a wikilink unless it is asked for.
-use Rattle.std.proofs.Common.{ℕ, zero, suc, Bool, true, false, List, [], ◌∷◌, ◌++◌, ◌≡◌, ◌+◌, ◌∙◌, inl, inr, arith, refl, sym, subst}
+use Rattle.std.proofs.Common.{ℕ, zero, suc, Bool, true, false, List, [], ◌∷◌, ◌≡◌, ◌+◌, inl, inr, arith, refl, sym, subst}
 use Rattle.std.proofs.Common.{Option, Some, None, IsTrue, slice_set, if◌then◌else◌}
 use Rattle.std.specs.Option.{IfSome}
 use Rattle.std.specs.List.{AllByRecursion}
 use Rattle.std.specs.declared.ops.Range.{Range}
 use Rattle.markdown_inlines.specs.InlineLaws.{HasNoWikilinks}
-use Rattle.markdown_inlines.specs.Inlines.{Setting, Reading, at_start, with_opener, with_piece, with_link, bracket_of, IsClosed, LeadsTo}
+use Rattle.markdown_inlines.specs.Inlines.{Setting, Reading, at_start, with_opener, with_piece, bracket_of, IsClosed, LeadsTo}
 use Rattle.markdown_inlines.specs.Inlines.{AreRead, IsCut}
 use Rattle.markdown_inlines.specs.Links.{Known, IsTarget}
 use Rattle.markdown_inlines.specs.Pieces.{BeginsAt}

@@ -1,14 +1,15 @@
 -- The inlines of a text nest, and stand one after another.
 use Rattle.std.proofs.Common.{ℕ, List, [], ◌≡◌, ◌++◌, ◌∙◌, sym, ap, subst, Option, length}
+use Rattle.std.specs.List.{flat_map}
 use Rattle.markdown_inlines.specs.Inlines.{Setting}
 use Rattle.markdown_inlines.specs.Marks.{AreMarks}
 use Rattle.markdown_inlines.specs.Nesting.{Nest, StandFrom}
-use Rattle.markdown_inlines.specs.Output.{AreInlines, inlines_from}
+use Rattle.markdown_inlines.specs.Output.{AreInlines}
+use Rattle.markdown_inlines.specs.Written.{spread}
 use Rattle.markdown_inlines.specs.declared.emphasis.Emphasis.{Emphasis}
 use Rattle.markdown_inlines.specs.declared.inlines.Inline.{Inline}
 use Rattle.markdown_inlines.specs.declared.links.Link.{Link}
 use Rattle.markdown_inlines.specs.declared.marks.Mark.{Mark}
-use Rattle.markdown_inlines.specs.declared.pieces.Piece.{Piece}
 use Rattle.markdown_inlines.proofs.inlines.LaidLemmas.{cut_is_laid}
 use Rattle.markdown_inlines.proofs.inlines.NestLemmas.{laid_nest}
 use Rattle.markdown_inlines.proofs.inlines.StandLemmas.{laid_stand}
@@ -27,22 +28,21 @@ inlines_stand text setting inlines links are =
     subst (λ (l : List Inline). StandFrom links 0 l (length text)) (sym are.inlines_are)
     (laid_stand links are.emphasis are.pieces (length text) (cut_is_laid text setting are.pieces links are.emphasis are.cut))
 
--- the inlines by the marks of a text, of which each list is also known by another name
-pub by_marks : (pieces pieces' : List Piece) (links links' links'' : List (Option Link)) (emphasis emphasis' : List Emphasis)
-    (marks marks' : List Mark) (len : ℕ) (before inlines : List Inline) → pieces' ≡ pieces → links' ≡ links → links'' ≡ links
+-- the inlines with their delimiters by the marks of a text, of which each list is also known by another name
+pub by_marks : (inlines inlines' : List Inline) (links links' : List (Option Link)) (emphasis emphasis' : List Emphasis)
+    (marks marks' : List Mark) (len : ℕ) (before all : List Inline) → inlines' ≡ inlines → links' ≡ links
     → emphasis' ≡ emphasis → marks' ≡ marks → before ≡ [] → AreMarks links' emphasis' len marks
-    → ((e : List Emphasis) → AreMarks links'' e (length marks') marks' → inlines ≡ before ++ inlines_from links'' e 0 pieces')
-    → inlines ≡ inlines_from links emphasis 0 pieces
-by_marks pieces pieces' links links' links'' emphasis emphasis' marks marks' len before inlines p l l' e m none are inlines_are =
-    inlines_are emphasis moved ∙ (ap (λ (b : List Inline). b ++ inlines_from links'' emphasis 0 pieces') none
-    ∙ (ap (λ (ls : List (Option Link)). inlines_from ls emphasis 0 pieces') l' ∙ ap (λ (ps : List Piece). inlines_from links emphasis 0 ps) p))
+    → ((ls : List (Option Link)) (e : List Emphasis) → AreMarks ls e (length marks') marks'
+    → all ≡ before ++ flat_map (spread ls e) inlines')
+    → all ≡ flat_map (spread links emphasis) inlines
+by_marks inlines inlines' links links' emphasis emphasis' marks marks' len before all i l e m none are all_are =
+    all_are links emphasis moved ∙ (ap (λ (b : List Inline). b ++ flat_map (spread links emphasis) inlines') none
+    ∙ ap (λ (is : List Inline). flat_map (spread links emphasis) is) i)
   where
     whole : AreMarks links emphasis (length marks) marks
     whole =
         subst (λ n. AreMarks links emphasis n marks) (sym are.counted)
         (subst (λ (ls : List (Option Link)). AreMarks ls emphasis len marks) l (subst (λ (es : List Emphasis). AreMarks links' es len marks) e are))
 
-    moved : AreMarks links'' emphasis (length marks') marks'
-    moved =
-        subst (λ (ls : List (Option Link)). AreMarks ls emphasis (length marks') marks') (sym l')
-        (subst (λ (ms : List Mark). AreMarks links emphasis (length ms) ms) (sym m) whole)
+    moved : AreMarks links emphasis (length marks') marks'
+    moved = subst (λ (ms : List Mark). AreMarks links emphasis (length ms) ms) (sym m) whole

@@ -3,6 +3,7 @@ use Rattle.std.specs.Str.{IsCharBoundary}
 use Rattle.markdown_inlines.specs.Readings.{AreBefore, IsKept, reading_of}
 use Rattle.markdown_inlines.specs.Searches.{pieces_searched, unsearched}
 use Rattle.markdown_inlines.specs.Sources.{AreSources}
+use Rattle.markdown_inlines.specs.Written.{AreWritten, have_runs, pieces_of}
 use Rattle.markdown_inlines.proofs.cut.CutLemmas.{ReadsOn}
 use Rattle.markdown_inlines.proofs.cut.cut_within.Given as goal
 
@@ -12,12 +13,14 @@ invariant-loop-scanner g l =
       text = l.text;
       asked = l.extensions;
       place = l.place;
-      searched = pieces_searched l.text l.buffers.pieces.items (unsearched l.text);
+      searched = pieces_searched l.text (pieces_of l.buffers.inlines.items) (unsearched l.text);
     }) × (l.place ≤ length l.text)
     × ReadsOn (record { asked = l.extensions; known = g.L.Labels.known l.labels }) l.text l.place (reading_of l.text l.buffers.reader)
-    l.buffers.pieces.items
-    × AreSources l.text l.buffers.pieces.items l.place × IsCharBoundary l.text l.place
+    (pieces_of l.buffers.inlines.items)
+    × AreSources l.text (pieces_of l.buffers.inlines.items) l.place × IsCharBoundary l.text l.place
     × AreBefore (reading_of l.text l.buffers.reader).openers l.place × IsKept (reading_of l.text l.buffers.reader)
+    × AreWritten l.buffers.reader.links.items (reading_of l.text l.buffers.reader).openers l.buffers.inlines.items l.place
+    × (l.has_runs ≡ have_runs (pieces_of l.buffers.inlines.items))
 
 abbrev pub decreases-loop-scanner : goal.decreases-loop-scanner
 decreases-loop-scanner g l = length l.text - l.place

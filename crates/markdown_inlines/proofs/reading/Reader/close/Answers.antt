@@ -1,7 +1,9 @@
 use Rattle.std.proofs.Common.{◌≡◌, ◌∙◌, List, true, false, sym, subst}
-use Rattle.markdown_inlines.specs.Inlines.{IsClosed}
+use Rattle.markdown_inlines.specs.Inlines.{IsClosed, Reading}
+use Rattle.markdown_inlines.specs.Marks.{ends_link}
 use Rattle.markdown_inlines.specs.Readings.{IsKept, reading_of}
 use Rattle.markdown_inlines.specs.declared.reading.Opener.{Opener}
+use Rattle.markdown_inlines.proofs.cut.WrittenLemmas.{ends_with}
 use Rattle.markdown_inlines.proofs.reading.ReadingLemmas.{ended_kept, ends_a_link, ends_no_link, kept_with, none_kept}
 use Rattle.markdown_inlines.proofs.reading.Reader.close.Goals as goal
 
@@ -76,3 +78,23 @@ returns-in_ok-end_link-in-Some-2-clause-kept g c =
     let source = rw c.in-Some-2.is at c.in_ok-opener_target.ensures.source in
     ended_kept (g.L.Labels.known c.args.labels.now) _ _ c.in-Some.opener c.args.bracket some c.requires.kept _ c.in-Some-2.target
     c.in-Some-2.end c.requires.before c.requires.source boundary within.0 source (c.in_ok-end_link-in-Some-2.ensures c.args.text.now)
+
+pub returns-in_default-clause-ends : goal.returns-in_default-clause-ends
+returns-in_default-clause-ends g c =
+    let none = (rw c.in_default.is at c.pop.ensures.none) c.args.text.now in
+    subst (λ (r : Reading). ends_link r.links c.args.bracket.start ≡ false) (sym none.1) c.requires.new
+
+pub returns-then-not-may_begin-clause-ends : goal.returns-then-not-may_begin-clause-ends
+returns-then-not-may_begin-clause-ends g c =
+    let some = (rw c.in-Some.is at c.pop.ensures.some) c.args.text.now in
+    subst (λ (r : Reading). ends_link r.links c.args.bracket.start ≡ false) some c.requires.new
+
+pub returns-in-None-clause-ends : goal.returns-in-None-clause-ends
+returns-in-None-clause-ends g c =
+    let some = (rw c.in-Some.is at c.pop.ensures.some) c.args.text.now in
+    subst (λ (r : Reading). ends_link r.links c.args.bracket.start ≡ false) some c.requires.new
+
+pub returns-in_ok-end_link-in-Some-2-clause-ends : goal.returns-in_ok-end_link-in-Some-2-clause-ends
+returns-in_ok-end_link-in-Some-2-clause-ends g c =
+    let some = (rw c.in-Some.is at c.pop.ensures.some) c.args.text.now in
+    ends_with _ _ _ c.in-Some.opener _ some c.requires.kept c.requires.free (c.in_ok-end_link-in-Some-2.ensures c.args.text.now)

@@ -1,7 +1,0 @@
-use Rattle.markdown_inlines.proofs.inlines.Nests.{by_marks}
-use Rattle.markdown_inlines.proofs.inlines.put_inlines.Goals as goal
-
-pub returns : goal.returns
-returns c =
-    by_marks _ _ _ _ _ _ _ _ _ _ _ _ c.deref-3.ensures.value c.deref.ensures.value c.deref-5.ensures.value
-    c.deref-2.ensures.value c.deref-4.ensures.value c.clear.ensures.items c.in_ok-put_marks.ensures c.in_ok-push_inlines.ensures
