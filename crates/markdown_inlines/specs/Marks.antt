@@ -1,4 +1,4 @@
--- What begins and ends at each byte of a text, by its links and its emphasis.
+-- What begins and ends at each byte of a text, by its emphasis, and where links end.
 use Rattle.std.specs.Prelude.{ℕ, Bool, false, ◌==◌, ◌&&◌, ◌||◌, ◌+◌, ◌<◌, List, [], ◌∷◌, ◌≡◌, length, get_or, Option, Some, None, if◌then◌else◌}
 use Rattle.std.specs.List.{list_any}
 use Rattle.markdown_scanners_tree.specs.Ascii.{tilde}
@@ -32,6 +32,11 @@ abbrev pub marks_by : List Emphasis → ℕ → Mark
 marks_by [] place = M.Nothing
 marks_by (emphasis ∷ more) place = mark_by emphasis place (marks_by more place)
 
+-- These are the marks of the bytes of a text of a length.
+pub record AreMarks (emphasis : List Emphasis) (len : ℕ) (marks : List Mark) : Type 0 where
+  pub counted : length marks ≡ len
+  pub each : (place : ℕ) → place < len → get_or marks place M.Nothing ≡ marks_by emphasis place
+
 -- the link text of a link ends at a place
 abbrev pub ends_at : ℕ → Option Link → Bool
 ends_at place None = false
@@ -39,11 +44,3 @@ ends_at place (Some link) = place == link.text.end
 
 abbrev pub ends_link : List (Option Link) → ℕ → Bool
 ends_link links place = list_any (ends_at place) links
-
-abbrev pub mark_at : List (Option Link) → List Emphasis → ℕ → Mark
-mark_at links emphasis place = if ends_link links place then M.EndsLink else marks_by emphasis place
-
--- These are the marks of the bytes of a text of a length.
-pub record AreMarks (links : List (Option Link)) (emphasis : List Emphasis) (len : ℕ) (marks : List Mark) : Type 0 where
-  pub counted : length marks ≡ len
-  pub each : (place : ℕ) → place < len → get_or marks place M.Nothing ≡ mark_at links emphasis place

@@ -3,7 +3,7 @@ use Rattle.std.specs.Prelude.{ℕ, Bool, ◌+◌, ◌-◌, List, [], ◌∷◌, 
 use Rattle.std.specs.List.{flat_map, range_with_len}
 use Rattle.std.specs.Option.{is_some}
 use Rattle.markdown_inlines.specs.Inlines.{Setting, IsCut}
-use Rattle.markdown_inlines.specs.Marks.{mark_at}
+use Rattle.markdown_inlines.specs.Marks.{ends_link, marks_by}
 use Rattle.markdown_inlines.specs.declared.emphasis.Emphasis.{Emphasis}
 use Rattle.markdown_inlines.specs.declared.inlines.Inline.{Inline}
 use Rattle.markdown_inlines.specs.declared.inlines.Inline.TheVariants as I
@@ -31,12 +31,12 @@ delimiter_with M.ClosesStrikethroughOfTwo place = I.EndStrikethrough place 2 ∷
 delimiter_with M.Second place = []
 delimiter_with mark place = byte_at place ∷ []
 
-abbrev pub delimiter_at : List (Option Link) → List Emphasis → ℕ → List Inline
-delimiter_at links emphasis place = delimiter_with (mark_at links emphasis place) place
+abbrev pub delimiter_at : List Emphasis → ℕ → List Inline
+delimiter_at emphasis place = delimiter_with (marks_by emphasis place) place
 
 -- the delimiters from one place up to another
-abbrev pub delimiters_between : List (Option Link) → List Emphasis → ℕ → ℕ → List Inline
-delimiters_between links emphasis from to = flat_map (delimiter_at links emphasis) (range_with_len from (to - from))
+abbrev pub delimiters_between : List Emphasis → ℕ → ℕ → List Inline
+delimiters_between emphasis from to = flat_map (delimiter_at emphasis) (range_with_len from (to - from))
 
 -- the opener with this number begins a link
 abbrev pub begins_link : List (Option Link) → ℕ → Bool
@@ -45,17 +45,16 @@ begins_link links number = is_some (get_or links number None)
 abbrev pub opener_as : List (Option Link) → ℕ → Piece → Inline
 opener_as links number piece = if begins_link links number then I.StartLink number else I.Leaf piece
 
--- the right bracket with this mark
-abbrev pub closer_with : Mark → Piece → Inline
-closer_with M.EndsLink piece = I.EndLink piece
-closer_with mark piece = I.Leaf piece
+-- the right bracket after a link text ends the link
+abbrev pub closer_as : List (Option Link) → Piece → Inline
+closer_as links piece = if ends_link links piece.start then I.EndLink piece else I.Leaf piece
 
 -- what a piece is, before which this number of openers stand
 abbrev pub inlines_at : PieceKind → List (Option Link) → List Emphasis → ℕ → Piece → List Inline
-inlines_at (K.Delimiters run) links emphasis number piece = delimiters_between links emphasis piece.start piece.end
+inlines_at (K.Delimiters run) links emphasis number piece = delimiters_between emphasis piece.start piece.end
 inlines_at K.LinkOpener links emphasis number piece = opener_as links number piece ∷ []
 inlines_at K.ImageOpener links emphasis number piece = opener_as links number piece ∷ []
-inlines_at K.Closer links emphasis number piece = closer_with (mark_at links emphasis piece.start) piece ∷ []
+inlines_at K.Closer links emphasis number piece = closer_as links piece ∷ []
 inlines_at kind links emphasis number piece = I.Leaf piece ∷ []
 
 -- one more opener, if the piece is one

@@ -1,8 +1,8 @@
 -- Inlines as they are written while a text is read. What begins in it is put in at its end.
-use Rattle.std.specs.Prelude.{ℕ, Bool, true, false, ◌≤◌, ◌<◌, List, [], ◌∷◌, ◌≡◌, ⊤, map, Option, if◌then◌else◌}
+use Rattle.std.specs.Prelude.{ℕ, Bool, true, false, ◌≤◌, ◌<◌, List, [], ◌∷◌, ◌≡◌, ⊤, map, Option}
 use Rattle.std.specs.List.{AllByRecursion, list_any}
 use Rattle.markdown_inlines.specs.Marks.{ends_link}
-use Rattle.markdown_inlines.specs.Output.{counted, delimiters_between, opener_as}
+use Rattle.markdown_inlines.specs.Output.{closer_as, counted, delimiters_between, opener_as}
 use Rattle.markdown_inlines.specs.Readings.{AreFree}
 use Rattle.markdown_inlines.specs.declared.emphasis.Emphasis.{Emphasis}
 use Rattle.markdown_inlines.specs.declared.inlines.Inline.{Inline}
@@ -15,7 +15,7 @@ use Rattle.markdown_inlines.specs.declared.reading.Opener.{Opener}
 
 -- a right bracket after a link text ends the link; all else is a leaf
 abbrev pub written_as : PieceKind → List (Option Link) → Piece → Inline
-written_as K.Closer links piece = if ends_link links piece.start then I.EndLink piece else I.Leaf piece
+written_as K.Closer links piece = closer_as links piece
 written_as kind links piece = I.Leaf piece
 
 abbrev pub written : List (Option Link) → List Piece → List Inline
@@ -78,14 +78,14 @@ with_starts links number (inline ∷ later) = started links number inline ∷ wi
 
 -- ---- delimiters
 
-abbrev pub spread_as : PieceKind → List (Option Link) → List Emphasis → Piece → List Inline
-spread_as (K.Delimiters run) links emphasis piece = delimiters_between links emphasis piece.start piece.end
-spread_as kind links emphasis piece = I.Leaf piece ∷ []
+abbrev pub spread_as : PieceKind → List Emphasis → Piece → List Inline
+spread_as (K.Delimiters run) emphasis piece = delimiters_between emphasis piece.start piece.end
+spread_as kind emphasis piece = I.Leaf piece ∷ []
 
 -- a delimiter run is its delimiters
-abbrev pub spread : List (Option Link) → List Emphasis → Inline → List Inline
-spread links emphasis (I.Leaf piece) = spread_as piece.kind links emphasis piece
-spread links emphasis inline = inline ∷ []
+abbrev pub spread : List Emphasis → Inline → List Inline
+spread emphasis (I.Leaf piece) = spread_as piece.kind emphasis piece
+spread emphasis inline = inline ∷ []
 
 -- it stands within so many bytes
 abbrev pub IsWithin : ℕ → Inline → Type 0

@@ -90,7 +90,7 @@ fn pieces_of(alloc: Global, inlines: &[Inline]) -> Result<Vec<Piece>, AllocError
     Ok(pieces)
 }
 
-// The piece that an inline was written for.
+// The piece that an inline was written for. All others are put in later.
 fn piece_of(inline: &Inline) -> Piece
     ensures { result ≡ piece_of inline.now }
 {

@@ -14,7 +14,6 @@ use crate::extensions::InlineExtensions;
 use crate::links::{Labels, Link};
 use crate::marks::{Mark, put_marks};
 use crate::pieces::{Piece, PieceKind};
-use crate::reading::Reader;
 use std::alloc::{AllocError, Global};
 use std::marker::Model;
 use std::mem;
@@ -53,8 +52,8 @@ pub struct Inlines {
 /// which links are defined.
 ///
 /// The time is linear in the length of the text. Memory is asked for by the inlines, the links and
-/// the emphasis, by one byte for each of the text, and by a label whose white space is not one
-/// space each.
+/// the emphasis, by one byte for each of a text with delimiter runs, and by a label whose white
+/// space is not one space each.
 ///
 /// # Errors
 ///
@@ -176,7 +175,7 @@ impl InlineFinder {
             &mut self.cut.inlines,
             &mut self.spare,
             &mut self.marks,
-            &self.cut.reader,
+            &self.cut.reader.emphasis,
             text.len(),
         )?;
         Ok(())
@@ -263,20 +262,20 @@ fn is_opener(inline: &Inline) -> bool
     }
 }
 
-// Puts in the delimiters of the runs of a text of this length. Nothing depends on what is in the spare
-// memory.
+// Puts in the delimiters of the runs of a text of this length and emphasis. Nothing depends on what is
+// in the spare memory.
 fn put_delimiters(
     inlines: &mut Vec<Inline>,
     spare: &mut Vec<Inline>,
     marks: &mut Vec<Mark>,
-    reader: &Reader,
+    emphasis: &[Emphasis],
     len: usize,
 ) -> Result<(), AllocError>
     requires { All (IsWithin len) inlines.old.items }
     ensures { OnOk result (inlines.new.items
-        ≡ flat_map (spread reader.now.links.items reader.now.emphasis.items) inlines.old.items) }
+        ≡ flat_map (spread emphasis.now) inlines.old.items) }
 {
-    put_marks(marks, len, &reader.links, &reader.emphasis)?;
+    put_marks(marks, len, emphasis)?;
     spare.clear();
     push_spread(spare, inlines, marks)?;
     mem::swap(inlines, spare);
@@ -286,9 +285,9 @@ fn put_delimiters(
 // Adds these inlines with the delimiters of their runs.
 fn push_spread(out: &mut Vec<Inline>, inlines: &[Inline], marks: &[Mark]) -> Result<(), AllocError>
     requires { All (IsWithin (length marks.now)) inlines.now }
-    ensures { OnOk result ((links : List (Option Link)) (emphasis : List Emphasis)
-        → AreMarks links emphasis (length marks.now) marks.now
-        → out.new.items ≡ out.old.items ++ flat_map (spread links emphasis) inlines.now) }
+    ensures { OnOk result ((emphasis : List Emphasis)
+        → AreMarks emphasis (length marks.now) marks.now
+        → out.new.items ≡ out.old.items ++ flat_map (spread emphasis) inlines.now) }
 {
     for inline in inlines {
         push_inline(out, marks, inline)?;
@@ -299,9 +298,9 @@ fn push_spread(out: &mut Vec<Inline>, inlines: &[Inline], marks: &[Mark]) -> Res
 // Adds an inline, or the delimiters of a run.
 fn push_inline(inlines: &mut Vec<Inline>, marks: &[Mark], inline: &Inline) -> Result<(), AllocError>
     requires { IsWithin (length marks.now) inline.now }
-    ensures { OnOk result ((links : List (Option Link)) (emphasis : List Emphasis)
-        → AreMarks links emphasis (length marks.now) marks.now
-        → inlines.new.items ≡ inlines.old.items ++ spread links emphasis inline.now) }
+    ensures { OnOk result ((emphasis : List Emphasis)
+        → AreMarks emphasis (length marks.now) marks.now
+        → inlines.new.items ≡ inlines.old.items ++ spread emphasis inline.now) }
 {
     match inline {
         Inline::Leaf(piece) => push_leaf(inlines, marks, piece)?,
@@ -314,10 +313,10 @@ fn push_inline(inlines: &mut Vec<Inline>, marks: &[Mark], inline: &Inline) -> Re
 fn push_leaf(inlines: &mut Vec<Inline>, marks: &[Mark], piece: &Piece) -> Result<(), AllocError>
     requires some { piece.now.start < piece.now.end }
     requires within { piece.now.end ≤ length marks.now }
-    ensures { OnOk result ((links : List (Option Link)) (emphasis : List Emphasis)
-        → AreMarks links emphasis (length marks.now) marks.now
+    ensures { OnOk result ((emphasis : List Emphasis)
+        → AreMarks emphasis (length marks.now) marks.now
         → inlines.new.items
-        ≡ inlines.old.items ++ spread_as piece.now.kind links emphasis piece.now) }
+        ≡ inlines.old.items ++ spread_as piece.now.kind emphasis piece.now) }
 {
     match piece.kind {
         PieceKind::Delimiters(_) => push_delimiters(inlines, marks, piece.start, piece.end)?,
@@ -335,9 +334,9 @@ fn push_delimiters(
 ) -> Result<(), AllocError>
     requires in_order { from ≤ to }
     requires within { to ≤ length marks.now }
-    ensures { OnOk result ((links : List (Option Link)) (emphasis : List Emphasis)
-        → AreMarks links emphasis (length marks.now) marks.now
-        → inlines.new.items ≡ inlines.old.items ++ delimiters_between links emphasis from to) }
+    ensures { OnOk result ((emphasis : List Emphasis)
+        → AreMarks emphasis (length marks.now) marks.now
+        → inlines.new.items ≡ inlines.old.items ++ delimiters_between emphasis from to) }
 {
     for place in from..to {
         push_delimiter(inlines, marks[place], place)?;
@@ -360,7 +359,7 @@ fn push_delimiter(inlines: &mut Vec<Inline>, mark: Mark, place: usize) -> Result
         Mark::ClosesStrikethrough => Inline::EndStrikethrough(place, 1),
         Mark::ClosesStrikethroughOfTwo => Inline::EndStrikethrough(place, 2),
         Mark::Second => return Ok(()),
-        Mark::Nothing | Mark::EndsLink => Inline::Leaf(Piece {
+        Mark::Nothing => Inline::Leaf(Piece {
             kind: PieceKind::Text,
             start: place,
             end: place + 1,

@@ -1,10 +1,9 @@
-//! What begins and ends at each byte of a text, by its links and its emphasis.
+//! What begins and ends at each byte of a text, by its emphasis.
 ghost use Rattle.std.specs.Prelude.{◌≡◌, ◌==◌, ◌<◌, ℕ, length, get_or, OnOk, if◌then◌else◌};
-ghost use Rattle.markdown_inlines.specs.Marks.{AreMarks, mark_by, marks_by, ends_link, mark_at, opening_mark, closing_mark};
-ghost use Rattle.markdown_inlines.specs.declared.marks.Mark.TheVariants.{Nothing, EndsLink};
+ghost use Rattle.markdown_inlines.specs.Marks.{AreMarks, mark_by, marks_by, opening_mark, closing_mark};
+ghost use Rattle.markdown_inlines.specs.declared.marks.Mark.TheVariants.{Nothing};
 
 use crate::emphasis::Emphasis;
-use crate::links::Link;
 use std::alloc::AllocError;
 
 /// What a byte of a text begins or ends.
@@ -30,8 +29,6 @@ pub enum Mark {
     ClosesStrikethroughOfTwo,
     /// It is the second of two.
     Second,
-    /// It is the right bracket after a link text.
-    EndsLink,
 }
 
 // One for each byte of a text, and no larger than that.
@@ -41,15 +38,13 @@ const _: () = prove!(size_of::<Mark>() == 1);
 pub(crate) fn put_marks(
     marks: &mut Vec<Mark>,
     len: usize,
-    links: &[Option<Link>],
     emphasis: &[Emphasis],
 ) -> Result<(), AllocError>
-    ensures { OnOk result (AreMarks links.now emphasis.now len marks.new.items) }
+    ensures { OnOk result (AreMarks emphasis.now len marks.new.items) }
 {
     marks.clear();
     marks.resize(len, Mark::Nothing)?;
     mark_emphasis(marks, emphasis);
-    mark_links(marks, links);
     Ok(())
 }
 
@@ -114,19 +109,6 @@ fn closing_mark(emphasis: Emphasis) -> Mark
         Mark::ClosesStrong
     } else {
         Mark::ClosesEmphasis
-    }
-}
-
-// Marks where links end.
-fn mark_links(marks: &mut [Mark], links: &[Option<Link>])
-    ensures marked { (k : ℕ) → k < length marks.old → get_or marks.new k Nothing
-        ≡ (if ends_link links.now k then EndsLink else get_or marks.old k Nothing) }
-    ensures length { length marks.new ≡ length marks.old }
-{
-    for link in links {
-        if let Some(link) = link {
-            put(marks, link.text.end, Mark::EndsLink);
-        }
     }
 }
 

@@ -8,8 +8,8 @@ use Rattle.std.proofs.Math.ListN.{get_or-eq_default}
 use Rattle.std.proofs.lemmas.Option.{slice_get-get_or}
 use Rattle.markdown_inlines.specs.Inlines.{Reading, Setting, AreRead, at_start}
 use Rattle.markdown_inlines.specs.Links.{Known, IsTarget}
-use Rattle.markdown_inlines.specs.Marks.{mark_at}
-use Rattle.markdown_inlines.specs.Output.{AreInlines, begins_link, closer_with, counted, delimiter_at, delimiter_with, inlines_at, inlines_from}
+use Rattle.markdown_inlines.specs.Marks.{ends_link, marks_by}
+use Rattle.markdown_inlines.specs.Output.{AreInlines, begins_link, counted, delimiter_at, delimiter_with, inlines_at, inlines_from}
 use Rattle.markdown_inlines.specs.Pieces.{BeginsAt}
 use Rattle.markdown_inlines.specs.declared.emphasis.Emphasis.{Emphasis}
 use Rattle.markdown_inlines.specs.declared.extensions.InlineExtensions.{InlineExtensions}
@@ -137,18 +137,9 @@ module _ (links : List (Option Link)) (emphasis : List Emphasis)
         | inr past ↦ (let none : None ≡ Some it = sym (get_or-eq_default links None past) ∙ is in absurd cc)
       ]
 
-  closer_filled : (mark : Mark) (piece : Piece) → HasBytes piece → IsFilled links (closer_with mark piece)
-  closer_filled M.Nothing piece bytes = bytes
-  closer_filled M.OpensEmphasis piece bytes = bytes
-  closer_filled M.OpensStrong piece bytes = bytes
-  closer_filled M.ClosesEmphasis piece bytes = bytes
-  closer_filled M.ClosesStrong piece bytes = bytes
-  closer_filled M.OpensStrikethrough piece bytes = bytes
-  closer_filled M.OpensStrikethroughOfTwo piece bytes = bytes
-  closer_filled M.ClosesStrikethrough piece bytes = bytes
-  closer_filled M.ClosesStrikethroughOfTwo piece bytes = bytes
-  closer_filled M.Second piece bytes = bytes
-  closer_filled M.EndsLink piece bytes = bytes.some
+  closer_filled : (test : Bool) (piece : Piece) → HasBytes piece → IsFilled links (if test then I.EndLink piece else I.Leaf piece)
+  closer_filled true piece bytes = bytes.some
+  closer_filled false piece bytes = bytes
 
   byte_filled : (place : ℕ) → HasBytes (record { kind = K.Text; start = place; end = place + 1 })
   byte_filled place = record { some = omega arith; inner = tt }
@@ -164,13 +155,12 @@ module _ (links : List (Option Link)) (emphasis : List Emphasis)
   delimiter_filled M.ClosesStrikethrough place = (omega arith, tt)
   delimiter_filled M.ClosesStrikethroughOfTwo place = (omega arith, tt)
   delimiter_filled M.Second place = tt
-  delimiter_filled M.EndsLink place = (byte_filled place, tt)
 
-  run_filled : (n place : ℕ) → AllByRecursion (IsFilled links) (flat_map (delimiter_at links emphasis) (range_with_len place n))
+  run_filled : (n place : ℕ) → AllByRecursion (IsFilled links) (flat_map (delimiter_at emphasis) (range_with_len place n))
   run_filled zero place = tt
   run_filled (suc n) place =
-      all_both (IsFilled links) (delimiter_at links emphasis place) (flat_map (delimiter_at links emphasis) (range_with_len (place + 1) n))
-      (delimiter_filled (mark_at links emphasis place) place) (run_filled n (place + 1))
+      all_both (IsFilled links) (delimiter_at emphasis place) (flat_map (delimiter_at emphasis) (range_with_len (place + 1) n))
+      (delimiter_filled (marks_by emphasis place) place) (run_filled n (place + 1))
 
   piece_filled : (kind : PieceKind) (number : ℕ) (piece : Piece) → HasBytes piece
       → AllByRecursion (IsFilled links) (inlines_at kind links emphasis number piece)
@@ -186,7 +176,7 @@ module _ (links : List (Option Link)) (emphasis : List Emphasis)
   piece_filled (K.Delimiters run) number piece bytes = run_filled (piece.end - piece.start) piece.start
   piece_filled K.LinkOpener number piece bytes = (opener_filled number piece (begins_link links number) refl bytes, tt)
   piece_filled K.ImageOpener number piece bytes = (opener_filled number piece (begins_link links number) refl bytes, tt)
-  piece_filled K.Closer number piece bytes = (closer_filled (mark_at links emphasis piece.start) piece bytes, tt)
+  piece_filled K.Closer number piece bytes = (closer_filled (ends_link links piece.start) piece bytes, tt)
 
   all_filled : (number : ℕ) (pieces : List Piece) → AllByRecursion HasBytes pieces
       → AllByRecursion (IsFilled links) (inlines_from links emphasis number pieces)

@@ -13,8 +13,8 @@ use Rattle.memchr.proofs.lemmas.MatchLemmas.{OccursAt-true}
 use Rattle.markdown_scanners_tree.proofs.ForCallers.{cut_behind_ascii}
 use Rattle.markdown_inlines.specs.Inlines.{Setting}
 use Rattle.markdown_inlines.specs.Links.{Known, IsTarget}
-use Rattle.markdown_inlines.specs.Marks.{mark_at}
-use Rattle.markdown_inlines.specs.Output.{AreInlines, begins_link, byte_at, closer_with, counted, delimiter_at, delimiter_with, inlines_at}
+use Rattle.markdown_inlines.specs.Marks.{ends_link, marks_by}
+use Rattle.markdown_inlines.specs.Output.{AreInlines, begins_link, byte_at, counted, delimiter_at, delimiter_with, inlines_at}
 use Rattle.markdown_inlines.specs.Output.{inlines_from}
 use Rattle.markdown_inlines.specs.Sources.{IsLinkSource, AreLinkSources}
 use Rattle.markdown_inlines.specs.declared.emphasis.Emphasis.{Emphasis}
@@ -107,18 +107,9 @@ module _ (text : List ℕ) (links : List (Option Link)) (emphasis : List Emphasi
         | inr past ↦ (let none : None ≡ Some it = sym (get_or-eq_default links None past) ∙ is in absurd cc)
       ]
 
-  closer_fact : (mark : Mark) (piece : Piece) → IsKnown text piece → IsFact (closer_with mark piece)
-  closer_fact M.Nothing piece known = leaf_fact piece known
-  closer_fact M.OpensEmphasis piece known = leaf_fact piece known
-  closer_fact M.OpensStrong piece known = leaf_fact piece known
-  closer_fact M.ClosesEmphasis piece known = leaf_fact piece known
-  closer_fact M.ClosesStrong piece known = leaf_fact piece known
-  closer_fact M.OpensStrikethrough piece known = leaf_fact piece known
-  closer_fact M.OpensStrikethroughOfTwo piece known = leaf_fact piece known
-  closer_fact M.ClosesStrikethrough piece known = leaf_fact piece known
-  closer_fact M.ClosesStrikethroughOfTwo piece known = leaf_fact piece known
-  closer_fact M.Second piece known = leaf_fact piece known
-  closer_fact M.EndsLink piece known = known.source
+  closer_fact : (test : Bool) (piece : Piece) → IsKnown text piece → IsFact (if test then I.EndLink piece else I.Leaf piece)
+  closer_fact true piece known = known.source
+  closer_fact false piece known = leaf_fact piece known
 
   byte_fact : (place : ℕ) → place < length text → get_or text place 0 < 128 → IsFact (byte_at place)
   byte_fact place inside low =
@@ -144,15 +135,14 @@ module _ (text : List ℕ) (links : List (Option Link)) (emphasis : List Emphasi
   delimiter_facts M.ClosesStrikethrough place inside low = (low_cut text place (omega (arith, inside)) low, tt)
   delimiter_facts M.ClosesStrikethroughOfTwo place inside low = (low_cut text place (omega (arith, inside)) low, tt)
   delimiter_facts M.Second place inside low = tt
-  delimiter_facts M.EndsLink place inside low = (byte_fact place inside low, tt)
 
   run_facts : (n place end : ℕ) → place + n ≡ end → end ≤ length text
       → ((k : ℕ) → place ≤ k → k < end → get_or text k 0 < 128)
-      → AllByRecursion IsFact (flat_map (delimiter_at links emphasis) (range_with_len place n))
+      → AllByRecursion IsFact (flat_map (delimiter_at emphasis) (range_with_len place n))
   run_facts zero place end last inside low = tt
   run_facts (suc n) place end last inside low =
-      all_both IsFact (delimiter_at links emphasis place) (flat_map (delimiter_at links emphasis) (range_with_len (place + 1) n))
-      (delimiter_facts (mark_at links emphasis place) place (omega (arith, last, inside)) (low place (omega arith) (omega (arith, last))))
+      all_both IsFact (delimiter_at emphasis place) (flat_map (delimiter_at emphasis) (range_with_len (place + 1) n))
+      (delimiter_facts (marks_by emphasis place) place (omega (arith, last, inside)) (low place (omega arith) (omega (arith, last))))
       (run_facts n (place + 1) end (omega (arith, last)) inside (λ k least less. low k (omega (arith, least)) less))
 
   piece_facts : (kind : PieceKind) (number : ℕ) (piece : Piece) → piece.kind ≡ kind → IsKnown text piece
@@ -171,7 +161,7 @@ module _ (text : List ℕ) (links : List (Option Link)) (emphasis : List Emphasi
       (subst (λ k. HasDelimiters k text piece) is known.delimiters)
   piece_facts K.LinkOpener number piece is known = (opener_fact number piece (begins_link links number) refl known, tt)
   piece_facts K.ImageOpener number piece is known = (opener_fact number piece (begins_link links number) refl known, tt)
-  piece_facts K.Closer number piece is known = (closer_fact (mark_at links emphasis piece.start) piece known, tt)
+  piece_facts K.Closer number piece is known = (closer_fact (ends_link links piece.start) piece known, tt)
 
   all_facts : (number : ℕ) (pieces : List Piece) → AllByRecursion (IsKnown text) pieces
       → AllByRecursion IsFact (inlines_from links emphasis number pieces)

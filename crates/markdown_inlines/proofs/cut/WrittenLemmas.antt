@@ -1,5 +1,5 @@
 -- What is written while a text is read is its inlines, once the starts of links and the emphasis are put in.
-use Rattle.std.proofs.Common.{ℕ, zero, suc, Bool, true, false, ◌&&◌, ◌||◌, ◌==◌, List, [], ◌∷◌, ◌++◌, ◌≡◌, ◌≢◌, ◌+◌, ◌≤◌, ◌<◌, ◌∙◌, inl, inr}
+use Rattle.std.proofs.Common.{ℕ, zero, suc, Bool, true, false, ◌||◌, ◌==◌, List, [], ◌∷◌, ◌++◌, ◌≡◌, ◌≢◌, ◌≤◌, ◌<◌, ◌∙◌, inl, inr}
 use Rattle.std.proofs.Common.{arith, refl, sym, ap, subst, length, take, drop, get_or, nat_lt, Option, Some, None, if◌then◌else◌, slice_set}
 use Rattle.std.specs.List.{All, AllByRecursion, flat_map}
 use Rattle.std.proofs.lemmas.List.{append-nil, map-append, take_all}
@@ -8,11 +8,10 @@ use Rattle.std.proofs.lemmas.List.Folds.{list_any-append}
 use Rattle.std.proofs.lemmas.List.{get_or-set_other}
 use Rattle.std.proofs.lemmas.Bool.{eq-eqb, eqb-true, ne_eqb, ltb-true}
 use Rattle.std.proofs.Math.ListN.{get_or-eq_default}
-use Rattle.markdown_scanners_tree.specs.Ascii.{tilde}
 use Rattle.markdown_inlines.specs.Inlines.{Setting, Reading, with_opener, with_link, IsClosed, IsRead, text_between}
 use Rattle.markdown_inlines.specs.Links.{Known}
-use Rattle.markdown_inlines.specs.Marks.{ends_at, ends_link, mark_at, marks_by}
-use Rattle.markdown_inlines.specs.Output.{begins_link, closer_with, counted, inlines_at, inlines_from}
+use Rattle.markdown_inlines.specs.Marks.{ends_at, ends_link}
+use Rattle.markdown_inlines.specs.Output.{begins_link, counted, inlines_at, inlines_from}
 use Rattle.markdown_inlines.specs.Readings.{AreFree, AreOpen, IsKept}
 use Rattle.markdown_inlines.specs.Written.{AreWritten, IsWithin, counted_in, have_runs, is_run, piece_of, pieces_of, spread, started, started_as}
 use Rattle.markdown_inlines.specs.Written.{with_starts, written, written_as}
@@ -20,8 +19,6 @@ use Rattle.markdown_inlines.specs.declared.emphasis.Emphasis.{Emphasis}
 use Rattle.markdown_inlines.specs.declared.inlines.Inline.{Inline}
 use Rattle.markdown_inlines.specs.declared.inlines.Inline.TheVariants as I
 use Rattle.markdown_inlines.specs.declared.links.Link.{Link}
-use Rattle.markdown_inlines.specs.declared.marks.Mark.{Mark}
-use Rattle.markdown_inlines.specs.declared.marks.Mark.TheVariants as M
 use Rattle.markdown_inlines.specs.declared.pieces.Piece.{Piece}
 use Rattle.markdown_inlines.specs.declared.pieces.PieceKind.{PieceKind}
 use Rattle.markdown_inlines.specs.declared.pieces.PieceKind.TheVariants as K
@@ -29,48 +26,14 @@ use Rattle.markdown_inlines.specs.declared.reading.Opener.{Opener}
 
 -- ---- the inlines of the pieces
 
--- no emphasis ends a link
-ends_none : (emphasis : List Emphasis) (s : ℕ) (piece : Piece) → closer_with (marks_by emphasis s) piece ≡ I.Leaf piece
-ends_none [] s piece = refl
-ends_none (e ∷ more) s piece =
-    by (s == e.opening) (s == e.closing) (e.byte == tilde) (e.count == 2) (s == e.opening + 1 || s == e.closing + 1)
-    (marks_by more s) (ends_none more s piece)
-  where
-    by : (opening closing struck strong second : Bool) (mark : Mark) → closer_with mark piece ≡ I.Leaf piece
-        → closer_with
-        (if opening then (if struck then (if strong then M.OpensStrikethroughOfTwo else M.OpensStrikethrough) else if strong then M.OpensStrong else M.OpensEmphasis)
-        else if closing then (if struck then (if strong then M.ClosesStrikethroughOfTwo else M.ClosesStrikethrough) else if strong then M.ClosesStrong else M.ClosesEmphasis)
-        else if strong && second then M.Second
-        else mark) piece ≡ I.Leaf piece
-    by true closing true true second mark none = refl
-    by true closing true false second mark none = refl
-    by true closing false true second mark none = refl
-    by true closing false false second mark none = refl
-    by false true true true second mark none = refl
-    by false true true false second mark none = refl
-    by false true false true second mark none = refl
-    by false true false false second mark none = refl
-    by false false struck true true mark none = refl
-    by false false struck true false mark none = none
-    by false false struck false second mark none = none
-
 module _ (links : List (Option Link)) (emphasis : List Emphasis) where
-  closer_is : (piece : Piece)
-      → closer_with (mark_at links emphasis piece.start) piece ≡ (if ends_link links piece.start then I.EndLink piece else I.Leaf piece)
-  closer_is piece = by (ends_link links piece.start)
-    where
-      by : (test : Bool) → closer_with (if test then M.EndsLink else marks_by emphasis piece.start) piece
-          ≡ (if test then I.EndLink piece else I.Leaf piece)
-      by true = refl
-      by false = ends_none emphasis piece.start piece
-
-  opener_whole : (test : Bool) (number : ℕ) (piece : Piece) (kind : spread links emphasis (I.Leaf piece) ≡ I.Leaf piece ∷ [])
-      → spread links emphasis (if test then I.StartLink number else I.Leaf piece) ≡ (if test then I.StartLink number else I.Leaf piece) ∷ []
+  opener_whole : (test : Bool) (number : ℕ) (piece : Piece) (kind : spread emphasis (I.Leaf piece) ≡ I.Leaf piece ∷ [])
+      → spread emphasis (if test then I.StartLink number else I.Leaf piece) ≡ (if test then I.StartLink number else I.Leaf piece) ∷ []
   opener_whole true number piece kind = refl
   opener_whole false number piece kind = kind
 
   closer_whole : (test : Bool) (number start end : ℕ) →
-      spread links emphasis (started links number (if test then I.EndLink (record { kind = K.Closer; start = start; end = end })
+      spread emphasis (started links number (if test then I.EndLink (record { kind = K.Closer; start = start; end = end })
       else I.Leaf (record { kind = K.Closer; start = start; end = end })))
       ≡ (if test then I.EndLink (record { kind = K.Closer; start = start; end = end })
       else I.Leaf (record { kind = K.Closer; start = start; end = end })) ∷ []
@@ -89,7 +52,7 @@ module _ (links : List (Option Link)) (emphasis : List Emphasis) where
   at kind start end = record { kind = kind; start = start; end = end }
 
   one_spread : (kind : PieceKind) (number start end : ℕ)
-      → spread links emphasis (started links number (written_as kind links (at kind start end)))
+      → spread emphasis (started links number (written_as kind links (at kind start end)))
       ≡ inlines_at kind links emphasis number (at kind start end)
   one_spread K.Text number start end = refl
   one_spread K.Escape number start end = refl
@@ -103,9 +66,7 @@ module _ (links : List (Option Link)) (emphasis : List Emphasis) where
   one_spread (K.Delimiters run) number start end = refl
   one_spread K.LinkOpener number start end = opener_whole (begins_link links number) number (at K.LinkOpener start end) refl
   one_spread K.ImageOpener number start end = opener_whole (begins_link links number) number (at K.ImageOpener start end) refl
-  one_spread K.Closer number start end =
-      closer_whole (ends_link links start) number start end
-      ∙ ap (λ (i : Inline). i ∷ []) (sym (closer_is (at K.Closer start end)))
+  one_spread K.Closer number start end = closer_whole (ends_link links start) number start end
 
   one_whole : (kind : PieceKind) (number start end : ℕ) → is_run kind ≡ false
       → started links number (written_as kind links (at kind start end)) ∷ [] ≡ inlines_at kind links emphasis number (at kind start end)
@@ -122,7 +83,7 @@ module _ (links : List (Option Link)) (emphasis : List Emphasis) where
   one_whole K.LinkOpener number start end none = refl
   one_whole K.ImageOpener number start end none = refl
   one_whole K.Closer number start end none =
-      ap (λ (i : Inline). i ∷ []) (closer_started (ends_link links start) number start end ∙ sym (closer_is (at K.Closer start end)))
+      ap (λ (i : Inline). i ∷ []) (closer_started (ends_link links start) number start end)
 
   counts : (kind : PieceKind) (number start end : ℕ) → counted_in (written_as kind links (at kind start end)) number ≡ counted kind number
   counts K.Text number start end = refl
@@ -144,13 +105,13 @@ module _ (links : List (Option Link)) (emphasis : List Emphasis) where
       by false = refl
 
   -- with the starts of links and the delimiters they are the inlines of the pieces
-  pub all_spread : (pieces : List Piece) (number : ℕ)
-      → flat_map (spread links emphasis) (with_starts links number (written links pieces)) ≡ inlines_from links emphasis number pieces
+  all_spread : (pieces : List Piece) (number : ℕ)
+      → flat_map (spread emphasis) (with_starts links number (written links pieces)) ≡ inlines_from links emphasis number pieces
   all_spread [] number = refl
   all_spread (piece ∷ later) number =
-      ap (λ n. spread links emphasis (started links number (written_as piece.kind links piece))
-      ++ flat_map (spread links emphasis) (with_starts links n (written links later))) (counts piece.kind number piece.start piece.end)
-      ∙ (ap (λ (l : List Inline). l ++ flat_map (spread links emphasis) (with_starts links (counted piece.kind number) (written links later)))
+      ap (λ n. spread emphasis (started links number (written_as piece.kind links piece))
+      ++ flat_map (spread emphasis) (with_starts links n (written links later))) (counts piece.kind number piece.start piece.end)
+      ∙ (ap (λ (l : List Inline). l ++ flat_map (spread emphasis) (with_starts links (counted piece.kind number) (written links later)))
       (one_spread piece.kind number piece.start piece.end)
       ∙ ap (λ (l : List Inline). inlines_at piece.kind links emphasis number piece ++ l) (all_spread later (counted piece.kind number)))
 
@@ -169,6 +130,14 @@ module _ (links : List (Option Link)) (emphasis : List Emphasis) where
       neither : (a b : Bool) → (a || b) ≡ false → (a ≡ false) × (b ≡ false)
       neither true b is = (let bad : true ≡ false = is in cc)
       neither false b is = (refl, is)
+
+-- the same, where the emphasis and the inlines are also known by other names
+pub all_put : (links : List (Option Link)) (emphasis emphasis' : List Emphasis) (pieces : List Piece) (inlines all : List Inline)
+    → emphasis' ≡ emphasis → inlines ≡ with_starts links 0 (written links pieces) → all ≡ flat_map (spread emphasis') inlines
+    → all ≡ inlines_from links emphasis 0 pieces
+all_put links emphasis emphasis' pieces inlines all same are put =
+    put ∙ (ap (λ (e : List Emphasis). flat_map (spread e) inlines) same
+    ∙ (ap (flat_map (spread emphasis)) are ∙ all_spread links emphasis pieces 0))
 
 -- ---- what has been written while a text is read
 
@@ -470,17 +439,24 @@ pub no_starts_of_none : (links : List (Option Link)) (inlines : List Inline) →
 no_starts_of_none [] inlines none = sym (no_starts 0 inlines)
 no_starts_of_none (x ∷ links) inlines none = absurd (omega (arith, eqb-true (length (x ∷ links)) 0 none))
 
-pub starts_length : (links : List (Option Link)) (number : ℕ) (inlines : List Inline) → length (with_starts links number inlines) ≡ length inlines
+starts_length : (links : List (Option Link)) (number : ℕ) (inlines : List Inline) → length (with_starts links number inlines) ≡ length inlines
 starts_length links number [] = refl
 starts_length links number (inline ∷ later) = ap suc (starts_length links (counted_in inline number) later)
 
--- all of them are put in where as many stood
-pub put_back : (old new : List Inline) (len : ℕ) → length new ≡ length old → len ≡ length old → take len (new ++ drop (length new) old) ≡ new
-put_back old new len same all =
-    ap (λ n. take len (new ++ drop n old)) same
+-- all of them are put in where as many stood; the links and the inlines are also known by other names
+pub starts_put : (links links' : List (Option Link)) (old old' new : List Inline) (len : ℕ) → links' ≡ links → old' ≡ old
+    → new ≡ with_starts links' 0 old' → len ≡ length old → take len (new ++ drop (length new) old) ≡ with_starts links 0 old
+starts_put links links' old old' new len same_links same put all =
+    ap (λ n. take len (new ++ drop n old)) as_many
     ∙ (ap (λ (l : List Inline). take len (new ++ l)) (none old)
-    ∙ (ap (take len) (append-nil new) ∙ take_all len new (omega (arith, same, all))))
+    ∙ (ap (take len) (append-nil new) ∙ (take_all len new (omega (arith, as_many, all)) ∙ started)))
   where
+    started : new ≡ with_starts links 0 old
+    started = put ∙ (ap (λ ls. with_starts ls 0 old') same_links ∙ ap (with_starts links 0) same)
+
+    as_many : length new ≡ length old
+    as_many = ap length started ∙ starts_length links 0 old
+
     none : (l : List Inline) → drop (length l) l ≡ []
     none [] = refl
     none (x ∷ xs) = none xs

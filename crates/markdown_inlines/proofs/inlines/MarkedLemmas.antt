@@ -60,7 +60,6 @@ MarkedAs emphasis place M.OpensStrikethroughOfTwo = HasAt true (λ e. e.opening)
 MarkedAs emphasis place M.ClosesStrikethrough = HasAt true (λ e. e.closing) emphasis 1 place
 MarkedAs emphasis place M.ClosesStrikethroughOfTwo = HasAt true (λ e. e.closing) emphasis 2 place
 MarkedAs emphasis place M.Second = (e : Emphasis) × IsIn e emphasis × IsSecond e place
-MarkedAs emphasis place M.EndsLink = ⊥
 
 module _ (e : Emphasis) (more : List Emphasis) (place : ℕ) where
   grow : (mark : Mark) → IsFree e place → MarkedAs more place mark → MarkedAs (e ∷ more) place mark
@@ -78,7 +77,6 @@ module _ (e : Emphasis) (more : List Emphasis) (place : ℕ) where
   grow M.ClosesStrikethrough free is = (is.0, inr is.1, is.2, is.3, is.4)
   grow M.ClosesStrikethroughOfTwo free is = (is.0, inr is.1, is.2, is.3, is.4)
   grow M.Second free is = (is.0, inr is.1, is.2)
-  grow M.EndsLink free is = absurd is
 
   one : (e.count ≡ 1) ⊎ (e.count ≡ 2) → (e.count == 2) ≡ false → e.count ≡ 1
   one (inl is) other = is

@@ -4,9 +4,9 @@ use Rattle.std.proofs.Common.{◌≤◌, ◌+◌, ◌-◌, ◌⊎◌, ◌∙◌,
 use Rattle.std.proofs.Common.{Option, Some, None, slice_get, get_or, if◌then◌else◌, map}
 use Rattle.std.specs.List.{flat_map, range_with_len}
 use Rattle.std.specs.Option.{is_some}
-use Rattle.markdown_inlines.specs.Marks.{ends_link, marks_by, mark_at}
+use Rattle.markdown_inlines.specs.Marks.{ends_link, marks_by}
 use Rattle.markdown_inlines.specs.Nesting.{AreNestedIn}
-use Rattle.markdown_inlines.specs.Output.{counted, inlines_at, inlines_from, delimiter_at, delimiter_with, closer_with}
+use Rattle.markdown_inlines.specs.Output.{counted, inlines_at, inlines_from, delimiter_at, delimiter_with, closer_as}
 use Rattle.markdown_inlines.specs.declared.emphasis.Emphasis.{Emphasis}
 use Rattle.markdown_inlines.specs.declared.inlines.Inline.{Inline}
 use Rattle.markdown_inlines.specs.declared.inlines.Inline.TheVariants as I
@@ -139,16 +139,6 @@ module _ (links : List (Option Link)) (emphasis : List Emphasis) (pieces : List 
         by (inl opener) = omega (arith, is_run, opener.0)
         by (inr closer) = omega (arith, is_run, closer.0)
 
-    pub no_end_in_run : (place : ℕ) → piece.start ≤ place → place < piece.end → ends_link links place ≡ false
-    no_end_in_run place least most = by (ends_link links place) refl
-      where
-        by : (test : Bool) → ends_link links place ≡ test → test ≡ false
-        by false none = refl
-        by true ends =
-            let there = link_there links place ends in
-            absurd (no_link place least most (there.0, there.1) there.2
-            (inr (omega (arith, there.3), omega (arith, there.3))))
-
   module _ (number : ℕ) (piece : Piece) (is_in : IsIn (number, piece) all) (later : piece.start ≤ piece.end) (spans : List Span)
       (is_open : Open piece.start spans) (rest : List Inline)
       (next : (spans' : List Span) → Open piece.end spans' → AreNestedIn links (map start_of spans') rest) where
@@ -195,12 +185,10 @@ module _ (links : List (Option Link)) (emphasis : List Emphasis) (pieces : List 
             (omega (arith, w.opens, ap (λ (p : Piece). p.start) same, ap (λ (p : Piece). p.end) same))
             (omega (arith, ap (λ (p : Piece). p.end) same)) is_open)
 
-    closer_step : class piece.kind ≡ 2 → piece.start < piece.end
-        → Nested (closer_with (mark_at links emphasis piece.start) piece ∷ rest)
+    closer_step : class piece.kind ≡ 2 → piece.start < piece.end → Nested (closer_as links piece ∷ rest)
     closer_step is_closer some = by (ends_link links piece.start) refl
       where
-        by : (test : Bool) → ends_link links piece.start ≡ test
-            → Nested (closer_with (if test then M.EndsLink else marks_by emphasis piece.start) piece ∷ rest)
+        by : (test : Bool) → ends_link links piece.start ≡ test → Nested ((if test then I.EndLink piece else I.Leaf piece) ∷ rest)
         by true ends =
             let there = link_there links piece.start ends in
             let s : Span = inr (there.0, there.1) in
@@ -219,26 +207,13 @@ module _ (links : List (Option Link)) (emphasis : List Emphasis) (pieces : List 
               (there.1, there.2, there.3, last),
               next after.0 after.2,
             )
-        by false none = by_mark (marks_by emphasis piece.start) (marked emphasis piece.start laid.counts)
+        by false none = clear_step clear
           where
             clear : (s : Span) → IsSpan links emphasis s → ¬ IsTouched (number, piece) s
             clear (inl e) is touch = omega (arith, is_closer, touch)
             clear (inr link) is (inl touch) = omega (arith, is_closer, touch.0)
             clear (inr link) is (inr touch) =
                 let same : false ≡ true = sym none ∙ (ap (ends_link links) touch.1 ∙ ends_there links link.0 link.1 is) in cc
-
-            by_mark : (mark : Mark) → MarkedAs emphasis piece.start mark → Nested (closer_with mark piece ∷ rest)
-            by_mark M.Nothing is = clear_step clear
-            by_mark M.OpensEmphasis is = clear_step clear
-            by_mark M.OpensStrong is = clear_step clear
-            by_mark M.ClosesEmphasis is = clear_step clear
-            by_mark M.ClosesStrong is = clear_step clear
-            by_mark M.OpensStrikethrough is = clear_step clear
-            by_mark M.OpensStrikethroughOfTwo is = clear_step clear
-            by_mark M.ClosesStrikethrough is = clear_step clear
-            by_mark M.ClosesStrikethroughOfTwo is = clear_step clear
-            by_mark M.Second is = clear_step clear
-            by_mark M.EndsLink is = absurd is
 
     -- ---- delimiter runs
 
@@ -303,19 +278,15 @@ module _ (links : List (Option Link)) (emphasis : List Emphasis) (pieces : List 
         by_mark M.ClosesStrikethrough is = strikethrough_closes 1 is
         by_mark M.ClosesStrikethroughOfTwo is = strikethrough_closes 2 is
         by_mark M.Second is = goes_on (second_alone place is.0 is.1 is.2)
-        by_mark M.EndsLink is = absurd is
 
-        delimiter_step : AreNestedIn links (map start_of spans') ((delimiter_at links emphasis place ++ more) ++ rest)
-        delimiter_step =
-            subst (λ test. AreNestedIn links (map start_of spans')
-            ((delimiter_with (if test then M.EndsLink else marks_by emphasis place) place ++ more) ++ rest))
-            (sym (no_end_in_run number piece is_in is_run place least most)) (by_mark (marks_by emphasis place) (marked emphasis place laid.counts))
+        delimiter_step : AreNestedIn links (map start_of spans') ((delimiter_at emphasis place ++ more) ++ rest)
+        delimiter_step = by_mark (marks_by emphasis place) (marked emphasis place laid.counts)
 
       run_step : (n place : ℕ) (spans' : List Span) → piece.start ≤ place → place + n ≡ piece.end → Open place spans'
-          → AreNestedIn links (map start_of spans') (flat_map (delimiter_at links emphasis) (range_with_len place n) ++ rest)
+          → AreNestedIn links (map start_of spans') (flat_map (delimiter_at emphasis) (range_with_len place n) ++ rest)
       run_step zero place spans' least last is_open' = next spans' (subst (λ p. Open p spans') (omega (arith, last)) is_open')
       run_step (suc n) place spans' least last is_open' =
-          delimiter_step place least (omega (arith, last)) spans' is_open' (flat_map (delimiter_at links emphasis) (range_with_len (place + 1) n))
+          delimiter_step place least (omega (arith, last)) spans' is_open' (flat_map (delimiter_at emphasis) (range_with_len (place + 1) n))
           (λ spans'' is'. run_step n (place + 1) spans'' (omega (arith, least)) (omega (arith, last)) is')
 
     -- ---- any piece

@@ -29,20 +29,15 @@ inlines_stand text setting inlines links are =
     (laid_stand links are.emphasis are.pieces (length text) (cut_is_laid text setting are.pieces links are.emphasis are.cut))
 
 -- the inlines with their delimiters by the marks of a text, of which each list is also known by another name
-pub by_marks : (inlines inlines' : List Inline) (links links' : List (Option Link)) (emphasis emphasis' : List Emphasis)
-    (marks marks' : List Mark) (len : ℕ) (before all : List Inline) → inlines' ≡ inlines → links' ≡ links
-    → emphasis' ≡ emphasis → marks' ≡ marks → before ≡ [] → AreMarks links' emphasis' len marks
-    → ((ls : List (Option Link)) (e : List Emphasis) → AreMarks ls e (length marks') marks'
-    → all ≡ before ++ flat_map (spread ls e) inlines')
-    → all ≡ flat_map (spread links emphasis) inlines
-by_marks inlines inlines' links links' emphasis emphasis' marks marks' len before all i l e m none are all_are =
-    all_are links emphasis moved ∙ (ap (λ (b : List Inline). b ++ flat_map (spread links emphasis) inlines') none
-    ∙ ap (λ (is : List Inline). flat_map (spread links emphasis) is) i)
+pub by_marks : (inlines inlines' : List Inline) (emphasis : List Emphasis) (marks marks' : List Mark) (len : ℕ) (before all : List Inline)
+    → inlines' ≡ inlines → marks' ≡ marks → before ≡ [] → AreMarks emphasis len marks
+    → ((e : List Emphasis) → AreMarks e (length marks') marks' → all ≡ before ++ flat_map (spread e) inlines')
+    → all ≡ flat_map (spread emphasis) inlines
+by_marks inlines inlines' emphasis marks marks' len before all i m none are all_are =
+    all_are emphasis moved ∙ (ap (λ (b : List Inline). b ++ flat_map (spread emphasis) inlines') none
+    ∙ ap (λ (is : List Inline). flat_map (spread emphasis) is) i)
   where
-    whole : AreMarks links emphasis (length marks) marks
-    whole =
-        subst (λ n. AreMarks links emphasis n marks) (sym are.counted)
-        (subst (λ (ls : List (Option Link)). AreMarks ls emphasis len marks) l (subst (λ (es : List Emphasis). AreMarks links' es len marks) e are))
-
-    moved : AreMarks links emphasis (length marks') marks'
-    moved = subst (λ (ms : List Mark). AreMarks links emphasis (length ms) ms) (sym m) whole
+    moved : AreMarks emphasis (length marks') marks'
+    moved =
+        subst (λ (ms : List Mark). AreMarks emphasis (length ms) ms) (sym m)
+        (subst (λ n. AreMarks emphasis n marks) (sym are.counted) are)

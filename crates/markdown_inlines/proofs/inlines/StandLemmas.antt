@@ -1,11 +1,11 @@
 -- The inlines of pieces stand one after another where the spans fit.
-use Rattle.std.proofs.Common.{ℕ, zero, suc, List, [], ◌∷◌, ◌++◌, ◌≡◌, ◌<◌, ◌≤◌, ◌+◌, ◌-◌, ◌⊎◌, ◌∙◌, inl, inr, arith, refl, sym, ap, subst}
+use Rattle.std.proofs.Common.{ℕ, zero, suc, Bool, true, false, List, [], ◌∷◌, ◌++◌, ◌≡◌, ◌<◌, ◌≤◌, ◌+◌, ◌-◌, ◌⊎◌, ◌∙◌, inl, inr, arith, refl, sym, ap, subst}
 use Rattle.std.proofs.Common.{Option, Some, None, get_or, if◌then◌else◌}
 use Rattle.std.specs.List.{flat_map, range_with_len}
 use Rattle.std.specs.Option.{is_some}
-use Rattle.markdown_inlines.specs.Marks.{marks_by, mark_at}
+use Rattle.markdown_inlines.specs.Marks.{ends_link, marks_by}
 use Rattle.markdown_inlines.specs.Nesting.{StandFrom}
-use Rattle.markdown_inlines.specs.Output.{counted, inlines_at, inlines_from, delimiter_at, delimiter_with, closer_with}
+use Rattle.markdown_inlines.specs.Output.{counted, inlines_at, inlines_from, delimiter_at, delimiter_with}
 use Rattle.markdown_inlines.specs.declared.emphasis.Emphasis.{Emphasis}
 use Rattle.markdown_inlines.specs.declared.inlines.Inline.{Inline}
 use Rattle.markdown_inlines.specs.declared.inlines.Inline.TheVariants as I
@@ -16,7 +16,7 @@ use Rattle.markdown_inlines.specs.declared.pieces.Piece.{Piece}
 use Rattle.markdown_inlines.specs.declared.pieces.PieceKind.{PieceKind}
 use Rattle.markdown_inlines.specs.declared.pieces.PieceKind.TheVariants as K
 use Rattle.markdown_inlines.proofs.inlines.MarkedLemmas.{IsSecond, MarkedAs, marked}
-use Rattle.markdown_inlines.proofs.inlines.NestLemmas.{AreLaid, class, opener_counts, link_at, no_end_in_run, second_alone}
+use Rattle.markdown_inlines.proofs.inlines.NestLemmas.{AreLaid, opener_counts, link_at, second_alone}
 use Rattle.markdown_inlines.proofs.inlines.NumberedPieces.{numbered, Follow, one_there, one_opener, opener_kind, HasRun}
 use Rattle.markdown_inlines.proofs.inlines.OpenSpans.{Touches, begins_alone, ends_alone}
 use Rattle.markdown_inlines.proofs.inlines.Spans.{IsIn, Span}
@@ -92,18 +92,9 @@ module _ (links : List (Option Link)) (emphasis : List Emphasis) (pieces : List 
             let same : piece ≡ opener = one_opener pieces 0 number piece opener is_in has counts (opener_counts link.is_image number) in
             (piece.end, (link, is, ap (λ (p : Piece). p.start) (sym same), ap (λ (p : Piece). p.end) (sym same)), next)
 
-    closer : (mark : Mark) → Stands (closer_with mark piece ∷ rest)
-    closer M.Nothing = leaf
-    closer M.OpensEmphasis = leaf
-    closer M.OpensStrong = leaf
-    closer M.ClosesEmphasis = leaf
-    closer M.ClosesStrong = leaf
-    closer M.OpensStrikethrough = leaf
-    closer M.OpensStrikethroughOfTwo = leaf
-    closer M.ClosesStrikethrough = leaf
-    closer M.ClosesStrikethroughOfTwo = leaf
-    closer M.Second = leaf
-    closer M.EndsLink = (piece.end, (refl, refl), next)
+    closer : (test : Bool) → Stands ((if test then I.EndLink piece else I.Leaf piece) ∷ rest)
+    closer true = (piece.end, (refl, refl), next)
+    closer false = leaf
 
     -- ---- delimiter runs
 
@@ -135,105 +126,94 @@ module _ (links : List (Option Link)) (emphasis : List Emphasis) (pieces : List 
         ((reached ≡ place) × IsNoSecond place)
         ⊎ ((reached ≡ place + 1) × (piece.start < place) × (e : Emphasis) × IsIn e emphasis × IsSecond e place)
 
-    module _ (is_run : class piece.kind ≡ 3) where
-      module _ (place : ℕ) (least : piece.start ≤ place) (more : List Inline)
-          (go : (reached : ℕ) → Reached (place + 1) reached → StandFrom links reached (more ++ rest) len) where
-        -- on a side of strikethrough one tilde stands, or two
-        one_tilde : (e : Emphasis) → IsIn e emphasis → (e.opening ≡ place) ⊎ (e.closing ≡ place) → e.count ≡ 1
-            → (to : ℕ) × ((place ≡ place) × (place + 1 ≡ to)) × StandFrom links to (more ++ rest) len
-        one_tilde e is here one = (place + 1, (refl, refl), go (place + 1) (inl (refl, after_one place e is one here)))
+    module _ (place : ℕ) (least : piece.start ≤ place) (more : List Inline)
+        (go : (reached : ℕ) → Reached (place + 1) reached → StandFrom links reached (more ++ rest) len) where
+      -- on a side of strikethrough one tilde stands, or two
+      one_tilde : (e : Emphasis) → IsIn e emphasis → (e.opening ≡ place) ⊎ (e.closing ≡ place) → e.count ≡ 1
+          → (to : ℕ) × ((place ≡ place) × (place + 1 ≡ to)) × StandFrom links to (more ++ rest) len
+      one_tilde e is here one = (place + 1, (refl, refl), go (place + 1) (inl (refl, after_one place e is one here)))
 
-        two_tildes : (e : Emphasis) → IsIn e emphasis → (e.opening ≡ place) ⊎ (e.closing ≡ place) → e.count ≡ 2
-            → (to : ℕ) × ((place ≡ place) × (place + 2 ≡ to)) × StandFrom links to (more ++ rest) len
-        two_tildes e is here two =
-            (place + 2, (refl, refl), go (place + 2) (inr (omega arith, omega (arith, least), e, is, (two, second_of here))))
-          where
-            second_of : (e.opening ≡ place) ⊎ (e.closing ≡ place) → (place + 1 ≡ e.opening + 1) ⊎ (place + 1 ≡ e.closing + 1)
-            second_of (inl opens) = inl (omega (arith, opens))
-            second_of (inr closes) = inr (omega (arith, closes))
-
-        first : (mark : Mark) → MarkedAs emphasis place mark → IsNoSecond place
-            → StandFrom links place ((delimiter_with mark place ++ more) ++ rest) len
-        first M.Nothing is none = (
-          place + 1,
-          (refl, refl),
-          go (place + 1) (inl (refl, after_text place (λ e in_all. ((is e in_all).no_opening, (is e in_all).no_closing)))),
-        )
-        first M.OpensEmphasis (e, is, here, one, byte) none =
-            (place + 1, (refl, refl), go (place + 1) (inl (refl, after_one place e is one (inl here))))
-        first M.OpensStrong (e, is, here, two, byte) none = (
-          place + 2,
-          (refl, refl),
-          go (place + 2) (inr (omega arith, omega (arith, least), e, is, (two, inl (omega (arith, here))))),
-        )
-        first M.ClosesEmphasis (e, is, here, one, byte) none =
-            (place + 1, (refl, refl), go (place + 1) (inl (refl, after_one place e is one (inr here))))
-        first M.ClosesStrong (e, is, here, two, byte) none = (
-          place + 2,
-          (refl, refl),
-          go (place + 2) (inr (omega arith, omega (arith, least), e, is, (two, inr (omega (arith, here))))),
-        )
-        first M.OpensStrikethrough (e, is, here, one, byte) none = one_tilde e is (inl here) one
-        first M.OpensStrikethroughOfTwo (e, is, here, two, byte) none = two_tildes e is (inl here) two
-        first M.ClosesStrikethrough (e, is, here, one, byte) none = one_tilde e is (inr here) one
-        first M.ClosesStrikethroughOfTwo (e, is, here, two, byte) none = two_tildes e is (inr here) two
-        first M.Second (e, is, second) none = absurd (none e is second)
-        first M.EndsLink is none = absurd is
-
-        -- at the second of two delimiters no inline stands
-        later_by : (mark : Mark) → MarkedAs emphasis place mark → (e : Emphasis) → IsIn e emphasis → IsSecond e place
-            → StandFrom links (place + 1) ((delimiter_with mark place ++ more) ++ rest) len
-        later_by M.Nothing is e in_all second = absurd ((is e in_all).no_second second)
-        later_by M.OpensEmphasis (d, is, here, one, byte) e in_all second =
-            absurd (second_alone links emphasis pieces len laid place e in_all second d is (inl (omega (arith, here), omega (arith, here))))
-        later_by M.OpensStrong (d, is, here, two, byte) e in_all second =
-            absurd (second_alone links emphasis pieces len laid place e in_all second d is (inl (omega (arith, here), omega (arith, here))))
-        later_by M.ClosesEmphasis (d, is, here, one, byte) e in_all second =
-            absurd (second_alone links emphasis pieces len laid place e in_all second d is (inr (omega (arith, here), omega (arith, here))))
-        later_by M.ClosesStrong (d, is, here, two, byte) e in_all second =
-            absurd (second_alone links emphasis pieces len laid place e in_all second d is (inr (omega (arith, here), omega (arith, here))))
-        later_by M.OpensStrikethrough (d, is, here, counts, byte) e in_all second =
-            absurd (second_alone links emphasis pieces len laid place e in_all second d is (inl (omega (arith, here), omega (arith, here))))
-        later_by M.OpensStrikethroughOfTwo (d, is, here, counts, byte) e in_all second =
-            absurd (second_alone links emphasis pieces len laid place e in_all second d is (inl (omega (arith, here), omega (arith, here))))
-        later_by M.ClosesStrikethrough (d, is, here, counts, byte) e in_all second =
-            absurd (second_alone links emphasis pieces len laid place e in_all second d is (inr (omega (arith, here), omega (arith, here))))
-        later_by M.ClosesStrikethroughOfTwo (d, is, here, counts, byte) e in_all second =
-            absurd (second_alone links emphasis pieces len laid place e in_all second d is (inr (omega (arith, here), omega (arith, here))))
-        later_by M.Second is e in_all second = go (place + 1) (inl (refl, after_second place e in_all second))
-        later_by M.EndsLink is e in_all second = absurd is
-
-        delimiter : (most : place < piece.end) (reached : ℕ) → Reached place reached
-            → StandFrom links reached ((delimiter_at links emphasis place ++ more) ++ rest) len
-        delimiter most reached at =
-            subst (λ test. StandFrom links reached
-            ((delimiter_with (if test then M.EndsLink else marks_by emphasis place) place ++ more) ++ rest) len)
-            (sym (no_end_in_run links emphasis pieces len laid number piece is_in is_run place least most)) (by at)
-          where
-            by : Reached place reached
-                → StandFrom links reached ((delimiter_with (marks_by emphasis place) place ++ more) ++ rest) len
-            by (inl (here, none)) =
-                subst (λ n. StandFrom links n ((delimiter_with (marks_by emphasis place) place ++ more) ++ rest) len) (sym here)
-                (first (marks_by emphasis place) (marked emphasis place laid.counts) none)
-            by (inr (here, some, e, is, second)) =
-                subst (λ n. StandFrom links n ((delimiter_with (marks_by emphasis place) place ++ more) ++ rest) len) (sym here)
-                (later_by (marks_by emphasis place) (marked emphasis place laid.counts) e is second)
-
-      run : (n place reached : ℕ) → piece.start ≤ place → place + n ≡ piece.end → Reached place reached
-          → StandFrom links reached (flat_map (delimiter_at links emphasis) (range_with_len place n) ++ rest) len
-      run zero place reached least last at = by at
+      two_tildes : (e : Emphasis) → IsIn e emphasis → (e.opening ≡ place) ⊎ (e.closing ≡ place) → e.count ≡ 2
+          → (to : ℕ) × ((place ≡ place) × (place + 2 ≡ to)) × StandFrom links to (more ++ rest) len
+      two_tildes e is here two =
+          (place + 2, (refl, refl), go (place + 2) (inr (omega arith, omega (arith, least), e, is, (two, second_of here))))
         where
-          here : place ≡ piece.end
-          here = omega (arith, last)
+          second_of : (e.opening ≡ place) ⊎ (e.closing ≡ place) → (place + 1 ≡ e.opening + 1) ⊎ (place + 1 ≡ e.closing + 1)
+          second_of (inl opens) = inl (omega (arith, opens))
+          second_of (inr closes) = inr (omega (arith, closes))
 
-          by : Reached place reached → StandFrom links reached rest len
-          by (inl (same, none)) = subst (λ n. StandFrom links n rest len) (sym here ∙ sym same) next
-          by (inr (same, some, e, is, second)) =
-              absurd (no_second_last (omega (arith, some, here)) e is (subst (IsSecond e) here second))
-      run (suc n) place reached least last at =
-          delimiter place least (flat_map (delimiter_at links emphasis) (range_with_len (place + 1) n))
-          (λ reached' at'. run n (place + 1) reached' (omega (arith, least)) (omega (arith, last)) at')
-          (omega (arith, last)) reached at
+      first : (mark : Mark) → MarkedAs emphasis place mark → IsNoSecond place
+          → StandFrom links place ((delimiter_with mark place ++ more) ++ rest) len
+      first M.Nothing is none = (
+        place + 1,
+        (refl, refl),
+        go (place + 1) (inl (refl, after_text place (λ e in_all. ((is e in_all).no_opening, (is e in_all).no_closing)))),
+      )
+      first M.OpensEmphasis (e, is, here, one, byte) none =
+          (place + 1, (refl, refl), go (place + 1) (inl (refl, after_one place e is one (inl here))))
+      first M.OpensStrong (e, is, here, two, byte) none = (
+        place + 2,
+        (refl, refl),
+        go (place + 2) (inr (omega arith, omega (arith, least), e, is, (two, inl (omega (arith, here))))),
+      )
+      first M.ClosesEmphasis (e, is, here, one, byte) none =
+          (place + 1, (refl, refl), go (place + 1) (inl (refl, after_one place e is one (inr here))))
+      first M.ClosesStrong (e, is, here, two, byte) none = (
+        place + 2,
+        (refl, refl),
+        go (place + 2) (inr (omega arith, omega (arith, least), e, is, (two, inr (omega (arith, here))))),
+      )
+      first M.OpensStrikethrough (e, is, here, one, byte) none = one_tilde e is (inl here) one
+      first M.OpensStrikethroughOfTwo (e, is, here, two, byte) none = two_tildes e is (inl here) two
+      first M.ClosesStrikethrough (e, is, here, one, byte) none = one_tilde e is (inr here) one
+      first M.ClosesStrikethroughOfTwo (e, is, here, two, byte) none = two_tildes e is (inr here) two
+      first M.Second (e, is, second) none = absurd (none e is second)
+
+      -- at the second of two delimiters no inline stands
+      later_by : (mark : Mark) → MarkedAs emphasis place mark → (e : Emphasis) → IsIn e emphasis → IsSecond e place
+          → StandFrom links (place + 1) ((delimiter_with mark place ++ more) ++ rest) len
+      later_by M.Nothing is e in_all second = absurd ((is e in_all).no_second second)
+      later_by M.OpensEmphasis (d, is, here, one, byte) e in_all second =
+          absurd (second_alone links emphasis pieces len laid place e in_all second d is (inl (omega (arith, here), omega (arith, here))))
+      later_by M.OpensStrong (d, is, here, two, byte) e in_all second =
+          absurd (second_alone links emphasis pieces len laid place e in_all second d is (inl (omega (arith, here), omega (arith, here))))
+      later_by M.ClosesEmphasis (d, is, here, one, byte) e in_all second =
+          absurd (second_alone links emphasis pieces len laid place e in_all second d is (inr (omega (arith, here), omega (arith, here))))
+      later_by M.ClosesStrong (d, is, here, two, byte) e in_all second =
+          absurd (second_alone links emphasis pieces len laid place e in_all second d is (inr (omega (arith, here), omega (arith, here))))
+      later_by M.OpensStrikethrough (d, is, here, counts, byte) e in_all second =
+          absurd (second_alone links emphasis pieces len laid place e in_all second d is (inl (omega (arith, here), omega (arith, here))))
+      later_by M.OpensStrikethroughOfTwo (d, is, here, counts, byte) e in_all second =
+          absurd (second_alone links emphasis pieces len laid place e in_all second d is (inl (omega (arith, here), omega (arith, here))))
+      later_by M.ClosesStrikethrough (d, is, here, counts, byte) e in_all second =
+          absurd (second_alone links emphasis pieces len laid place e in_all second d is (inr (omega (arith, here), omega (arith, here))))
+      later_by M.ClosesStrikethroughOfTwo (d, is, here, counts, byte) e in_all second =
+          absurd (second_alone links emphasis pieces len laid place e in_all second d is (inr (omega (arith, here), omega (arith, here))))
+      later_by M.Second is e in_all second = go (place + 1) (inl (refl, after_second place e in_all second))
+
+      delimiter : (reached : ℕ) → Reached place reached → StandFrom links reached ((delimiter_at emphasis place ++ more) ++ rest) len
+      delimiter reached (inl (here, none)) =
+          subst (λ n. StandFrom links n ((delimiter_at emphasis place ++ more) ++ rest) len) (sym here)
+          (first (marks_by emphasis place) (marked emphasis place laid.counts) none)
+      delimiter reached (inr (here, some, e, is, second)) =
+          subst (λ n. StandFrom links n ((delimiter_at emphasis place ++ more) ++ rest) len) (sym here)
+          (later_by (marks_by emphasis place) (marked emphasis place laid.counts) e is second)
+
+    run : (n place reached : ℕ) → piece.start ≤ place → place + n ≡ piece.end → Reached place reached
+        → StandFrom links reached (flat_map (delimiter_at emphasis) (range_with_len place n) ++ rest) len
+    run zero place reached least last at = by at
+      where
+        here : place ≡ piece.end
+        here = omega (arith, last)
+
+        by : Reached place reached → StandFrom links reached rest len
+        by (inl (same, none)) = subst (λ n. StandFrom links n rest len) (sym here ∙ sym same) next
+        by (inr (same, some, e, is, second)) =
+            absurd (no_second_last (omega (arith, some, here)) e is (subst (IsSecond e) here second))
+    run (suc n) place reached least last at =
+        delimiter place least (flat_map (delimiter_at emphasis) (range_with_len (place + 1) n))
+        (λ reached' at'. run n (place + 1) reached' (omega (arith, least)) (omega (arith, last)) at')
+        reached at
 
     -- ---- any piece
 
@@ -248,10 +228,10 @@ module _ (links : List (Option Link)) (emphasis : List Emphasis) (pieces : List 
     stand_step K.Email is = leaf
     stand_step K.Html is = leaf
     stand_step (K.Delimiters r) is =
-        run (ap class is) (piece.end - piece.start) piece.start piece.start (omega arith) (omega (arith, later)) (inl (refl, no_second_first))
+        run (piece.end - piece.start) piece.start piece.start (omega arith) (omega (arith, later)) (inl (refl, no_second_first))
     stand_step K.LinkOpener is = opener (ap (λ k. counted k number) is)
     stand_step K.ImageOpener is = opener (ap (λ k. counted k number) is)
-    stand_step K.Closer is = closer (mark_at links emphasis piece.start)
+    stand_step K.Closer is = closer (ends_link links piece.start)
 
   stand_from : (rest : List Piece) (number place : ℕ) → Follow place rest len → ((x : ℕ × Piece) → IsIn x (numbered number rest) → IsIn x all)
       → StandFrom links place (inlines_from links emphasis number rest) len

@@ -5,9 +5,9 @@ use Rattle.markdown_inlines.proofs.inlines.push_delimiters.Goals as goal
 pub loop-place-preserved : goal.loop-place-preserved
 loop-place-preserved c =
     let is = c.loop-place.invariant in (
-      (λ links emphasis are. delimiter_added links emphasis c.args.marks.now c.args.from c.loop-place.place c.loop-place.inlines.items
+      (λ emphasis are. delimiter_added emphasis c.args.marks.now c.args.from c.loop-place.place c.loop-place.inlines.items
           c.push_delimiter.new.inlines.items c.args.inlines.now.items are is.1
-          (omega (arith, c.loop-place-test.true, c.requires.within)) (is.0 links emphasis are) c.in_ok-push_delimiter.ensures),
+          (omega (arith, c.loop-place-test.true, c.requires.within)) (is.0 emphasis are) c.in_ok-push_delimiter.ensures),
       omega (arith, is.1),
       omega (arith, c.loop-place-test.true),
     )
