@@ -16,7 +16,6 @@ use crate::piece_scanner::PieceScanner;
 use crate::pieces::{Piece, PieceKind};
 use crate::reading::Reader;
 use std::alloc::{AllocError, Global};
-use std::mem;
 
 /// A text cut into its pieces, and what they make together.
 #[derive(Drop)]
@@ -68,7 +67,8 @@ pub fn cut_inlines<L: Labels>(
     ensures budget { IfOk result (λ cut. cut.passed ≤ 10 * length text.now) }
 {
     let mut cut = CutBuffers::new(alloc);
-    cut_within(alloc, &mut cut, text, labels, extensions)?;
+    let mut strings = Vec::new(alloc);
+    cut_within(alloc, &mut cut, &mut strings, text, labels, extensions)?;
     let pieces = pieces_of(alloc, &cut.inlines)?;
     let found = cut.reader;
     Ok(Cut {
@@ -112,7 +112,6 @@ pub(crate) struct CutBuffers {
     pub(crate) inlines: Vec<Inline>,
     pub(crate) reader: Reader,
     passed: u128,
-    strings: Vec<usize>,
 }
 
 impl CutBuffers {
@@ -125,16 +124,16 @@ impl CutBuffers {
             inlines: Vec::new(alloc),
             reader: Reader::new(alloc),
             passed: 0,
-            strings: Vec::new(alloc),
         }
     }
 }
 
 // Cuts a text as `cut_inlines` does, and answers whether a delimiter run is among the pieces. Nothing
-// depends on what is in the buffers.
+// depends on what is in the buffers, nor in the one for backtick strings.
 pub(crate) fn cut_within<L: Labels>(
     alloc: Global,
     buffers: &mut CutBuffers,
+    strings: &mut Vec<usize>,
     text: &str,
     labels: &L,
     extensions: InlineExtensions,
@@ -154,7 +153,6 @@ pub(crate) fn cut_within<L: Labels>(
         ≡ bytes_searched text.now (pieces_of buffers.new.inlines.items)) }
     ensures budget { OnOk result (buffers.new.passed ≤ 10 * length text.now) }
 {
-    let strings = mem::replace(&mut buffers.strings, Vec::new(alloc));
     let mut scanner = PieceScanner::within(strings, text, extensions);
     buffers.reader.restart();
     buffers.inlines.clear();
@@ -169,7 +167,6 @@ pub(crate) fn cut_within<L: Labels>(
     push_text(&mut buffers.inlines, place, text.len())?;
     buffers.reader.finish(alloc)?;
     buffers.passed = scanner.passed();
-    buffers.strings = scanner.into_buffer();
     Ok(has_runs)
 }
 

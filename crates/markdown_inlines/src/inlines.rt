@@ -88,6 +88,8 @@ pub fn find_inlines<L: Labels>(
 #[derive(Drop)]
 pub struct InlineFinder {
     cut: CutBuffers,
+    // Where the searches for the ends of code spans keep backtick strings.
+    strings: Vec<usize>,
     marks: Vec<Mark>,
     // Where the inlines of a text with delimiter runs are put in.
     spare: Vec<Inline>,
@@ -108,6 +110,7 @@ impl InlineFinder {
     {
         InlineFinder {
             cut: CutBuffers::new(alloc),
+            strings: Vec::new(alloc),
             marks: Vec::new(alloc),
             spare: Vec::new(alloc),
         }
@@ -166,7 +169,14 @@ impl InlineFinder {
             self.new.inlines self.new.links) }
         ensures links { OnOk result (AreLinkSources text.now self.new.links) }
     {
-        let has_runs = cut_within(alloc, &mut self.cut, text, labels, extensions)?;
+        let has_runs = cut_within(
+            alloc,
+            &mut self.cut,
+            &mut self.strings,
+            text,
+            labels,
+            extensions,
+        )?;
         put_starts(&mut self.cut.inlines, &self.cut.reader.links);
         if !has_runs {
             return Ok(());

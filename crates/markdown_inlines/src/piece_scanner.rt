@@ -51,7 +51,7 @@ impl<'a> Model for PieceScanner<'a> {
 impl<'a> PieceScanner<'a> {
     // Nothing is read. Nothing depends on what is in the buffer.
     pub(crate) fn within(
-        buffer: Vec<usize>,
+        buffer: &'a mut Vec<usize>,
         text: &'a str,
         extensions: InlineExtensions,
     ) -> PieceScanner<'a>
@@ -68,11 +68,6 @@ impl<'a> PieceScanner<'a> {
             place: 0,
             searches: Searches::within(buffer, text.as_bytes()),
         }
-    }
-
-    // The memory that it was made with.
-    pub(crate) fn into_buffer(self) -> Vec<usize> {
-        self.searches.into_buffer()
     }
 
     // The place up to which the text has been read.

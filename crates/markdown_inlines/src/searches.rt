@@ -23,8 +23,8 @@ pub(crate) struct Searches<'a> {
     codes_passed: u128,
     // From where on the text has been read to its end, if it has been.
     read_from: Option<usize>,
-    // By length, where the last string of so many backticks stands, if it has been.
-    lasts: Vec<usize>,
+    // By length, where the last string of so many backticks stands, if it has been. It is lent.
+    lasts: &'a mut Vec<usize>,
     html: InlineHtmlRun<'a>,
 }
 
@@ -39,12 +39,12 @@ impl<'a> Model for Searches<'a> {
     ghost view = { λ s. record { codes = s.codes_passed; read = s.read_from; html = s.html } };
 
     ghost invariant = { λ s. (s.text ≡ s.html.text) × IsWithinBudget s.html
-        × IfSome s.read_from (λ from. AreLastStrings s.text from s.lasts.items) };
+        × IfSome s.read_from (λ from. AreLastStrings s.text from s.lasts.now.items) };
 }
 
 impl<'a> Searches<'a> {
     // Nothing is searched. Nothing depends on what is in the buffer.
-    pub(crate) fn within(buffer: Vec<usize>, bytes: &'a [u8]) -> Searches<'a>
+    pub(crate) fn within(buffer: &'a mut Vec<usize>, bytes: &'a [u8]) -> Searches<'a>
         ensures start { result ≡ unsearched bytes.now }
         ensures searched { IsSearchedTo 0 result }
     {
@@ -55,11 +55,6 @@ impl<'a> Searches<'a> {
             lasts: buffer,
             html: InlineHtmlRun::new(bytes),
         }
-    }
-
-    // The memory that it was made with.
-    pub(crate) fn into_buffer(self) -> Vec<usize> {
-        self.lasts
     }
 
     // How many bytes the searches passed over.
@@ -92,7 +87,7 @@ impl<'a> Searches<'a> {
             return Ok(self.known_span(place));
         }
         let mut passed = 0;
-        let found = first_span(&self.text, &mut self.lasts, place, &mut passed)?;
+        let found = first_span(&self.text, self.lasts, place, &mut passed)?;
         self.codes_passed += passed;
         if found.is_some() {
             return Ok(found);
@@ -114,7 +109,7 @@ impl<'a> Searches<'a> {
           codes = self.old.codes + prefix_len is_backtick (drop place self.old.html.text);
         }) }
     {
-        span_at(&self.text, &self.lasts, place, &mut self.codes_passed)
+        span_at(&self.text, self.lasts, place, &mut self.codes_passed)
     }
 
     // Where the comment, CDATA section, declaration or processing instruction ends whose `<` stands

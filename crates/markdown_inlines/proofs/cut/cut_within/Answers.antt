@@ -16,8 +16,8 @@ use Rattle.markdown_inlines.proofs.reading.ReadingLemmas.{start_kept}
 use Rattle.markdown_inlines.proofs.searches.SearchLemmas.{last_joined, next_joined}
 use Rattle.markdown_inlines.proofs.cut.cut_within.Goals as goal
 
-pub loop-scanner-init : goal.loop-scanner-init
-loop-scanner-init g c =
+pub loop-piece-init : goal.loop-piece-init
+loop-piece-init g c =
     let setting : Setting = record { asked = c.args.extensions; known = g.L.Labels.known c.args.labels.now } in
     let text = c.args.text.now in
     let start = c.restart.ensures text in
@@ -44,15 +44,15 @@ loop-scanner-init g c =
 pub read_piece-requires-clause-here : goal.read_piece-requires-clause-here
 read_piece-requires-clause-here g c =
     let is_found = rw c.in-Some.is at c.in_ok-piece.ensures.found in
-    let is = c.loop-scanner.invariant in
-    next_piece_at c.args.extensions c.args.text.now c.loop-scanner.place c.in-Some.piece
+    let is = c.loop-piece.invariant in
+    next_piece_at c.args.extensions c.args.text.now c.loop-piece.place c.in-Some.piece
     (subst (λ (s : ReadText). IsNext s.asked s.text s.place c.in-Some.piece) is.0 is_found)
 
 pub read_piece-requires-clause-source : goal.read_piece-requires-clause-source
 read_piece-requires-clause-source g c =
     let is_within = rw c.in-Some.is at c.in_ok-piece.ensures.within in
     let is_boundary = rw c.in-Some.is at c.in_ok-piece.ensures.boundary in
-    let text = ap (λ (s : ReadText). s.text) c.loop-scanner.invariant.0 in
+    let text = ap (λ (s : ReadText). s.text) c.loop-piece.invariant.0 in
     record {
       some = is_within.0;
       begins = subst (λ t. IsCharBoundary t c.in-Some.piece.start) text is_boundary.0;
@@ -62,19 +62,19 @@ read_piece-requires-clause-source g c =
 pub read_piece-requires-clause-before : goal.read_piece-requires-clause-before
 read_piece-requires-clause-before g c =
     let is_found = rw c.in-Some.is at c.in_ok-piece.ensures.found in
-    let is = c.loop-scanner.invariant in
-    let later : c.loop-scanner.place ≤ c.in-Some.piece.start =
+    let is = c.loop-piece.invariant in
+    let later : c.loop-piece.place ≤ c.in-Some.piece.start =
     subst (λ (s : ReadText). s.place ≤ c.in-Some.piece.start) is.0 is_found.later in
-    before_later (reading_of c.args.text.now c.loop-scanner.buffers.reader).openers c.loop-scanner.place c.in-Some.piece.start later is.5
+    before_later (reading_of c.args.text.now c.loop-piece.buffers.reader).openers c.loop-piece.place c.in-Some.piece.start later is.5
 
 pub read_piece-requires-clause-free : goal.read_piece-requires-clause-free
-read_piece-requires-clause-free g c = c.loop-scanner.invariant.7.free
+read_piece-requires-clause-free g c = c.loop-piece.invariant.7.free
 
 pub read_piece-requires-clause-new : goal.read_piece-requires-clause-new
 read_piece-requires-clause-new g c =
     let is_found = rw c.in-Some.is at c.in_ok-piece.ensures.found in
-    let is = c.loop-scanner.invariant in
-    let later : c.loop-scanner.place ≤ c.in-Some.piece.start =
+    let is = c.loop-piece.invariant in
+    let later : c.loop-piece.place ≤ c.in-Some.piece.start =
     subst (λ (s : ReadText). s.place ≤ c.in-Some.piece.start) is.0 is_found.later in
     is.7.ended c.in-Some.piece.start later
 
@@ -87,32 +87,32 @@ pub read_to-requires-clause-within : goal.read_to-requires-clause-within
 read_to-requires-clause-within g c =
     let is_read = rw c.in-Some.is at c.in_ok-piece.ensures.read in
     subst (λ text. c.in_ok-place.place ≤ length text)
-    (sym (ap (λ (s : ReadText). s.text) c.loop-scanner.invariant.0) ∙ sym (ap (λ (s : ReadText). s.text) is_read))
+    (sym (ap (λ (s : ReadText). s.text) c.loop-piece.invariant.0) ∙ sym (ap (λ (s : ReadText). s.text) is_read))
     c.in_ok-place.ensures.within.1
 
-pub loop-scanner-smaller : goal.loop-scanner-smaller
-loop-scanner-smaller g c =
+pub loop-piece-smaller : goal.loop-piece-smaller
+loop-piece-smaller g c =
     let is_found = rw c.in-Some.is at c.in_ok-piece.ensures.found in
     let is_within = rw c.in-Some.is at c.in_ok-piece.ensures.within in
-    let later : c.loop-scanner.place ≤ c.in-Some.piece.start =
-    subst (λ (s : ReadText). s.place ≤ c.in-Some.piece.start) c.loop-scanner.invariant.0 is_found.later in
+    let later : c.loop-piece.place ≤ c.in-Some.piece.start =
+    subst (λ (s : ReadText). s.place ≤ c.in-Some.piece.start) c.loop-piece.invariant.0 is_found.later in
     omega (arith, later, c.in_ok-place.ensures.within.1, is_within.0, c.in_ok-place.ensures.within.0)
 
-pub loop-scanner-preserved : goal.loop-scanner-preserved
-loop-scanner-preserved g c =
+pub loop-piece-preserved : goal.loop-piece-preserved
+loop-piece-preserved g c =
     let is_found = rw c.in-Some.is at c.in_ok-piece.ensures.found in
     let is_within = rw c.in-Some.is at c.in_ok-piece.ensures.within in
     let is_boundary = rw c.in-Some.is at c.in_ok-piece.ensures.boundary in
     let is_read = rw c.in-Some.is at c.in_ok-piece.ensures.read in
-    let is = c.loop-scanner.invariant in
+    let is = c.loop-piece.invariant in
     let setting : Setting = record { asked = c.args.extensions; known = g.L.Labels.known c.args.labels.now } in
     let text = c.args.text.now in
-    let reading = reading_of text c.loop-scanner.buffers.reader in
+    let reading = reading_of text c.loop-piece.buffers.reader in
     let piece = c.in-Some.piece in
-    let inlines = c.loop-scanner.buffers.inlines.items in
+    let inlines = c.loop-piece.buffers.inlines.items in
     let pieces = pieces_of inlines in
     let end = c.in_ok-place.place in
-    let from = c.loop-scanner.place in
+    let from = c.loop-piece.place in
     let next = reading_of text c.read_piece.new.buffers.reader in
     let between = text_between from piece.start in
     let here : IsNext c.args.extensions text from piece = subst (λ (s : ReadText). IsNext s.asked s.text s.place piece) is.0 is_found in
@@ -155,13 +155,13 @@ pub returns : goal.returns
 returns g c =
     let is_none = rw c.in_default.is at c.in_ok-piece.ensures.none in
     let is_all = rw c.in_default.is at c.in_ok-piece.ensures.all in
-    let is = c.loop-scanner.invariant in
+    let is = c.loop-piece.invariant in
     let setting : Setting = record { asked = c.args.extensions; known = g.L.Labels.known c.args.labels.now } in
     let text = c.args.text.now in
-    let reading = reading_of text c.loop-scanner.buffers.reader in
-    let inlines = c.loop-scanner.buffers.inlines.items in
+    let reading = reading_of text c.loop-piece.buffers.reader in
+    let inlines = c.loop-piece.buffers.inlines.items in
     let pieces = pieces_of inlines in
-    let from = c.loop-scanner.place in
+    let from = c.loop-piece.place in
     let only : HasOnlyText c.args.extensions text from (length text) =
     subst (λ (s : ReadText). HasOnlyText s.asked s.text s.place (length s.text)) is.0 is_none in
     let last = is_all

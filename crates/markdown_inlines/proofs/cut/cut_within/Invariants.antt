@@ -7,8 +7,8 @@ use Rattle.markdown_inlines.specs.Written.{AreWritten, have_runs, pieces_of}
 use Rattle.markdown_inlines.proofs.cut.CutLemmas.{ReadsOn}
 use Rattle.markdown_inlines.proofs.cut.cut_within.Given as goal
 
-abbrev pub invariant-loop-scanner : goal.invariant-loop-scanner
-invariant-loop-scanner g l =
+abbrev pub invariant-loop-piece : goal.invariant-loop-piece
+invariant-loop-piece g l =
     (l.scanner ≡ record {
       text = l.text;
       asked = l.extensions;
@@ -22,5 +22,5 @@ invariant-loop-scanner g l =
     × AreWritten l.buffers.reader.links.items (reading_of l.text l.buffers.reader).openers l.buffers.inlines.items l.place
     × (l.has_runs ≡ have_runs (pieces_of l.buffers.inlines.items))
 
-abbrev pub decreases-loop-scanner : goal.decreases-loop-scanner
-decreases-loop-scanner g l = length l.text - l.place
+abbrev pub decreases-loop-piece : goal.decreases-loop-piece
+decreases-loop-piece g l = length l.text - l.place
