@@ -173,10 +173,22 @@ pub(crate) fn gather_content(
         return Ok(());
     }
     add_content(content, lines, block, containers, text)?;
-    if scan_definition(content).is_none() {
+    if !begins_with_definition(content) {
         content.clear();
     }
     Ok(())
+}
+
+// Whether a definition stands at the front of a paragraph's content. Most that begin with a bracket
+// have no label that ends as one of a definition does, and aren't read.
+fn begins_with_definition(content: &[u8]) -> bool
+    ensures { result ≡ false → (definition : ReferenceDefinition)
+        → ¬ IsDefinition content.now definition }
+{
+    if !has_label_end(content) {
+        return false;
+    }
+    scan_definition(content).is_some()
 }
 
 /// Adds the content of a block at the front of these lines: a paragraph's, a definition's or a setext

@@ -28,13 +28,18 @@ none_gathered (Fenced count byte) outer text later gathered none plain = inl non
 none_gathered (Html kind) outer text later gathered none plain = inl none
 none_gathered (Table columns) outer text later gathered none plain = inl none
 
--- nothing is gathered of one in which none is found
+-- none is found where none stands
+pub none_scanned : (content : List ℕ) (found : Option ReferenceDefinition) → SomeExactly (IsDefinition content) found → is_some found ≡ false
+    → (d : ReferenceDefinition) → ¬ IsDefinition content d
+none_scanned content None none absent = none
+none_scanned content (Some d) found absent = cc
+
+-- nothing is gathered of one in which none stands
 pub nothing_gathered : (kind : BlockKind) (outer : List Container) (text : List ℕ) (later : List (List ℕ)) (content gathered : List ℕ)
-    (found : Option ReferenceDefinition) → gathered ≡ [] → content ≡ content_in kind outer text later → SomeExactly (IsDefinition content) found
-    → is_some found ≡ false → IsGathered (content_in kind outer text later) gathered
-nothing_gathered kind outer text later content gathered None none is found absent =
-    inr (none, subst (λ c. (d : ReferenceDefinition) → ¬ IsDefinition c d) is found)
-nothing_gathered kind outer text later content gathered (Some d) none is found absent = cc
+    → gathered ≡ [] → content ≡ content_in kind outer text later → ((d : ReferenceDefinition) → ¬ IsDefinition content d)
+    → IsGathered (content_in kind outer text later) gathered
+nothing_gathered kind outer text later content gathered none is plain =
+    inr (none, subst (λ c. (d : ReferenceDefinition) → ¬ IsDefinition c d) is plain)
 
 -- nothing is gathered of one line in which no label ends
 pub one_line_gathered : (kind : BlockKind) (outer : List Container) (text line : List ℕ) (later : List (List ℕ)) (gathered : List ℕ)

@@ -1,4 +1,4 @@
-use Rattle.std.proofs.Common.{inl, ap, not, sym, ◌∙◌}
+use Rattle.std.proofs.Common.{inl, sym, ◌∙◌}
 use Rattle.markdown_blocks.proofs.definitions.GatherLemmas.{none_gathered, nothing_gathered, one_line_gathered}
 use Rattle.markdown_blocks.proofs.definitions.gather_content.Goals as goal
 
@@ -13,11 +13,12 @@ returns-then-is_line_without_label c = λ line later t.
     (sym (c.is_line_without_label.ensures.line c.if-is_line_without_label.true) ∙ t.counted)
     (c.is_line_without_label.ensures.none c.if-is_line_without_label.true)
 
-pub returns-then-is_none : goal.returns-then-is_none
-returns-then-is_none c = λ line later t.
+pub returns-then-not-begins_with_definition : goal.returns-then-not-begins_with_definition
+returns-then-not-begins_with_definition c = λ line later t.
     let content = c.deref.ensures.value ∙ (rw c.clear.ensures.items at (c.in_ok-add_content.ensures line later t)) in
-    nothing_gathered c.args.block.kind c.args.containers.now c.args.text.now later c.deref.result.now c.clear-then-is_none.new.self.items
-    c.scan_definition.result c.clear-then-is_none.ensures.items content c.scan_definition.ensures.found (c.is_none.ensures ∙ ap not c.if-is_none.true)
+    nothing_gathered c.args.block.kind c.args.containers.now c.args.text.now later c.deref.result.now
+    c.clear-then-not-begins_with_definition.new.self.items c.clear-then-not-begins_with_definition.ensures.items content
+    (c.begins_with_definition.ensures c.if-not-begins_with_definition.true)
 
-pub returns-else-is_none : goal.returns-else-is_none
-returns-else-is_none c = λ line later t. inl (rw c.clear.ensures.items at (c.in_ok-add_content.ensures line later t))
+pub returns-else-not-begins_with_definition : goal.returns-else-not-begins_with_definition
+returns-else-not-begins_with_definition c = λ line later t. inl (rw c.clear.ensures.items at (c.in_ok-add_content.ensures line later t))
