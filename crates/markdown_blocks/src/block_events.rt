@@ -1,6 +1,6 @@
 //! The events of one block: containers that end and begin, link reference definitions, and what is
 //! left of the block after them.
-ghost use Rattle.std.specs.Prelude.{◌≡◌, ◌∷◌, ◌<◌, ◌≤◌, ◌+◌, ◌-◌, ◌^◌, ◌↔◌, [], List, ℕ, length, take, drop, IsTrue, IfSome, IfNone};
+ghost use Rattle.std.specs.Prelude.{◌≡◌, ◌∷◌, ◌<◌, ◌≤◌, ◌+◌, ◌-◌, ◌^◌, ◌↔◌, [], List, ℕ, length, take, drop, IsTrue, IfOk, IfErr, IfSome, IfNone, OnOk};
 ghost use Rattle.markdown_scanners_tree.specs.scanners.TextLines.{lines_of};
 ghost use Rattle.markdown_scanners_tree.specs.line.State.{after_space};
 ghost use Rattle.markdown_blocks.specs.containers.Containers.{marker_place, after_marker};
@@ -8,6 +8,7 @@ ghost use Rattle.markdown_blocks.specs.events.Events.{Event, LeafBlock, AreLeave
 ghost use Rattle.markdown_blocks.specs.events.Events.{seen_event, seen_leaf};
 ghost use Rattle.markdown_blocks.specs.events.Given.{GivesBlock, block_left, block_events_left};
 ghost use Rattle.markdown_blocks.specs.events.Used.{IsUsed, IsUsedBy};
+ghost use Rattle.markdown_blocks.specs.link_definitions.LinkDefinitions.{AreAddedBetween};
 ghost use Rattle.markdown_blocks.specs.taken.Lines.{IsTaken};
 
 use crate::blocks::BlockKind;
@@ -15,10 +16,12 @@ use crate::containers::{BlockExtensions, Container, Outer, go_on, scan_container
 use crate::definitions::take_definition;
 use crate::events::BlockEvent;
 use crate::leaf::Leaf;
+use crate::link_definitions::LinkDefinitions;
 use crate::rest::{Rest, scan_rest};
 use crate::step::Step;
 use crate::taken::Taken;
 use markdown_scanners_tree::line::LineStart;
+use std::alloc::AllocError;
 use std::marker::Model;
 
 /// The events of one block that are not given yet.
@@ -131,21 +134,76 @@ impl<'a> BlockEvents<'a> {
         ensures used { IfSome result (λ event.
             IsUsedBy content.now self.old.used (seen_event event) self.new.used) }
     {
+        if let Some(event) = self.next_container(containers) {
+            return Some(event);
+        }
+        let leaf = self.next_leaf(containers, content)?;
+        Some(BlockEvent::Block(leaf))
+    }
+
+    /// The same, for which each definition is read once: where the event is one, it is added to those
+    /// that are known.
+    ///
+    /// After a refusal nothing has changed.
+    pub fn next_adding(
+        &mut self,
+        containers: &[Container],
+        content: &[u8],
+        known: &mut LinkDefinitions<'a>,
+    ) -> Result<Option<BlockEvent<'a>>, AllocError>
+        ensures event { IfOk result (λ found. IfSome found (λ event. (later : List Event)
+            → GivesBlock containers.now content.now self.new later
+            → GivesBlock containers.now content.now self.old (seen_event event ∷ later))) }
+        ensures fewer { IfOk result (λ found. IfSome found (λ _.
+            block_events_left containers.now self.new
+            < block_events_left containers.now self.old)) }
+        ensures none { IfOk result (λ found.
+            IfNone found (GivesBlock containers.now content.now self.old [])) }
+        ensures done { IfOk result (λ found.
+            IfNone found (block_events_left containers.now self.old ≡ 0)) }
+        ensures used { IfOk result (λ found. IfSome found (λ event.
+            IsUsedBy content.now self.old.used (seen_event event) self.new.used)) }
+        ensures added { OnOk result (AreAddedBetween self.old.used self.new.used content.now
+            known.old known.new) }
+        ensures refused { IfErr result (λ _. (self.new ≡ self.old) × (known.new ≡ known.old)) }
+    {
+        if let Some(event) = self.next_container(containers) {
+            return Ok(Some(event));
+        }
+        match self.next_leaf_adding(containers, content, known)? {
+            Some(leaf) => Ok(Some(BlockEvent::Block(leaf))),
+            None => Ok(None),
+        }
+    }
+
+    // The next container that ends or begins, if there is one.
+    fn next_container(&mut self, containers: &[Container]) -> Option<BlockEvent<'a>>
+        ensures event { IfSome result (λ event. (content : List ℕ) (later : List Event)
+            → GivesBlock containers.now content self.new later
+            → GivesBlock containers.now content self.old (seen_event event ∷ later)) }
+        ensures fewer { IfSome result (λ _. block_events_left containers.now self.new
+            < block_events_left containers.now self.old) }
+        ensures used { IfSome result (λ event. (content : List ℕ)
+            → IsUsedBy content self.old.used (seen_event event) self.new.used) }
+        ensures same { self.new.used ≡ self.old.used }
+        ensures none { IfNone result (self.new ≡ self.old) }
+        ensures ended { IfNone result (self.old.ending ≡ 0) }
+        ensures begun { IfNone result (length containers.now ≤ self.old.begun) }
+    {
         if self.ending > 0 {
             self.ending -= 1;
             return Some(BlockEvent::End);
         }
-        if self.begun < containers.len() {
-            let container = containers[self.begun];
-            self.begun += 1;
-            // What stands after the last marker is the leaf block's.
-            if self.begun == containers.len() {
-                return Some(BlockEvent::Start(container, self.marker_offset()));
-            }
-            return Some(BlockEvent::Start(container, self.pass_marker()));
+        if self.begun >= containers.len() {
+            return None;
         }
-        let leaf = self.next_leaf(containers, content)?;
-        Some(BlockEvent::Block(leaf))
+        let container = containers[self.begun];
+        self.begun += 1;
+        // What stands after the last marker is the leaf block's.
+        if self.begun == containers.len() {
+            return Some(BlockEvent::Start(container, self.marker_offset()));
+        }
+        Some(BlockEvent::Start(container, self.pass_marker()))
     }
 
     // How many bytes of the page stand before the marker of the next container. The space before it
@@ -191,6 +249,39 @@ impl<'a> BlockEvents<'a> {
         };
         self.used += taken.bytes;
         Some(self.take_lines(BlockKind::Definition, taken.lines, containers))
+    }
+
+    // The same, and if it is a definition, adds that to those that are known.
+    fn next_leaf_adding(
+        &mut self,
+        containers: &[Container],
+        content: &[u8],
+        known: &mut LinkDefinitions<'a>,
+    ) -> Result<Option<Leaf<'a>>, AllocError>
+        ensures leaf { IfOk result (λ found. IfSome found (λ block. (later : List LeafBlock)
+            → AreLeaves containers.now self.new.kind self.new.part (drop self.new.used content.now) later
+            → AreLeaves containers.now self.old.kind self.old.part (drop self.old.used content.now)
+            (seen_leaf block ∷ later))) }
+        ensures fewer { IfOk result (λ found. IfSome found (λ _.
+            length self.new.part.lines < length self.old.part.lines)) }
+        ensures none { IfOk result (λ found. IfNone found (self.old.part.lines ≡ [])) }
+        ensures used { IfOk result (λ found.
+            IfSome found (λ _. IsUsed content.now self.old.used self.new.used)) }
+        ensures same { OnOk result (self.new
+            ≡ record self.old { part = self.new.part; used = self.new.used }) }
+        ensures added { OnOk result (AreAddedBetween self.old.used self.new.used content.now
+            known.old known.new) }
+        ensures refused { IfErr result (λ _. (self.new ≡ self.old) × (known.new ≡ known.old)) }
+    {
+        if self.leaf.lines == 0 {
+            return Ok(None);
+        }
+        let Some(found) = known.add_next(content_from(content, self.used), self.lines)? else {
+            return Ok(Some(self.take_all()));
+        };
+        self.used += found.bytes;
+        let leaf = self.take_lines(BlockKind::Definition, found.lines, containers);
+        Ok(Some(leaf))
     }
 
     // Takes all that is left, as a leaf block of the block's own kind.

@@ -54,8 +54,8 @@ pub fn take_definition(content: &[u8]) -> Option<Taken>
     Some(count_lines(&content[..definition.len]))
 }
 
-// How many bytes and lines the text has.
-fn count_lines(text: &[u8]) -> Taken
+/// How many bytes and lines the text has.
+pub(crate) fn count_lines(text: &[u8]) -> Taken
     ensures lines { result.lines ≡ length (lines_of text.now) }
     ensures bytes { result.bytes ≡ length text.now }
 {

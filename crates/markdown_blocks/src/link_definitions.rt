@@ -1,6 +1,6 @@
 //! Which link reference definition of a page a label finds. (CommonMark 0.31.2, sections 4.7 and 6.3)
-ghost use Rattle.std.specs.Prelude.{◌≡◌, ◌<◌, ◌≤◌, [], ◌∷◌, false, List, ℕ, length, option_map};
-ghost use Rattle.std.specs.Prelude.{is_none, IsAscii, IfOk, IfErr, IfSome, OnOk, Some};
+ghost use Rattle.std.specs.Prelude.{◌≡◌, ◌<◌, ◌≤◌, [], ◌∷◌, false, List, ℕ, length, option_map, take};
+ghost use Rattle.std.specs.Prelude.{is_none, IsAscii, IfOk, IfErr, IfNone, IfSome, OnOk, Some};
 ghost use Rattle.std.specs.Cow.{cow_slice_items};
 ghost use Rattle.std.specs.Iterator.{at_most};
 ghost use Rattle.std.specs.Map.Iter.{TakesFirst, deref_pair};
@@ -15,10 +15,14 @@ ghost use Rattle.markdown_blocks.specs.definitions.Definitions.{IsDefinition};
 ghost use Rattle.markdown_blocks.specs.link_definitions.LinkDefinitions.{Named, Target, Known, HasDefinitions, Names, IsNamed};
 ghost use Rattle.markdown_blocks.specs.link_definitions.LinkDefinitions.{AreAddedUpTo, first_of, known_as, known_before, slice, target_of};
 ghost use Rattle.markdown_blocks.specs.link_definitions.Listed.{AreListed};
+ghost use Rattle.markdown_blocks.specs.taken.Lines.{IsTaken};
+ghost use Rattle.markdown_scanners_tree.specs.declared.scanners.reference_definitions.ReferenceDefinition.{ReferenceDefinition};
+ghost use Rattle.markdown_scanners_tree.specs.scanners.TextLines.{lines_of};
 
 use crate::containers::BlockExtensions;
-use crate::definitions::scan_definition;
+use crate::definitions::{count_lines, scan_definition};
 use crate::foldings::{Folding, SHORT};
+use crate::taken::Taken;
 use crate::walk::Walk;
 use caseless::default_case_fold_str;
 use markdown_scanners_tree::linklabel::scan_link_label_bytes;
@@ -226,6 +230,37 @@ impl<'a> LinkDefinitions<'a> {
             used += definition.len;
         }
         Ok(())
+    }
+
+    /// Adds the definition at the front of the content of these lines, if one stands there. Answers how
+    /// many bytes and lines it has.
+    pub(crate) fn add_next(
+        &mut self,
+        content: &[u8],
+        lines: &'a [u8],
+    ) -> Result<Option<Taken>, AllocError>
+        ensures found { IfOk result (λ found. IfSome found (λ taken.
+            (definition : ReferenceDefinition) × IsDefinition content.now definition
+            × (taken.bytes ≡ definition.len)
+            × IsTaken content.now taken (lines_of (take definition.len content.now)))) }
+        ensures none { IfOk result (λ found. IfNone found ((definition : ReferenceDefinition)
+            → ¬ IsDefinition content.now definition)) }
+        ensures some { IfOk result (λ found. IfSome found (λ taken. 0 < taken.bytes)) }
+        ensures within { IfOk result (λ found.
+            IfSome found (λ taken. taken.bytes ≤ length content.now)) }
+        ensures added { IfOk result (λ found. IfSome found (λ taken.
+            AreAddedUpTo taken.bytes content.now self.old self.new)) }
+        ensures unchanged { IfOk result (λ found. IfNone found (self.new ≡ self.old)) }
+        ensures refused { IfErr result (λ _. self.new ≡ self.old) }
+    {
+        if content.is_empty() {
+            return Ok(None);
+        }
+        let Some(definition) = scan_definition(content) else {
+            return Ok(None);
+        };
+        self.add_first(content, &definition, lines)?;
+        Ok(Some(count_lines(&content[..definition.len])))
     }
 
     // Adds the definition at the front of the text, which is the content of these lines.

@@ -1,12 +1,13 @@
 -- What the definitions of a page name, and which of them a label finds.
-use Rattle.std.proofs.Common.{ℕ, List, [], ◌∷◌, ◌++◌, ◌≡◌, ◌⊎◌, inl, inr, Option, Some, None, drop, take, cond, false, Bool, true}
-use Rattle.std.proofs.Common.{arith, refl, sym, ap, ◌∙◌, subst}
+use Rattle.std.proofs.Common.{ℕ, List, [], ◌∷◌, ◌++◌, ◌+◌, ◌≡◌, ◌⊎◌, inl, inr, Option, Some, None, drop, take, cond, false, Bool, true}
+use Rattle.std.proofs.Common.{arith, refl, sym, ap, ◌∙◌, subst, append_assoc}
 use Rattle.std.specs.Prelude.{◌==◌, length, is_some}
 use Rattle.std.specs.Map.{lookup}
 use Rattle.std.specs.Ordering.{is_eq, nat_cmp}
 use Rattle.std.specs.Str.{IsUtf8, bytes_eq}
 use Rattle.std.specs.Cmp.Lexicographic.{slice_cmp}
 use Rattle.std.proofs.lemmas.Bool.{cases_Bool, eqb-true}
+use Rattle.std.proofs.lemmas.List.{drop-drop}
 use Rattle.std.proofs.lemmas.Map.Text.{is_eq-slice_cmp}
 use Rattle.std.proofs.lemmas.Slice.Eq.{bytes_eq-Decides}
 use Rattle.markdown_scanners_tree.specs.scanners.TextLines.{lines_of}
@@ -24,7 +25,7 @@ use Rattle.markdown_blocks.specs.definitions.Definitions.{AreDefinitions, IsDefi
 use Rattle.markdown_blocks.specs.events.Events.{piece_content}
 use Rattle.markdown_blocks.specs.walk.Walk.{IsStep, IsGathered, IsContentOf}
 use Rattle.markdown_blocks.specs.link_definitions.LinkDefinitions.{Target, Named, Known, Names, IsNamed, AreNamed, AreNamedIn, HasDefinitions}
-use Rattle.markdown_blocks.specs.link_definitions.LinkDefinitions.{do_match, first_of, known_as, known_before, target_of}
+use Rattle.markdown_blocks.specs.link_definitions.LinkDefinitions.{AreAddedBetween, AreAddedUpTo, do_match, first_of, known_as, known_before, target_of}
 use Rattle.markdown_blocks.proofs.definitions.DefinitionLemmas.{no_text, one_list_of_definitions}
 use Rattle.markdown_blocks.proofs.blocks.OneText.{one_page}
 
@@ -173,6 +174,43 @@ none_named text none = record { definitions = []; rest = text; are_definitions =
 pub names_nothing : (text : List ℕ) → (length text == 0) ≡ true → Names text []
 names_nothing [] none = none_named [] no_text
 names_nothing (b ∷ text) none = absurd (omega (arith, eqb-true (length (b ∷ text)) 0 none))
+
+-- ---- the definitions that are added of a content
+
+pub none_added : (start end : ℕ) (content : List ℕ) (old new : Known) → end ≡ start → new ≡ old → AreAddedBetween start end content old new
+none_added start end content old new same unchanged = (
+  [],
+  λ more names. subst (λ n. Names (drop n content) more) same names,
+  λ asked. ap (λ known. known_as known asked) unchanged ∙ none_later old asked,
+)
+
+pub first_added : (content : List ℕ) (d : ReferenceDefinition) (bytes : ℕ) (old new : Known) (here : List Named) → IsDefinition content d
+    → bytes ≡ d.len → IsNamed content d here → ((asked : List ℕ) → known_as new asked ≡ known_before old here asked)
+    → AreAddedUpTo bytes content old new
+first_added content d bytes old new here is size named added = record {
+  front = here;
+  is_front = λ later names. front_named content d here later is named (subst (λ n. Names (drop n content) later) size names);
+  added = added;
+}
+
+-- those of what is left of it
+pub added_later : (start count : ℕ) (content left : List ℕ) (old new : Known) → left ≡ drop start content → AreAddedUpTo count left old new
+    → AreAddedBetween start (start + count) content old new
+added_later start count content left old new is some = (
+  some.front,
+  λ later names. subst (λ t. Names t (some.front ++ later)) is
+      (some.is_front later (subst (λ t. Names t later) (sym (ap (drop count) is ∙ drop-drop count start content)) names)),
+  some.added,
+)
+
+pub added_both : (start middle end : ℕ) (content : List ℕ) (old known new : Known) → AreAddedBetween start middle content old known
+    → AreAddedBetween middle end content known new → AreAddedBetween start end content old new
+added_both start middle end content old known new one other = (
+  one.0 ++ other.0,
+  λ later names. subst (λ named. Names (drop start content) named) (sym (append_assoc one.0 other.0 later))
+      (one.1 (other.0 ++ later) (other.1 later names)),
+  λ asked. other.2 asked ∙ added_before old known one.0 other.0 asked (one.2 asked),
+)
 
 -- what is gathered of a content has its definitions
 gathered_named : (content gathered : List ℕ) (named : List Named) → IsGathered content gathered → Names gathered named → Names content named

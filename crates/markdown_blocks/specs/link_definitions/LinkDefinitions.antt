@@ -93,3 +93,9 @@ pub record AreAddedUpTo (place : ℕ) (content : List ℕ) (old new : Known) : T
   pub front : List Named
   pub is_front : (later : List Named) → Names (drop place content) later → Names content (front ++ later)
   pub added : (asked : List ℕ) → known_as new asked ≡ known_before old front asked
+
+-- of those that it begins with after the start, those before the end
+abbrev pub AreAddedBetween : ℕ → ℕ → List ℕ → Known → Known → Type 0
+AreAddedBetween start end content old new =
+    (front : List Named) × ((later : List Named) → Names (drop end content) later → Names (drop start content) (front ++ later))
+    × ((asked : List ℕ) → known_as new asked ≡ known_before old front asked)

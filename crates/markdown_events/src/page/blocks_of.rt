@@ -2,7 +2,7 @@
 ghost use Rattle.std.specs.Prelude.{◌≡◌, ◌++◌, List, ℕ, drop, map, replicate, reverse, IfOk, OnOk};
 ghost use Rattle.markdown_blocks.specs.events.Events.{Event, IsEventsOf, ends, seen_event};
 ghost use Rattle.markdown_blocks.specs.events.Given.{GivesBlock};
-ghost use Rattle.markdown_blocks.specs.link_definitions.LinkDefinitions.{Named, HasDefinitions, first_of, known_as};
+ghost use Rattle.markdown_blocks.specs.link_definitions.LinkDefinitions.{Named, Names, HasDefinitions, first_of, known_as, known_before};
 
 use crate::page::definitions::PageDefinitions;
 use markdown_blocks::containers::{BlockExtensions, Container};
@@ -53,28 +53,34 @@ fn read_bytes<'a>(
             return Ok((blocks, PageDefinitions::new(alloc, known)));
         };
         let taken = step.block.taken;
-        known.add_content(&content, step.lines)?;
         let events = BlockEvents::new(step, before, depth);
-        push_events(&mut blocks, walk.containers(), &content, events)?;
+        push_events(&mut blocks, &mut known, walk.containers(), &content, events)?;
         lines += taken.lines;
         bytes += taken.bytes;
     }
 }
 
-// Adds the events of a block, in these containers and with this content.
+// Adds the events of a block, in these containers and with this content, and its definitions.
 fn push_events<'a>(
     blocks: &mut Vec<BlockEvent<'a>>,
+    known: &mut LinkDefinitions<'a>,
     containers: &[Container],
     content: &[u8],
     mut events: BlockEvents<'a>,
 ) -> Result<(), AllocError>
-    ensures { OnOk result ((given : List Event)
+    ensures events { OnOk result ((given : List Event)
         × GivesBlock containers.now content.now events.entry given
         × (map seen_event blocks.new.items ≡ map seen_event blocks.old.items ++ given)) }
+    ensures named { OnOk result ((named : List Named)
+        × Names (drop events.entry.used content.now) named
+        × ((asked : List ℕ) → known_as known.new asked ≡ known_before known.old named asked)) }
 {
-    while let Some(event) = events.next(containers, content) {
+    while let Some(event) = events.next_adding(containers, content, known)? {
         blocks.push(event)?;
     }
+    // No definition is left of the content, which has no more lines than the block. That it names no
+    // more is shown by adding none.
+    known.add_content(events.content_left(content), &[])?;
     Ok(())
 }
 

@@ -29,10 +29,10 @@ loop-content-preserved c =
     let within = rw c.in-Some.is at c.in_ok-step.ensures.within in
     let step = rw (c.in-Some.is, same) at c.in_ok-step.ensures.step in
     let gathered = rw c.in-Some.is at c.in_ok-step.ensures.content in
-    let added = rw c.deref.ensures.value at c.in_ok-add_content.ensures.added in
     let given =
-    rw (c.containers.ensures.containers, c.deref-in-loop-content.ensures.value, c.new-events.ensures, c.containers-depth.ensures.containers)
-    at c.in_ok-push_events.ensures in
+    rw (c.containers.ensures.containers, c.deref.ensures.value, c.new-events.ensures, c.containers-depth.ensures.containers)
+    at c.in_ok-push_events.ensures.events in
+    let added = rw (c.deref.ensures.value, c.new-events.ensures) at c.in_ok-push_events.ensures.named in
     let before = map seen_event c.loop-content.blocks.items in
     record {
       within = omega (arith, within, size, length-drop c.loop-content.bytes page, c.loop-content.invariant.within);
