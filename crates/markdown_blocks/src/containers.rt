@@ -7,7 +7,7 @@ ghost use Rattle.markdown_scanners_tree.specs.line.Outcome.{item_outcome};
 ghost use Rattle.markdown_scanners_tree.specs.line.State.{space_within, after_space};
 ghost use Rattle.markdown_blocks.specs.containers.Containers.{begun_behind, behind, behind_quote, extension_of, goes_on_blank, item_of};
 ghost use Rattle.markdown_blocks.specs.containers.Containers.{settled, within, within_quote, within_width};
-ghost use Rattle.markdown_blocks.specs.containers.private.Markers.{is_marker_byte};
+ghost use Rattle.markdown_blocks.specs.containers.private.Markers.{is_item_byte, is_other_byte};
 
 use crate::footnotes::scan_footnote;
 use crate::kinds::is_blank;
@@ -331,20 +331,33 @@ pub(crate) fn scan_container<'a>(
     if indent == 4 {
         return None;
     }
-    if !begins_with_marker_byte(&line[start.bytes_scanned()..]) {
+    let text = &line[start.bytes_scanned()..];
+    if begins_with_item_byte(text) {
+        return scan_item(line, start, indent);
+    }
+    if !begins_with_marker_byte(text, extensions) {
         return None;
     }
     scan_marked(line, start, indent, extensions)
 }
 
-// Whether a byte of a marker stands at the front.
-fn begins_with_marker_byte(bytes: &[u8]) -> bool
-    ensures { result ≡ begins_with is_marker_byte bytes.now }
+// Whether a byte of a list item's marker stands at the front, and so no other marker.
+fn begins_with_item_byte(bytes: &[u8]) -> bool
+    ensures { result ≡ begins_with is_item_byte bytes.now }
 {
-    matches!(
-        bytes,
-        [b'>' | b'-' | b'+' | b'*' | b'0'..=b'9' | b'[' | b':', ..]
-    )
+    matches!(bytes, [b'-' | b'+' | b'*' | b'0'..=b'9', ..])
+}
+
+// Whether a byte of another marker stands at the front, with these extensions on.
+fn begins_with_marker_byte(bytes: &[u8], extensions: BlockExtensions) -> bool
+    ensures { result ≡ begins_with (is_other_byte extensions) bytes.now }
+{
+    match bytes {
+        [b'>', ..] => true,
+        [b'[', ..] => extensions.footnotes,
+        [b':', ..] => extensions.definition_lists,
+        _ => false,
+    }
 }
 
 // The same where less than four columns of space stand before the position.

@@ -111,7 +111,7 @@ no_marker r false fails tells = refl
 pub no_quote : (s after : LineState) → begins_with (λ b. b == greater_than_sign) (unscanned s) ≡ false → after ≡ after_quote s → after ≡ s
 no_quote s after other is = rw other at is
 
--- what is left of the line from a place on
+-- what is left of the line from a position on
 pub rest_at_place : (line : List ℕ) (s : LineState) (p : ℕ) → s.bytes ≡ line → p ≡ s.place → unscanned s ≡ take (length line - p) (drop p line)
 rest_at_place line s p same place = sym (slice_behind line p ∙ rw (same, place) refl)
 

@@ -20,7 +20,7 @@ pub record Rest : Type 0 where
 abbrev pub rest_at : LineState → Rest
 rest_at s = record { indent = space_within 4 s; text = unscanned (after_space 4 s) }
 
--- the block quote marker here, behind so much space: what is left behind it, if it stands here and the space is no indented code (5.1)
+-- the block quote marker here, after so much space: what is left behind it, if it stands here and the space is no indented code (5.1)
 abbrev pub behind_quote : ℕ → LineState → Option LineState
 behind_quote indent s =
     if indent == 4 then None

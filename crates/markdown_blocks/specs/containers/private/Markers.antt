@@ -1,9 +1,15 @@
 -- Bytes with which a container begins.
-use Rattle.std.specs.Prelude.{ℕ, Bool, ◌==◌, ◌||◌}
+use Rattle.std.specs.Prelude.{ℕ, Bool, ◌==◌, ◌||◌, ◌&&◌}
 use Rattle.markdown_scanners_tree.specs.Ascii.{colon, greater_than_sign, left_bracket}
 use Rattle.markdown_scanners_tree.specs.Bytes.{is_digit}
 use Rattle.markdown_scanners_tree.specs.scanners.list_items.ListMarker.{is_bullet}
+use Rattle.markdown_blocks.specs.declared.containers.BlockExtensions.{BlockExtensions}
 
--- the first byte of the marker of a block quote, an item, a footnote definition or the definition of a term
-abbrev pub is_marker_byte : ℕ → Bool
-is_marker_byte b = b == greater_than_sign || (is_bullet b || (is_digit b || (b == left_bracket || b == colon)))
+-- the first byte of the marker of an item
+abbrev pub is_item_byte : ℕ → Bool
+is_item_byte b = is_bullet b || is_digit b
+
+-- that of a block quote, or with these extensions on of a footnote definition or the definition of a term
+abbrev pub is_other_byte : BlockExtensions → ℕ → Bool
+is_other_byte asked b =
+    b == greater_than_sign || ((asked.footnotes && b == left_bracket) || (asked.definition_lists && b == colon))
