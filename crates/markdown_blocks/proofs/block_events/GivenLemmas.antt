@@ -1,8 +1,8 @@
 -- Each event that is given of a block goes before those that the block gives from there.
-use Rattle.std.proofs.Common.{ℕ, zero, suc, List, [], ◌∷◌, ◌++◌, ◌+◌, ◌<◌, ◌≤◌, ◌≡◌, ◌≢◌, inl, inr, Option, Some, None, length, take, drop}
+use Rattle.std.proofs.Common.{ℕ, zero, suc, List, [], ◌∷◌, ◌++◌, ◌+◌, ◌<◌, ◌≤◌, ◌≡◌, ◌≢◌, inl, inr, Option, Some, None, length, drop}
 use Rattle.std.proofs.Common.{refl, sym, ap, ◌∙◌, subst, arith}
 use Rattle.std.specs.Prelude.{map, replicate, IfNone, slice_index_or}
-use Rattle.std.proofs.lemmas.List.{take_all, drop_all, drop-drop}
+use Rattle.std.proofs.lemmas.List.{drop_all, drop-drop}
 use Rattle.markdown_scanners_tree.specs.line.State.{LineState}
 use Rattle.markdown_scanners_tree.specs.declared.scanners.reference_definitions.ReferenceDefinition.{ReferenceDefinition}
 use Rattle.markdown_blocks.specs.containers.Containers.{marker_place, after_marker}

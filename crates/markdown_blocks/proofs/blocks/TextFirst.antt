@@ -1,6 +1,6 @@
 -- A line that begins with text ends a run of blank lines, whatever containers are open.
 use Rattle.std.proofs.Common.{ℕ, suc, Bool, true, false, ◌==◌, ◌&&◌, ◌<◌, ◌≡◌, ◌⊎◌, List, [], ◌∷◌, length, drop, Option, Some, None}
-use Rattle.std.proofs.Common.{refl, sym, ap, ◌∙◌, subst, inl, inr, arith, append-nil}
+use Rattle.std.proofs.Common.{refl, sym, ap, ◌∙◌, inl, inr, arith, append-nil}
 use Rattle.std.specs.List.{list_all}
 use Rattle.std.proofs.lemmas.Bool.{cases_Bool, eqb-true, eqb-false}
 use Rattle.std.proofs.lemmas.Bool.Decides.{nat_tests}

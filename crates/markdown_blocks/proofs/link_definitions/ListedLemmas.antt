@@ -1,6 +1,6 @@
 -- The definitions that are known, one after another.
 use Rattle.std.specs.List.{slice_get}
-use Rattle.std.proofs.Common.{ℕ, ◌<◌, List, [], ◌∷◌, ◌≡◌, Some, map, subst, sym}
+use Rattle.std.proofs.Common.{ℕ, ◌<◌, List, ◌≡◌, Some, map, subst, sym}
 use Rattle.std.proofs.lemmas.List.{get_or-map, length-map}
 use Rattle.std.proofs.lemmas.Map.Entries.{place_from_lookup}
 use Rattle.std.proofs.lemmas.Option.{get_or_from_slice_get, slice_get_within}

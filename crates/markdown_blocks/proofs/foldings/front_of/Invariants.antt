@@ -1,4 +1,4 @@
-use Rattle.std.proofs.Common.{ℕ, ◌-◌, ◌≡◌, ◌<◌, ◌*◌, ◌≤◌, drop, get_or}
+use Rattle.std.proofs.Common.{◌-◌, ◌≡◌, ◌<◌, ◌≤◌, drop}
 use Rattle.markdown_blocks.specs.foldings.Fronts.{front_of, number_after, HasDigits}
 use Rattle.markdown_blocks.proofs.foldings.FrontLemmas.{limit}
 use Rattle.markdown_blocks.proofs.foldings.front_of.Given as goal

@@ -1,4 +1,4 @@
-use Rattle.std.proofs.Common.{◌≡◌, ◌++◌, List, ℕ, length, map, take, sym, ap, ◌∙◌, subst, IsAscii}
+use Rattle.std.proofs.Common.{◌≡◌, ◌++◌, length, map, take, sym, ap, ◌∙◌, subst}
 use Rattle.std.proofs.Math.Seq.{take-append_seam}
 use Rattle.std.proofs.lemmas.List.{length-map}
 use Rattle.std.proofs.lemmas.Str.{IsUtf8-from_ascii}
