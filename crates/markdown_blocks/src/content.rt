@@ -115,6 +115,17 @@ impl<'a> Content<'a> {
         &self.built
     }
 
+    /// The same bytes, lent from the lines; and None where they aren't.
+    pub fn run(&self) -> Option<&'a [u8]>
+        ensures { IfSome result (λ run. run.now ≡ self.now.text) }
+    {
+        if self.built.is_empty() {
+            Some(self.lent)
+        } else {
+            None
+        }
+    }
+
     /// The place in the block's lines of the byte at the offset. A column of a tab that is cut stands
     /// where the tab does.
     pub fn place(&self, offset: usize) -> usize

@@ -3,12 +3,11 @@ ghost use Rattle.std.specs.Prelude.{◌≡◌, ◌≤◌, drop, length, slice_ra
 ghost use Rattle.std.specs.Str.{IsCharBoundary, IsUtf8};
 ghost use Rattle.markdown_values.specs.strings.Text.{cow_text};
 
-use crate::parts::part;
+use crate::parts::{part, text_of};
 use markdown_blocks::content::Content;
 use markdown_values::strings::CowStr;
 use std::alloc::{AllocError, Global};
 use std::marker::Model;
-use std::str::from_utf8;
 
 /// A text in which inlines are read. Its parts are lent for `'a` where they stand in the page as they
 /// are.
@@ -44,39 +43,48 @@ impl<'a, 'c> Model for Source<'a, 'c> {
 impl<'a: 'c, 'c> Source<'a, 'c> {
     /// What the content of a block of a page has after `front` bytes. Before the block stand so many bytes
     /// of the page.
-    ///
-    /// A run of the page is compared with it, and only what is no run is checked for UTF-8.
+    #[inline(always)]
     pub(crate) fn of_content(
         page: &'a str,
         before: usize,
-        content: &'c Content<'_>,
+        content: &'c Content<'a>,
         front: usize,
     ) -> Source<'a, 'c>
         requires front { front ≤ length content.now.text }
         requires utf8 { IsUtf8 (drop front content.now.text) }
         ensures { result ≡ drop front content.now.text }
     {
-        let rest = &content.text()[front..];
+        if let Some(run) = content.run() {
+            return Source::of_text(text_of(&run[front..]));
+        }
+        Source {
+            text: text_of(&content.text()[front..]),
+            run: None,
+            placed: Some(Placed {
+                page,
+                before,
+                content,
+                front,
+            }),
+        }
+    }
+
+    /// The content of a cell of a row of a page, before which stand so many bytes of the page. It is
+    /// compared with the page: a row is lent for less than that.
+    pub(crate) fn of_cell(page: &'a str, before: usize, content: &'c Content<'_>) -> Source<'a, 'c>
+        requires { IsUtf8 content.now.text }
+        ensures { result ≡ content.now.text }
+    {
         let placed = Placed {
             page,
             before,
             content,
-            front,
+            front: 0,
         };
-        if let Some(run) = placed.find(rest, 0) {
-            return Source {
-                text: run,
-                run: Some(run),
-                placed: Some(placed),
-            };
-        }
-        match from_utf8(rest) {
-            Ok(text) => Source {
-                text,
-                run: None,
-                placed: Some(placed),
-            },
-            Err(_) => unreachable!(),
+        Source {
+            text: text_of(content.text()),
+            run: placed.find(content.text(), 0),
+            placed: Some(placed),
         }
     }
 }

@@ -260,7 +260,7 @@ fn cell_events<'a, D: Definitions<'a>>(
         LieIn before (before + length text.now) (map seen_event events.items)) }
 {
     let content = cell_content(alloc, text, cell)?;
-    let source = Source::of_content(page, before, &content, 0);
+    let source = Source::of_cell(page, before, &content);
     let inlines = source_events(alloc, memory, &source, definitions, extensions)?;
     let inner = in_page(inlines, before, &content);
     element(

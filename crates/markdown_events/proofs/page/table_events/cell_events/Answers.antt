@@ -13,8 +13,8 @@ use Rattle.markdown_events.proofs.page.leaf_events.RangeLaws.{element_lies}
 use Rattle.markdown_events.proofs.page.table_events.CellLemmas.{cell_can_place, cell_rises, cell_sizes}
 use Rattle.markdown_events.proofs.page.table_events.cell_events.Goals as goal
 
-pub of_content-source-requires-clause-utf8 : goal.of_content-source-requires-clause-utf8
-of_content-source-requires-clause-utf8 g c =
+pub of_cell-source-requires : goal.of_cell-source-requires
+of_cell-source-requires g c =
     subst (λ (p : Placed). IsUtf8 p.text) (sym c.in_ok-content.ensures.content)
     (cell_utf8 c.args.text.now c.args.cell c.requires.utf8 c.requires.in_order (c.requires.begins, c.requires.ends))
 
@@ -26,8 +26,8 @@ in_page-inner-requires-clause-places g c =
 
 pub in_page-inner-requires-clause-within : goal.in_page-inner-requires-clause-within
 in_page-inner-requires-clause-within g c =
-    subst (λ (t : List ℕ). EndWithin (length t) (map seen_event c.in_ok-inlines.inlines.items)) c.of_content-source.ensures
-    (events_within c.of_content-source.result (map seen_event c.in_ok-inlines.inlines.items) c.in_ok-inlines.ensures.within)
+    subst (λ (t : List ℕ). EndWithin (length t) (map seen_event c.in_ok-inlines.inlines.items)) c.of_cell-source.ensures
+    (events_within c.of_cell-source.result (map seen_event c.in_ok-inlines.inlines.items) c.in_ok-inlines.ensures.within)
 
 pub returns-clause-within : goal.returns-clause-within
 returns-clause-within g c =
@@ -36,8 +36,8 @@ returns-clause-within g c =
     let cell = c.args.cell in
     let content = c.in_ok-content.content in
     let inlines = map seen_event c.in_ok-inlines.inlines.items in
-    let within = subst (λ (t : List ℕ). EndWithin (length t) inlines) c.of_content-source.ensures
-    (events_within c.of_content-source.result inlines c.in_ok-inlines.ensures.within) in
+    let within = subst (λ (t : List ℕ). EndWithin (length t) inlines) c.of_cell-source.ensures
+    (events_within c.of_cell-source.result inlines c.in_ok-inlines.ensures.within) in
     let sizes = subst (λ (p : Placed). length p.places ≡ length p.text) (sym c.in_ok-content.ensures.content) (cell_sizes row cell) in
     let rises = subst (λ (p : Placed). DoNotFall 0 p.places) (sym c.in_ok-content.ensures.content) (cell_rises row cell) in
     let lie = placed_lie before (length row) row content (omega arith) sizes c.in_ok-content.ensures.bytes rises inlines within in
