@@ -1,6 +1,7 @@
 pub mod FrontLists
 pub mod InPageLemmas
 pub mod IteratedLemmas
+pub mod LeftLemmas
 pub mod LevelLemmas
 pub mod NestLemmas
 pub mod NodeCuts

@@ -13,7 +13,8 @@ ghost use Rattle.markdown_events.specs.page.TaskEvents.{AreBlockEvents, task_her
 
 use crate::definitions::{Definitions, NoBrokenLinks, PageDefinitions};
 use crate::elements::InlineMemory;
-use crate::page::blocks_of::{drop_next, read_page};
+use crate::page::blocks_left::BlocksLeft;
+use crate::page::blocks_of::read_page;
 use crate::page::definitions::WithBrokenLinks;
 use crate::page::leaf_events::{has_no_events, leaf_events};
 use crate::page::open_elements::OpenElements;
@@ -77,8 +78,7 @@ pub struct EventReader<'a> {
     tasks: bool,
     extensions: InlineExtensions,
     definitions: PageDefinitions<'a>,
-    // The block events of the page that are not read, the next at the end.
-    blocks: Vec<BlockEvent<'a>>,
+    blocks: BlocksLeft<'a>,
     elements: OpenElements,
     ready: ReadyEvents<'a>,
     // The memory in which one leaf block after another is read.
@@ -86,8 +86,6 @@ pub struct EventReader<'a> {
 }
 
 impl<'a> Model for EventReader<'a> {
-    ghost use Rattle.std.specs.Prelude.{map, reverse};
-    ghost use Rattle.markdown_blocks.specs.events.Events.{seen_event as seen_block};
     ghost use Rattle.markdown_events.specs.page.Given.{PageLeft};
     ghost use Rattle.markdown_events.specs.page.InPage.{AreInPage};
 
@@ -100,11 +98,11 @@ impl<'a> Model for EventReader<'a> {
       known = p.definitions;
       ready = p.ready;
       elements = p.elements;
-      blocks = map seen_block (reverse p.blocks.items);
+      blocks = p.blocks;
     } };
 
     ghost invariant = { λ p. AreInPage p.page.now p.elements.containers p.elements.kept
-        p.elements.waiting (map seen_block (reverse p.blocks.items)) };
+        p.elements.waiting p.blocks };
 }
 
 impl<'a> EventReader<'a> {
@@ -195,16 +193,15 @@ impl<'a> EventReader<'a> {
         ensures broken_boundaries { IfOk result (AlwaysGivesOnly (AreAtBoundaries page.now)) }
     {
         let asked = setting.blocks();
-        let (mut blocks, definitions) = read_page(alloc, page, asked)?;
+        let (blocks, definitions) = read_page(alloc, page, asked)?;
         let spans = spans_of(alloc, &blocks)?;
-        blocks.reverse();
         Ok(EventReader {
             alloc,
             page,
             tasks: setting.tasks,
             extensions: setting.inlines,
             definitions,
-            blocks,
+            blocks: BlocksLeft::all(blocks),
             elements: OpenElements::new(alloc, spans),
             ready: ReadyEvents::new(alloc),
             memory: InlineMemory::new(alloc),
@@ -300,7 +297,7 @@ impl<'a> EventReader<'a> {
             → (self.now.ready ≡ []) × (0 < length self.now.blocks) }
         ensures done { result ≡ false → self.now.ready ≡ [] → self.now.blocks ≡ [] }
     {
-        self.ready.is_empty() && !self.blocks.is_empty()
+        self.ready.is_empty() && self.blocks.has_next()
     }
 
     // Reads the next block event, so that its events are ready.
@@ -334,10 +331,7 @@ impl<'a> EventReader<'a> {
             self.now.blocks ≡ seen_block block ∷ drop 1 self.now.blocks) }
         ensures none { IfNone result (self.now.blocks ≡ []) }
     {
-        match self.blocks.last() {
-            Some(block) => Some(*block),
-            None => None,
-        }
+        self.blocks.next()
     }
 
     // Reads the start of a container, which is the next block event.
@@ -352,7 +346,7 @@ impl<'a> EventReader<'a> {
     {
         let (list, start) = self.elements.begin(container, place)?;
         self.ready.put_edges(list, Some(start));
-        drop_next(&mut self.blocks);
+        self.blocks.pass();
         Ok(())
     }
 
@@ -446,7 +440,7 @@ impl<'a> EventReader<'a> {
             (passed (seen_leaf block.entry) self.old.elements) (drop 1 self.old.blocks) }
     {
         self.elements.pass(block);
-        drop_next(&mut self.blocks);
+        self.blocks.pass();
     }
 
     // Makes the events of the leaf block that comes next ready, and passes it.
@@ -470,7 +464,7 @@ impl<'a> EventReader<'a> {
     {
         let (end, list) = self.elements.end();
         self.ready.put_edges(end, list);
-        drop_next(&mut self.blocks);
+        self.blocks.pass();
     }
 
     /// The first of the events that are ready, if it is one of a leaf block.

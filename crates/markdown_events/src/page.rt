@@ -1,4 +1,5 @@
 //! The events of a page.
+pub(crate) mod blocks_left;
 pub(crate) mod blocks_of;
 pub(crate) mod definitions;
 pub(crate) mod element;

@@ -1,7 +1,6 @@
 -- The events that a parser gives are those of its page.
 use mathlib.Core.Path.{fun_ext}
-use Rattle.std.proofs.lemmas.List.{reverse-append}
-use Rattle.std.proofs.Common.{ℕ, List, [], ◌∷◌, ◌++◌, reverse, Option, Some, None, Result, Ok, Err, IfOk, IfErr, IfSome, IfNone, ◌≡◌, refl, sym, ap, subst, ◌∙◌}
+use Rattle.std.proofs.Common.{ℕ, List, [], ◌∷◌, ◌++◌, Option, Some, None, Result, Ok, Err, IfOk, IfErr, IfSome, IfNone, ◌≡◌, refl, sym, ap, subst, ◌∙◌}
 use Rattle.markdown_blocks.proofs.ForCallers.{events_of_nodes}
 use Rattle.markdown_blocks.specs.declared.containers.Container.{Container}
 use Rattle.markdown_blocks.specs.events.Events.{Event, IsEventsOf, LeafBlock, starts, leaf, ends}
@@ -104,11 +103,6 @@ given_end more old blocks events none next g = record {
   are_later = subst (λ all. AreEventsFrom old.page (setting_with more old) old.elements all events) (sym next) (g.rest, g.are_later, g.given);
   given = ap (λ ready. ready ++ events) (sym none);
 }
-
-pub reverse_twice : {A : Type 0} (xs : List A) → reverse (reverse xs) ≡ xs
-reverse_twice [] = refl
-reverse_twice (x ∷ xs) =
-    ap reverse (reverse-append (x ∷ []) xs) ∙ (reverse-append (reverse xs) (x ∷ []) ∙ ap (λ ys. x ∷ ys) (reverse_twice xs))
 
 -- ---- what is known of an answer in each of its cases
 

@@ -1,5 +1,5 @@
 //! The blocks of a page and its link reference definitions, read in one pass.
-ghost use Rattle.std.specs.Prelude.{◌≡◌, ◌++◌, List, ℕ, drop, map, replicate, reverse, IfOk, OnOk};
+ghost use Rattle.std.specs.Prelude.{◌≡◌, ◌++◌, List, ℕ, map, replicate, IfOk, OnOk};
 ghost use Rattle.markdown_blocks.specs.events.Events.{Event, IsEventsOf, ends, seen_event};
 ghost use Rattle.markdown_blocks.specs.events.Given.{GivesBlock};
 ghost use Rattle.markdown_blocks.specs.link_definitions.LinkDefinitions.{Named, Names, HasDefinitions, first_of, known_as, known_before};
@@ -95,12 +95,4 @@ fn push_ends(blocks: &mut Vec<BlockEvent>, count: usize) -> Result<(), AllocErro
         left -= 1;
     }
     Ok(())
-}
-
-/// Takes the next of block events off, of which the first stands at the end.
-pub(crate) fn drop_next(blocks: &mut Vec<BlockEvent>)
-    ensures { map seen_event (reverse blocks.new.items)
-        ≡ drop 1 (map seen_event (reverse blocks.old.items)) }
-{
-    blocks.pop();
 }

@@ -7,14 +7,14 @@ use Rattle.markdown_events.proofs.page.InPageLemmas.{page_leaves_in}
 use Rattle.markdown_events.proofs.page.PageBalance.{page_events_balance, page_events_nest, page_events_with_balance, page_events_with_nest}
 use Rattle.markdown_events.proofs.page.PageCuts.{page_events_at_boundaries, page_events_with_at_boundaries}
 use Rattle.markdown_events.proofs.page.PageRanges.{page_events_with_within, page_events_within}
-use Rattle.markdown_events.proofs.page.ParserLemmas.{given_with, page_events, page_events_with, reverse_twice}
+use Rattle.markdown_events.proofs.page.ParserLemmas.{given_with, page_events, page_events_with}
 use Rattle.markdown_events.proofs.event_reader.EventReader.with_setting.Goals as goal
 
 pub invariant_of-result : goal.invariant_of-result
 invariant_of-result c =
     let all = c.in_ok-blocks.blocks.items in
     let of_page = rw c.blocks-asked.ensures at c.in_ok-blocks.ensures.blocks in
-    rw (c.new.ensures, c.reverse.ensures.items, reverse_twice all)
+    rw (c.new.ensures, c.all.ensures)
     (page_leaves_in (blocks_of c.args.setting) c.args.page.now (map seen_block all) of_page c.utf8.page)
 
 pub returns-clause-page : goal.returns-clause-page
@@ -28,7 +28,7 @@ returns-clause-page c = λ events g.
     let first = rw c.blocks-asked.ensures at c.in_ok-blocks.ensures.first in
     let are_spans = rw c.deref.ensures.value at c.in_ok-spans.ensures in
     let none = c.new-2.ensures in
-    let later = rw (c.new.ensures, c.reverse.ensures.items, reverse_twice all) at g.are_later in
+    let later = rw (c.new.ensures, c.all.ensures) at g.are_later in
     let without = given_with (record {
       page = page;
       tasks = setting.tasks;
@@ -71,7 +71,7 @@ returns-clause-broken c = λ more events g.
     let of_page = rw c.blocks-asked.ensures at c.in_ok-blocks.ensures.blocks in
     let first = rw c.blocks-asked.ensures at c.in_ok-blocks.ensures.first in
     let none = c.new-2.ensures in
-    let later = rw (c.new.ensures, c.reverse.ensures.items, reverse_twice all) at g.are_later in
+    let later = rw (c.new.ensures, c.all.ensures) at g.are_later in
     subst (λ es. ArePageEventsWith page setting more es) (sym (g.given ∙ ap (λ es. es ++ g.rest) none))
     (page_events_with page setting more (map seen_block all) c.in_ok-blocks.definitions (reverse c.in_ok-spans.spans.items) g.rest of_page
     first.0 first.1 first.2 (rw c.deref.ensures.value at c.in_ok-spans.ensures) later)
