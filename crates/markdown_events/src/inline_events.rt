@@ -1,5 +1,5 @@
 //! The events of a text's inlines. (CommonMark 0.31.2, chapter 6)
-ghost use Rattle.std.specs.Prelude.{◌≡◌, ◌<◌, ◌≤◌, ◌+◌, ◌-◌, ◌==◌, ℕ, List, [], length, drop, map, IfOk, OnOk, slice_range, if◌then◌else◌};
+ghost use Rattle.std.specs.Prelude.{◌≡◌, ◌<◌, ◌≤◌, ◌+◌, ◌-◌, ◌==◌, ◌^◌, ℕ, List, [], length, drop, map, IfOk, OnOk, slice_range, if◌then◌else◌};
 ghost use Rattle.std.specs.List.{All};
 ghost use Rattle.std.specs.Str.{IsCharBoundary};
 ghost use Rattle.html_entities.specs.Entities.{html_entity};
@@ -14,10 +14,10 @@ ghost use Rattle.markdown_inlines.specs.Sources.{IsLinkSource, IsSource};
 ghost use Rattle.markdown_events.specs.EventLaws.{AreAtBoundaries, AreBalanced, AreWithin};
 ghost use Rattle.markdown_events.specs.InlineEvents.{AreEvents, AreInlineEvents, ArePieceEvents, RangedEvent, seen_event, autolink, shown_target};
 ghost use Rattle.markdown_events.specs.Meanings.{IsLinkTag};
-ghost use Rattle.markdown_events.specs.Passes.{IsFound, IsWritten, Leads, begun, element_ends, with_events};
+ghost use Rattle.markdown_events.specs.Passes.{EndsBelow, IsFound, IsWritten, Leads, begun, with_events};
 
 use crate::definitions::{Defined, Definitions};
-use crate::elements::{InlineMemory, element_ends, take_room};
+use crate::elements::{InlineMemory, take_room};
 use crate::link_tags::{has_pipe, tag_of};
 use crate::page::source::Source;
 use crate::parts::part;
@@ -97,13 +97,11 @@ pub(crate) fn source_events<'a, D: Definitions<'a>>(
     memory
         .finder
         .find(alloc, source.text(), &defined, extensions)?;
-    element_ends(&mut memory.inner, &mut memory.ends, memory.finder.inlines())?;
     // Most inlines have one event, and a block has two more.
     let room = memory.finder.inlines().len().saturating_add(2);
     let events = take_room(alloc, &mut memory.events, room)?;
-    let ends = mem::replace(&mut memory.ends, Vec::new(alloc));
-    let elements = mem::replace(&mut memory.elements, Vec::new(alloc));
-    let mut writer = Writer::within(events, elements, ends);
+    let opened = mem::replace(&mut memory.opened, Vec::new(alloc));
+    let mut writer = Writer::within(events, opened);
     push_inlines(
         alloc,
         source,
@@ -112,9 +110,8 @@ pub(crate) fn source_events<'a, D: Definitions<'a>>(
         &mut writer,
         memory.finder.inlines(),
     )?;
-    let (events, elements, ends) = writer.into_parts();
-    memory.elements = elements;
-    memory.ends = ends;
+    let (events, opened) = writer.into_parts();
+    memory.opened = opened;
     Ok(events)
 }
 
@@ -128,8 +125,8 @@ fn push_inlines<'a, D: Definitions<'a>>(
     inlines: &[Inline],
 ) -> Result<(), AllocError>
     requires found { All (IsFound source.now (D.targets definitions.now) links.now) inlines.now }
-    requires at_start { writer.old ≡
-        record { events = []; elements = []; ends = element_ends inlines.now } }
+    requires ends { All (EndsBelow (2 ^ 64)) inlines.now }
+    requires at_start { writer.old ≡ record { events = []; opened = [] } }
     ensures { OnOk result (AreEvents source.now (D.targets definitions.now) links.now []
         inlines.now writer.new.events) }
 {
@@ -148,7 +145,8 @@ fn push_inline<'a, D: Definitions<'a>>(
     writer: &mut Writer<'a>,
     inline: Inline,
 ) -> Result<(), AllocError>
-    requires { IsFound source.now (D.targets definitions.now) links.now inline }
+    requires found { IsFound source.now (D.targets definitions.now) links.now inline }
+    requires ends { EndsBelow (2 ^ 64) inline }
     ensures { OnOk result (IsWritten source.now (D.targets definitions.now) links.now inline
         writer.old writer.new) }
 {
@@ -160,7 +158,10 @@ fn push_inline<'a, D: Definitions<'a>>(
             Some(Some(link)) => begin_link(alloc, source, definitions, writer, link),
             _ => Ok(()),
         },
-        Inline::EndEmphasis(..) | Inline::EndStrikethrough(..) | Inline::EndLink(_) => writer.end(),
+        Inline::EndEmphasis(place, count) | Inline::EndStrikethrough(place, count) => {
+            writer.end(place + count)
+        }
+        Inline::EndLink(piece) => writer.end(piece.end),
     }
 }
 

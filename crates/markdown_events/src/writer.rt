@@ -4,9 +4,9 @@ ghost use Rattle.markdown_values.specs.strings.Text.{cow_text};
 ghost use Rattle.markdown_values.specs.values.Events.{event_view};
 ghost use Rattle.markdown_values.specs.values.Tags.{tag_view};
 ghost use Rattle.markdown_events.specs.InlineEvents.{seen_event, ranged};
-ghost use Rattle.markdown_events.specs.Passes.{with_event, begun, ended};
+ghost use Rattle.markdown_events.specs.Passes.{with_event, with_end, begun, ended};
 
-use crate::elements::Element;
+use crate::elements::Begun;
 use markdown_values::values::{Event, Tag};
 use std::alloc::AllocError;
 use std::marker::Model;
@@ -16,9 +16,8 @@ use std::ops::Range;
 #[derive(Drop)]
 pub(crate) struct Writer<'a> {
     events: Vec<(Event<'a>, Range<usize>)>,
-    elements: Vec<Element>,
-    // Where the elements end that are yet to begin, the first at the end.
-    ends: Vec<usize>,
+    // The innermost at the end.
+    opened: Vec<Begun>,
 }
 
 impl<'a> Model for Writer<'a> {
@@ -30,37 +29,27 @@ impl<'a> Model for Writer<'a> {
 
     ghost view = { λ w. record {
       events = map seen_event w.events.items;
-      elements = reverse w.elements.items;
-      ends = reverse w.ends.items;
+      opened = reverse w.opened.items;
     } };
 }
 
 impl<'a> Writer<'a> {
-    /// None is written. Events are put into this memory, and elements into that of others; they end at
-    /// these places, the first at the end.
+    /// None is written. Events are put into this memory, and elements into that of others.
     #[inline(always)]
-    pub(crate) fn within(
-        events: Vec<(Event<'a>, Range<usize>)>,
-        elements: Vec<Element>,
-        ends: Vec<usize>,
-    ) -> Writer<'a>
+    pub(crate) fn within(events: Vec<(Event<'a>, Range<usize>)>, elements: Vec<Begun>) -> Writer<'a>
         requires { events.items ≡ [] }
-        ensures { result ≡ record { events = []; elements = []; ends = reverse ends.items } }
+        ensures { result ≡ record { events = []; opened = [] } }
     {
-        let mut elements = elements;
-        elements.clear();
-        Writer {
-            events,
-            elements,
-            ends,
-        }
+        let mut opened = elements;
+        opened.clear();
+        Writer { events, opened }
     }
 
-    /// The events that are written, and the memory of the elements and of their ends.
-    pub(crate) fn into_parts(self) -> (Vec<(Event<'a>, Range<usize>)>, Vec<Element>, Vec<usize>)
+    /// The events that are written, and the memory of the elements.
+    pub(crate) fn into_parts(self) -> (Vec<(Event<'a>, Range<usize>)>, Vec<Begun>)
         ensures { map seen_event result.0.items ≡ self.entry.events }
     {
-        (self.events, self.elements, self.ends)
+        (self.events, self.opened)
     }
 
     /// Adds an event from one place of the text up to another.
@@ -77,23 +66,40 @@ impl<'a> Writer<'a> {
         Ok(())
     }
 
-    /// Begins an element with this tag at a place of the text.
+    /// Begins an element with this tag at a place of the text. Where it ends is written when it does.
     pub(crate) fn begin(&mut self, tag: Tag<'a>, from: usize) -> Result<(), AllocError>
         ensures { OnOk result (self.new ≡ begun (tag_view cow_text tag.entry) from self.old) }
     {
-        let to = self.ends.pop().unwrap_or(0);
         let end = tag.to_end();
-        self.elements.push(Element { tag: end, from, to })?;
-        self.push(Event::Start(tag), from, to)
+        let index = self.events.len();
+        self.opened.push(Begun {
+            tag: end,
+            from,
+            index,
+        })?;
+        self.push(Event::Start(tag), from, 0)
     }
 
-    /// Ends the innermost element.
-    pub(crate) fn end(&mut self) -> Result<(), AllocError>
-        ensures { OnOk result (self.new ≡ ended self.old) }
+    /// Ends the innermost element at this offset of the text.
+    pub(crate) fn end(&mut self, to: usize) -> Result<(), AllocError>
+        ensures { OnOk result (self.new ≡ ended to self.old) }
     {
-        match self.elements.pop() {
-            Some(element) => self.push(Event::End(element.tag), element.from, element.to),
+        match self.opened.pop() {
+            Some(begun) => {
+                set_end(&mut self.events, begun.index, to);
+                self.push(Event::End(begun.tag), begun.from, to)
+            }
             None => Ok(()),
         }
+    }
+}
+
+// Lets the event at the index end there in the text.
+#[tactic(auto, using(crate::proofs::inline_events::PassLemmas::end_set, crate::proofs::inline_events::PassLemmas::end_past))]
+fn set_end(events: &mut [(Event, Range<usize>)], index: usize, to: usize)
+    ensures { map seen_event events.new ≡ with_end index to (map seen_event events.old) }
+{
+    if index < events.len() {
+        events[index].1.end = to;
     }
 }

@@ -8,23 +8,19 @@ use Rattle.markdown_events.proofs.inline_events.Found.{text_found, text_ends, te
 use Rattle.markdown_events.proofs.inline_events.Laws.{events_balance}
 use Rattle.markdown_events.proofs.inline_events.source_events.Goals as goal
 
-pub element_ends-requires : goal.element_ends-requires
-element_ends-requires g c =
-    let found = c.in_ok-find.ensures in
-    let finder = c.find.new.self in
-    text_ends c.text.result.now c.args.extensions (g.D.Definitions.targets c.args.definitions.now) finder.inlines finder.links c.text.utf8
-    found.links found.inlines c.inlines.result.now 18446744073709551616 c.inlines.ensures found.sources (omega arith)
-
 -- for each of its lifetimes
 pub push_inlines-requires : goal.push_inlines-requires
 push_inlines-requires g c = λ lifetimes.
     let targets : Targets = g.D.Definitions.targets c.args.definitions.now in
     let found = c.in_ok-find.ensures in
     let finder = c.find.new.self in
+    let inlines = c.inlines-2.result.now in
     let known = text_found c.text.result.now c.args.extensions targets finder.inlines finder.links c.text.utf8
-    found.links found.inlines c.links.result.now c.inlines-3.result.now c.links.ensures c.inlines-3.ensures in (
+    found.links found.inlines c.links.result.now inlines c.links.ensures c.inlines-2.ensures in
+    let ends = text_ends c.text.result.now c.args.extensions targets finder.inlines finder.links c.text.utf8
+    found.links found.inlines inlines 18446744073709551616 c.inlines-2.ensures found.sources (omega arith) in (
       (refl, tt),
-      (subst (λ text. All (IsFound text targets c.links.result.now) c.inlines-3.result.now) c.text.ensures known, search rules),
+      (subst (λ text. All (IsFound text targets c.links.result.now) inlines) c.text.ensures known, (ends, search rules)),
     )
 
 pub returns-clause-balanced : goal.returns-clause-balanced
