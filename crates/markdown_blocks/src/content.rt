@@ -5,7 +5,7 @@ ghost use Rattle.std.specs.Str.{IsUtf8};
 ghost use Rattle.markdown_scanners_tree.specs.Ascii.{space};
 ghost use Rattle.markdown_scanners_tree.specs.scanners.TextLines.{lines_of};
 ghost use Rattle.markdown_blocks.specs.content.Bytes.{AreBytesOf};
-ghost use Rattle.markdown_blocks.specs.content.Content.{IsContent, StandsFrom, content_len, content_with, text_of, words_len};
+ghost use Rattle.markdown_blocks.specs.content.Content.{IsContent, IsRunOf, StandsFrom, content_len, content_with, text_of, words_len};
 ghost use Rattle.markdown_blocks.specs.content.Left.{IsRun, IsRunAt, parts_left};
 ghost use Rattle.markdown_blocks.specs.content.Parts.{AreOneRun, AreParts, Part, one_part};
 ghost use Rattle.markdown_blocks.specs.content.Seen.{seen_part};
@@ -132,12 +132,35 @@ impl<'a> Content<'a> {
         requires { offset < length self.now.text }
         ensures { result ≡ slice_index self.now.places offset }
     {
-        let segment = segment_at(self.first, &self.later, offset);
+        let (segment, _) = segment_at(self.first, &self.later, offset, self.text().len());
         let further = offset.saturating_sub(segment.offset);
         if further < segment.columns {
             return segment.place.saturating_sub(1);
         }
         segment.place + (further - segment.columns)
+    }
+
+    /// Bytes of it around the offset that stand in the block's lines one directly after another.
+    pub fn run_at(&self, offset: usize) -> Run
+        requires { offset < length self.now.text }
+        ensures run { IsRunOf self.now result }
+        ensures begins { result.start ≤ offset }
+        ensures ends { offset < result.end }
+    {
+        let (segment, end) = segment_at(self.first, &self.later, offset, self.text().len());
+        let further = offset - segment.offset;
+        if further < segment.columns {
+            return Run {
+                start: offset,
+                end: offset + 1,
+                place: segment.place.saturating_sub(1),
+            };
+        }
+        Run {
+            start: offset - (further - segment.columns),
+            end,
+            place: segment.place,
+        }
     }
 
     /// The place in the block's lines of its first byte, where each further byte stands there
@@ -153,6 +176,18 @@ impl<'a> Content<'a> {
     }
 }
 
+/// Bytes of a content, from one offset up to another, that stand in the block's lines one directly
+/// after another, the first of them at this place.
+#[derive(Clone, Copy)]
+pub struct Run {
+    /// The offset of the first of them.
+    pub start: usize,
+    /// The offset after the last.
+    pub end: usize,
+    /// Where the first stands in the lines.
+    pub place: usize,
+}
+
 // Whether the bytes stand one directly after another, as they do in one segment without columns.
 fn is_run(first: Segment, later: &[Segment]) -> bool
     ensures { IsTrue result
@@ -164,10 +199,17 @@ fn is_run(first: Segment, later: &[Segment]) -> bool
     later.is_empty()
 }
 
-// The last of the segments that begins at the offset or before it.
-fn segment_at(first: Segment, later: &[Segment], offset: usize) -> Segment
-    requires { Rising first.offset later.now }
-    ensures { place_in result offset ≡ place_at first later.now offset }
+// The last of the segments that begins at the offset or before it, and where the next begins, or the
+// text ends, which is so long.
+fn segment_at(first: Segment, later: &[Segment], offset: usize, len: usize) -> (Segment, usize)
+    requires within { offset < len }
+    requires begins { first.offset ≤ offset }
+    requires rising { Rising first.offset later.now }
+    ensures begins { result.0.offset ≤ offset }
+    ensures ends { offset < result.1 }
+    ensures within { result.1 ≤ len }
+    ensures places { (at : ℕ) → result.0.offset ≤ at → at < result.1
+        → place_in result.0 at ≡ place_at first later.now at }
 {
     let mut found = first;
     let mut low = 0;
@@ -182,7 +224,10 @@ fn segment_at(first: Segment, later: &[Segment], offset: usize) -> Segment
             high = middle;
         }
     }
-    found
+    if low < later.len() && later[low].offset < len {
+        return (found, later[low].offset);
+    }
+    (found, len)
 }
 
 // Where the parts begin and end in the lines, if they are one run of them.

@@ -8,7 +8,7 @@ use Rattle.std.specs.Prelude.{slice_index, ◌==◌, ◌⊎◌}
 use Rattle.std.proofs.lemmas.List.{drop-drop, drop_all, drop_more, get_or_default, length-replicate, length-take-le, map-append}
 use Rattle.std.proofs.lemmas.List.FromFn.{get_or-map-range_with_len, take-map-range_with_len}
 use Rattle.markdown_scanners_tree.specs.Ascii.{space}
-use Rattle.markdown_blocks.specs.content.Content.{Placed, front, joined, places_of, text_of}
+use Rattle.markdown_blocks.specs.content.Content.{IsRunOf, Placed, front, joined, places_of, text_of}
 use Rattle.markdown_blocks.specs.content.Parts.{Part}
 use Rattle.markdown_blocks.specs.content.Seen.{IsIn}
 use Rattle.markdown_blocks.specs.content.Left.{IsRunAt}
@@ -62,6 +62,9 @@ module _ (found : Segment) (later : List Segment) (offset low high m target : �
   pub upper_rising : Rising (get_or later m d).offset (drop (m + 1) later)
   upper_rising = rising_on found.offset (drop low later) (m - low) (get_or later m d) (drop (m + 1) later) rising middle
 
+  pub upper_low : found.offset ≤ (get_or later m d).offset
+  upper_low = rising_low found.offset (drop low later) (m - low) (get_or later m d) (drop (m + 1) later) rising middle
+
   pub upper_aim : (get_or later m d).offset ≤ offset → place_at (get_or later m d) (drop (m + 1) later) offset ≡ target
   upper_aim reaches =
       sym (reached found (drop low later) (m - low) (get_or later m d) (drop (m + 1) later) offset rising middle reaches) ∙ aim
@@ -77,20 +80,17 @@ module _ (found : Segment) (later : List Segment) (offset low high m target : �
         subst (λ (s : Segment). offset < s.offset) alike after)
   ]
 
--- the search has ended
-pub found_here : (found : Segment) (later : List Segment) (offset low high : ℕ) → high ≤ low
-    → ((k : ℕ) (d : Segment) → high ≤ k → k < length later → offset < (get_or later k d).offset)
-    → place_at found (drop low later) offset ≡ place_in found offset
-found_here found later offset low high ended after = stopped found (drop low later) offset (λ s post is. by s post is (leb_tells (length later) low))
-  where
-    by : (s : Segment) (post : List Segment) → drop low later ≡ s ∷ post
-        → ((nat_le (length later) low ≡ true) × (length later ≤ low)) ⊎ ((nat_le (length later) low ≡ false) × (low < length later))
-        → offset < s.offset
-    by s post is (inl past) = let none : [] ≡ s ∷ post = sym (drop_all low later past.1) ∙ is in cc
-    by s post is (inr inside) =
-        let split : get_or later low s ∷ drop (low + 1) later ≡ s ∷ post = sym (drop_more later low s inside.1) ∙ is in
-        let same : get_or later low s ≡ s = cc in
-        subst (λ (t : Segment). offset < t.offset) same (after low s ended inside.1)
+-- the search has ended before a segment
+pub until_next : (found : Segment) (later : List Segment) (low at : ℕ) (d : Segment) → low < length later → at < (get_or later low d).offset
+    → place_at found (drop low later) at ≡ place_in found at
+until_next found later low at d inside before = stopped found (drop low later) at (λ s post is.
+    let split : get_or later low d ∷ drop (low + 1) later ≡ s ∷ post = sym (drop_more later low d inside) ∙ is in
+    let same : get_or later low d ≡ s = cc in
+    subst (λ (t : Segment). at < t.offset) same before)
+
+-- and after the last
+pub to_end : (found : Segment) (later : List Segment) (low at : ℕ) → length later ≤ low → place_at found (drop low later) at ≡ place_in found at
+to_end found later low at past = ap (λ ss. place_at found ss at) (drop_all low later past)
 
 -- the place that is given
 pub at_offset : (first : Segment) (later : List Segment) (n offset r : ℕ) → offset < n → r ≡ place_at first later offset
@@ -211,6 +211,35 @@ places_all s k (p ∷ parts) =
 abbrev pub seen : List ℕ → Segment → List Segment → Placed
 seen text first later = record { text = text; places = map (place_at first later) (range_with_len 0 (length text)) }
 
+-- a run of it around an offset, in this segment, which goes on up to the end
+module _ (text : List ℕ) (first : Segment) (later : List Segment) (offset : ℕ) (s : Segment) (end : ℕ) (begins : s.offset ≤ offset)
+    (ends : offset < end) (within : end ≤ length text)
+    (is : (at : ℕ) → s.offset ≤ at → at < end → place_in s at ≡ place_at first later at) where
+  place_there : (at : ℕ) → s.offset ≤ at → at < end → slice_index (seen text first later).places at ≡ place_in s at
+  place_there at from to = sym (at_offset first later (length text) at (place_in s at) (omega (arith, to, within)) (is at from to))
+
+  pub column_run : offset - s.offset < s.columns
+      → IsRunOf (seen text first later) (record { start = offset; end = offset + 1; place = s.place - 1 })
+  column_run before = record {
+    within = omega (arith, ends, within);
+    places = λ at from to.
+        let same : offset ≡ at = omega (arith, from, to) in
+        let here = given_in_columns s offset (offset - s.offset) (s.place - 1) refl before refl in
+        subst (λ k. slice_index (seen text first later).places k ≡ s.place - 1 + (k - offset)) same
+        (place_there offset begins ends ∙ (sym here ∙ omega arith));
+  }
+
+  pub byte_run : (start : ℕ) → start ≡ offset - (offset - s.offset - s.columns) → s.columns ≤ offset - s.offset
+      → IsRunOf (seen text first later) (record { start = start; end = end; place = s.place })
+  byte_run start starts behind = record {
+    within = within;
+    places = λ at from to.
+        let low : s.offset + s.columns ≤ at = omega (arith, starts, from, behind, begins) in
+        let here = given_in_bytes s at (at - s.offset) (s.place + (at - s.offset - s.columns)) refl (omega (arith, low)) refl in
+        place_there at (omega (arith, low)) to
+        ∙ (sym here ∙ ap (λ k. s.place + k) (omega (arith, starts, behind, begins)));
+  }
+
 -- before all segments
 abbrev pub start : ℕ → Segment
 start place = record { offset = 0; columns = 0; place = place }
@@ -224,6 +253,7 @@ module _ (lines : List ℕ) (parts : List Part) (text kept : List ℕ) (segments
   pub built_held : AllByRecursion (IsIn lines) parts → length lines < 2 ^ 64 → Held [] kept (start 0) segments
   built_held all small = record {
     one = inl refl;
+    begins = refl;
     rising = subst (Rising 0) (sym segs) (rising_parts 0 parts 0 (omega arith));
     fits = λ offset low. subst (λ ss. place_at (start 0) ss offset < 2 ^ 64) (sym segs)
         (in_parts lines (start 0) 0 parts offset all (omega arith) (omega (arith, low, size, within, ap length is)) small);

@@ -1,5 +1,5 @@
 -- The content of leaf blocks, with the place of each byte. (CommonMark 0.31.2, sections 2.2, 4.2 to 4.6 and 4.8)
-use Rattle.std.specs.Prelude.{ℕ, ◌||◌, ◌+◌, ◌-◌, ◌<◌, List, ◌++◌, ◌≡◌, length, take, replicate, slice_index}
+use Rattle.std.specs.Prelude.{ℕ, ◌||◌, ◌+◌, ◌-◌, ◌<◌, ◌≤◌, List, ◌++◌, ◌≡◌, length, take, replicate, slice_index}
 use Rattle.std.specs.List.{flat_map, range_with_len, suffix_len}
 use Rattle.markdown_scanners_tree.specs.Ascii.{space}
 use Rattle.markdown_scanners_tree.specs.Bytes.{is_line_ending, is_space_or_tab}
@@ -7,6 +7,7 @@ use Rattle.markdown_blocks.specs.content.Parts.{Part, AreParts}
 use Rattle.markdown_blocks.specs.declared.blocks.BlockKind.{BlockKind}
 use Rattle.markdown_blocks.specs.declared.blocks.BlockKind.TheVariants.{Indented, Fenced, Html}
 use Rattle.markdown_blocks.specs.declared.containers.Container.{Container}
+use Rattle.markdown_blocks.specs.declared.content.Run.{Run}
 
 -- bytes, and of each its place in the block's lines
 pub record Placed : Type 0 where
@@ -16,6 +17,11 @@ pub record Placed : Type 0 where
 -- the bytes stand in the block's lines one directly after another, from this place on
 abbrev pub StandsFrom : ℕ → Placed → Type 0
 StandsFrom place content = (offset : ℕ) → offset < length content.text → slice_index content.places offset ≡ place + offset
+
+-- the bytes of the run stand in the block's lines one directly after another, the first of them at its place
+pub record IsRunOf (content : Placed) (run : Run) : Type 0 where
+  pub within : run.end ≤ length content.text
+  pub places : (offset : ℕ) → run.start ≤ offset → offset < run.end → slice_index content.places offset ≡ run.place + (offset - run.start)
 
 -- the columns of a cut tab are spaces, and stand where the tab does, directly before the bytes (2.2)
 abbrev pub text_of : Part → List ℕ

@@ -29,5 +29,6 @@ segments_from offset (p ∷ parts) =
 -- what a content holds: bytes that are lent, or built, and the segments that they stand in
 pub record Held (lent built : List ℕ) (first : Segment) (later : List Segment) : Type 0 where
   pub one : (lent ≡ []) ⊎ (built ≡ [])
+  pub begins : first.offset ≡ 0
   pub rising : Rising first.offset later
   pub fits : (offset : ℕ) → offset < length (lent ++ built) → place_at first later offset < 2 ^ 64

@@ -1,5 +1,5 @@
 //! The blocks of a page and its link reference definitions, read in one pass.
-ghost use Rattle.std.specs.Prelude.{◌≡◌, ◌++◌, List, ℕ, map, replicate, IfOk, OnOk};
+ghost use Rattle.std.specs.Prelude.{◌≡◌, ◌++◌, List, ℕ, drop, map, replicate, IfOk, OnOk};
 ghost use Rattle.markdown_blocks.specs.events.Events.{Event, IsEventsOf, ends, seen_event};
 ghost use Rattle.markdown_blocks.specs.events.Given.{GivesBlock};
 ghost use Rattle.markdown_blocks.specs.link_definitions.LinkDefinitions.{Named, Names, HasDefinitions, first_of, known_as, known_before};

@@ -1,11 +1,11 @@
 //! The content of a leaf block of a page, and what it holds: lines, or inlines.
-ghost use Rattle.std.specs.Prelude.{◌≡◌, ◌≤◌, [], Bool, List, ℕ, length, take, drop, map, slice_index, IfOk, IfSome, IsTrue};
+ghost use Rattle.std.specs.Prelude.{◌≡◌, ◌≤◌, ◌<◌, [], Bool, List, ℕ, length, take, drop, map, slice_index, IfOk, IfSome, IsTrue};
 ghost use Rattle.std.specs.List.{prefix_len};
 ghost use Rattle.markdown_values.specs.strings.Text.{cow_text};
 ghost use Rattle.markdown_values.specs.values.Events.{event_view};
 ghost use Rattle.markdown_scanners_tree.specs.Bytes.{is_space_or_tab};
 ghost use Rattle.markdown_scanners_tree.specs.scanners.TextLines.{lines_of};
-ghost use Rattle.markdown_blocks.specs.content.Content.{IsContent, StandsFrom};
+ghost use Rattle.markdown_blocks.specs.content.Content.{IsContent, IsRunOf, StandsFrom};
 ghost use Rattle.markdown_blocks.specs.events.Events.{seen_leaf};
 ghost use Rattle.markdown_blocks.specs.declared.blocks.BlockKind.TheVariants.{Paragraph};
 ghost use Rattle.markdown_blocks.specs.laws.Characters.{IsCutOut};
@@ -20,7 +20,7 @@ use crate::inline_events::source_events;
 use crate::page::source::Source;
 use markdown_blocks::blocks::BlockKind;
 use markdown_blocks::containers::Container;
-use markdown_blocks::content::{Content, content_of, line_content};
+use markdown_blocks::content::{Content, Run, content_of, line_content};
 use markdown_blocks::events::Leaf;
 use markdown_inlines::extensions::InlineExtensions;
 use markdown_scanners_tree::scanners::scan_line;
@@ -190,31 +190,95 @@ fn move_to_page(events: &mut [(Event, Range<usize>)], before: usize, content: &C
         ≡ map (placed before content.now.places) (map seen_event events.old) }
 {
     // Most contents are one run of the page.
-    let run = content.run_place();
-    for event in events.iter_mut() {
-        event.1 = page_range(before, run, content, event.1.start, event.1.end);
+    match content.run_place() {
+        Some(origin) => move_run(events, before, content, origin),
+        None => move_runs(events, before, content),
     }
 }
 
-// The range in the page of a range of the content, whose bytes stand in the lines of its block one
-// after another from the place of the run on, if that is known.
-fn page_range(
+// The same of a content whose bytes stand in the lines of its block one directly after another, from
+// this origin on.
+fn move_run(events: &mut [(Event, Range<usize>)], before: usize, content: &Content, origin: usize)
+    requires fit { CanPlace before content.now }
+    requires within { EndWithin (length content.now.text) (map seen_event events.old) }
+    requires run { StandsFrom origin content.now }
+    ensures { map seen_event events.new
+        ≡ map (placed before content.now.places) (map seen_event events.old) }
+{
+    for event in events.iter_mut() {
+        event.1 = run_range(before, content, origin, event.1.start, event.1.end);
+    }
+}
+
+// The range in the page of a range of such a content.
+fn run_range(
     before: usize,
-    run: Option<usize>,
     content: &Content,
+    origin: usize,
     start: usize,
     end: usize,
 ) -> Range<usize>
-    requires places { CanPlace before content.now }
+    requires fit { CanPlace before content.now }
     requires within { end ≤ length content.now.text }
-    requires run { IfSome run (λ place. StandsFrom place content.now) }
+    requires run { StandsFrom origin content.now }
     ensures { result ≡ page_range before content.now.places
         (record { start = start; end = end }) }
 {
-    match run {
-        Some(place) if start < end => before + place + start..before + place + end,
-        _ => placed_range(before, content, start, end),
+    if start < end {
+        return before + origin + start..before + origin + end;
     }
+    placed_range(before, content, start, end)
+}
+
+// The same of any content. Ranges rise, and most are within a line, as the ranges before them are.
+fn move_runs(events: &mut [(Event, Range<usize>)], before: usize, content: &Content)
+    requires fit { CanPlace before content.now }
+    requires within { EndWithin (length content.now.text) (map seen_event events.old) }
+    ensures { map seen_event events.new
+        ≡ map (placed before content.now.places) (map seen_event events.old) }
+{
+    let mut run = Run {
+        start: 0,
+        end: 0,
+        place: 0,
+    };
+    for event in events.iter_mut() {
+        event.1 = page_range(before, content, &mut run, event.1.start, event.1.end);
+    }
+}
+
+// The range in the page of a range of the content. If it isn't within the run, that becomes the one in
+// which it begins.
+#[tactic(auto, using(crate::proofs::page::leaf_content::RangeLemmas::in_run, crate::proofs::page::leaf_content::RangeLemmas::run_fits))]
+fn page_range(
+    before: usize,
+    content: &Content,
+    run: &mut Run,
+    start: usize,
+    end: usize,
+) -> Range<usize>
+    requires fit { CanPlace before content.now }
+    requires within { end ≤ length content.now.text }
+    requires run { IsRunOf content.now run.old }
+    ensures range { result ≡ page_range before content.now.places
+        (record { start = start; end = end }) }
+    ensures run { IsRunOf content.now run.new }
+{
+    if start < end && !is_within(*run, start, end) {
+        *run = content.run_at(start);
+    }
+    if is_within(*run, start, end) {
+        let from = before + run.place + (start - run.start);
+        return from..from + (end - start);
+    }
+    placed_range(before, content, start, end)
+}
+
+// Whether the range has bytes, all of them of the run.
+fn is_within(run: Run, start: usize, end: usize) -> bool
+    ensures { IsTrue result → (run.start ≤ start) × (start < end) × (end ≤ run.end) }
+{
+    run.start <= start && start < end && end <= run.end
 }
 
 // The range in the page of a range of the content, by the places of its first and its last byte.

@@ -27,41 +27,41 @@ abbrev pub runs : ℕ → List ℕ → List Part
 runs place bytes = run_part place bytes ∷ later_runs place bytes
 
 -- joined they are the content
-pub runs_text : (place : ℕ) (bytes : List ℕ) → flat_map text_of (runs place bytes) ≡ unescaped bytes
-runs_text place [] = refl
-runs_text place (b ∷ bs) = by (escapes_pipe (b ∷ bs)) refl (runs_text (place + 1) bs)
+pub runs_text : (from : ℕ) (bytes : List ℕ) → flat_map text_of (runs from bytes) ≡ unescaped bytes
+runs_text from [] = refl
+runs_text from (b ∷ bs) = by (escapes_pipe (b ∷ bs)) refl (runs_text (from + 1) bs)
   where
-    by : (s : Bool) → escapes_pipe (b ∷ bs) ≡ s → flat_map text_of (runs (place + 1) bs) ≡ unescaped bs
-        → flat_map text_of (runs place (b ∷ bs)) ≡ unescaped (b ∷ bs)
+    by : (s : Bool) → escapes_pipe (b ∷ bs) ≡ s → flat_map text_of (runs (from + 1) bs) ≡ unescaped bs
+        → flat_map text_of (runs from (b ∷ bs)) ≡ unescaped (b ∷ bs)
     by true is here = rw is here
     by false is here = rw is (ap (λ t. b ∷ t) here)
 
-pub runs_places : (place : ℕ) (bytes : List ℕ) → flat_map places_of (runs place bytes) ≡ unescaped_places place bytes
-runs_places place [] = refl
-runs_places place (b ∷ bs) = by (escapes_pipe (b ∷ bs)) refl (runs_places (place + 1) bs)
+pub runs_places : (from : ℕ) (bytes : List ℕ) → flat_map places_of (runs from bytes) ≡ unescaped_places from bytes
+runs_places from [] = refl
+runs_places from (b ∷ bs) = by (escapes_pipe (b ∷ bs)) refl (runs_places (from + 1) bs)
   where
-    by : (s : Bool) → escapes_pipe (b ∷ bs) ≡ s → flat_map places_of (runs (place + 1) bs) ≡ unescaped_places (place + 1) bs
-        → flat_map places_of (runs place (b ∷ bs)) ≡ unescaped_places place (b ∷ bs)
+    by : (s : Bool) → escapes_pipe (b ∷ bs) ≡ s → flat_map places_of (runs (from + 1) bs) ≡ unescaped_places (from + 1) bs
+        → flat_map places_of (runs from (b ∷ bs)) ≡ unescaped_places from (b ∷ bs)
     by true is here = rw is here
-    by false is here = rw is (ap (λ t. place ∷ t) here)
+    by false is here = rw is (ap (λ t. from ∷ t) here)
 
 -- the next of them
-pub runs_on : (place : ℕ) (bytes : List ℕ) → later_runs place bytes ≡ later_runs (place + escape_at bytes) (drop (escape_at bytes) bytes)
-runs_on place [] = refl
-runs_on place (b ∷ bs) = by (escapes_pipe (b ∷ bs)) refl (runs_on (place + 1) bs)
+pub runs_on : (from : ℕ) (bytes : List ℕ) → later_runs from bytes ≡ later_runs (from + escape_at bytes) (drop (escape_at bytes) bytes)
+runs_on from [] = refl
+runs_on from (b ∷ bs) = by (escapes_pipe (b ∷ bs)) refl (runs_on (from + 1) bs)
   where
-    by : (s : Bool) → escapes_pipe (b ∷ bs) ≡ s → later_runs (place + 1) bs ≡ later_runs (place + 1 + escape_at bs) (drop (escape_at bs) bs)
-        → later_runs place (b ∷ bs) ≡ later_runs (place + escape_at (b ∷ bs)) (drop (escape_at (b ∷ bs)) (b ∷ bs))
+    by : (s : Bool) → escapes_pipe (b ∷ bs) ≡ s → later_runs (from + 1) bs ≡ later_runs (from + 1 + escape_at bs) (drop (escape_at bs) bs)
+        → later_runs from (b ∷ bs) ≡ later_runs (from + escape_at (b ∷ bs)) (drop (escape_at (b ∷ bs)) (b ∷ bs))
     by true is here =
-        let at : place ≡ place + 0 = omega arith in
+        let at : from ≡ from + 0 = omega arith in
         let none : escape_at (b ∷ bs) ≡ 0 = rw is refl in
-        ap (λ p. later_runs p (b ∷ bs)) at ∙ ap (λ n. later_runs (place + n) (drop n (b ∷ bs))) (sym none)
+        ap (λ p. later_runs p (b ∷ bs)) at ∙ ap (λ n. later_runs (from + n) (drop n (b ∷ bs))) (sym none)
     by false is here =
-        let at : place + 1 + escape_at bs ≡ place + suc (escape_at bs) = omega arith in
+        let at : from + 1 + escape_at bs ≡ from + suc (escape_at bs) = omega arith in
         let more : escape_at (b ∷ bs) ≡ suc (escape_at bs) = rw is refl in
-        let skipped : later_runs place (b ∷ bs) ≡ later_runs (place + 1) bs = rw is refl in
+        let skipped : later_runs from (b ∷ bs) ≡ later_runs (from + 1) bs = rw is refl in
         skipped ∙ here ∙ ap (λ p. later_runs p (drop (escape_at bs) bs)) at
-        ∙ ap (λ n. later_runs (place + n) (drop n (b ∷ bs))) (sym more)
+        ∙ ap (λ n. later_runs (from + n) (drop n (b ∷ bs))) (sym more)
 
 pub at_escape : (bytes : List ℕ) → escape_at (drop (escape_at bytes) bytes) ≡ 0
 at_escape [] = refl
@@ -86,41 +86,41 @@ next_run end (b ∷ bs) here some = by (escapes_pipe (b ∷ bs)) refl
         absurd (omega (arith, more, here))
 
 -- a run more of what is built
-module _ (texts : List ℕ) (segments : List Segment) (text new_text : List ℕ) (old new : List Segment) (at end : ℕ) (behind run rest : List ℕ)
-    (parts : List Part) (is : parts ≡ runs at behind) (front_is : run ≡ take (escape_at behind) behind) (back : rest ≡ drop (escape_at behind) behind)
-    (low : escape_at behind ≤ length behind) (ends : end ≡ at + length run) (more : new_text ≡ text ++ run)
+module _ (texts : List ℕ) (segments : List Segment) (text new_text : List ℕ) (old new : List Segment) (at end : ℕ) (unread run rest : List ℕ)
+    (parts : List Part) (is : parts ≡ runs at unread) (front_is : run ≡ take (escape_at unread) unread) (back : rest ≡ drop (escape_at unread) unread)
+    (low : escape_at unread ≤ length unread) (ends : end ≡ at + length run) (more : new_text ≡ text ++ run)
     (with_segment : new ≡ old ++ record { offset = length text; columns = 0; place = at } ∷ []) where
-  run_size : length run ≡ escape_at behind
-  run_size = ap length front_is ∙ length-take-le (escape_at behind) behind low
+  run_size : length run ≡ escape_at unread
+  run_size = ap length front_is ∙ length-take-le (escape_at unread) unread low
 
-  left : later_runs at behind ≡ later_runs end rest
+  left : later_runs at unread ≡ later_runs end rest
   left =
-      let to : at + escape_at behind ≡ end = omega (arith, ends, run_size) in
-      runs_on at behind ∙ ap (λ r. later_runs (at + escape_at behind) r) (sym back) ∙ ap (λ p. later_runs p rest) to
+      let to : at + escape_at unread ≡ end = omega (arith, ends, run_size) in
+      runs_on at unread ∙ ap (λ r. later_runs (at + escape_at unread) r) (sym back) ∙ ap (λ p. later_runs p rest) to
 
   pub run_text : text ++ flat_map text_of parts ≡ texts → new_text ++ flat_map text_of (later_runs end rest) ≡ texts
   run_text so_far =
       ap (λ t. t ++ flat_map text_of (later_runs end rest)) (more ∙ ap (λ r. text ++ r) front_is)
-      ∙ append_assoc text (take (escape_at behind) behind) (flat_map text_of (later_runs end rest))
-      ∙ ap (λ ps. text ++ (take (escape_at behind) behind ++ flat_map text_of ps)) (sym left)
+      ∙ append_assoc text (take (escape_at unread) unread) (flat_map text_of (later_runs end rest))
+      ∙ ap (λ ps. text ++ (take (escape_at unread) unread ++ flat_map text_of ps)) (sym left)
       ∙ ap (λ ps. text ++ flat_map text_of ps) (sym is) ∙ so_far
 
   pub run_segments : old ++ segments_from (length text) parts ≡ segments → new ++ segments_from (length new_text) (later_runs end rest) ≡ segments
   run_segments so_far =
       let here : Segment = record { offset = length text; columns = 0; place = at } in
-      let size : length new_text ≡ length text + length (take (escape_at behind) behind) =
+      let size : length new_text ≡ length text + length (take (escape_at unread) unread) =
       ap length more ∙ length-append text run ∙ ap (λ r. length text + length r) front_is in
       ap (λ ss. ss ++ segments_from (length new_text) (later_runs end rest)) with_segment
       ∙ append_assoc old (here ∷ []) (segments_from (length new_text) (later_runs end rest))
       ∙ ap (λ n. old ++ here ∷ segments_from n (later_runs end rest)) size
-      ∙ ap (λ ps. old ++ here ∷ segments_from (length text + length (take (escape_at behind) behind)) ps) (sym left)
+      ∙ ap (λ ps. old ++ here ∷ segments_from (length text + length (take (escape_at unread) unread)) ps) (sym left)
       ∙ ap (λ ps. old ++ segments_from (length text) ps) (sym is) ∙ so_far
 
   pub run_stops : escape_at rest ≡ 0
-  run_stops = ap escape_at back ∙ at_escape behind
+  run_stops = ap escape_at back ∙ at_escape unread
 
-  pub run_ends : end + length rest ≡ at + length behind
-  run_ends = omega (arith, ends, run_size, low, ap length back, length-drop (escape_at behind) behind)
+  pub run_ends : end + length rest ≡ at + length unread
+  run_ends = omega (arith, ends, run_size, low, ap length back, length-drop (escape_at unread) unread)
 
 -- a byte more before the first such backslash
 pub escape_here : (bytes : List ℕ) (i : ℕ) → i < length bytes → escapes_pipe (drop i bytes) ≡ true → escape_at (drop i bytes) ≡ 0
@@ -173,6 +173,7 @@ module _ (place : ℕ) (bytes text : List ℕ) (segments : List Segment) (rest :
   pub all_held : place + length bytes < 2 ^ 64 → Held [] text (start 0) segments
   all_held fits = record {
     one = inl refl;
+    begins = refl;
     rising = subst (Rising 0) (sym segments_are) (rising_parts 0 (runs place bytes) 0 (omega arith));
     fits = λ offset low.
         let f = place_at (start 0) segments in
@@ -247,8 +248,8 @@ pub cell_bytes : (row : List ℕ) (cell : Cell) → AreBytesOf row (content_of_c
 cell_bytes row cell = bytes_at row cell.start (bytes_of_cell row cell) (λ k low.
     let n = cell.end - cell.start in
     let size = length-take n (drop cell.start row) in
-    let behind = length-drop cell.start row in (
-      omega (arith, low, size, behind),
+    let counted = length-drop cell.start row in (
+      omega (arith, low, size, counted),
       get_or-take n (drop cell.start row) k 0 (omega (arith, low, size)) ∙ get_or-drop cell.start row k 0,
     ))
 

@@ -6,8 +6,8 @@ use Rattle.markdown_blocks.proofs.content.segment_at.Given as goal
 
 abbrev pub invariant-loop-low : goal.invariant-loop-low
 invariant-loop-low l =
-    (l.low ≤ l.high) × (l.high ≤ length l.later) × Rising l.found.offset (drop l.low l.later)
-    × (place_at l.found (drop l.low l.later) l.offset ≡ place_at l.fn.first l.later l.offset)
+    (l.low ≤ l.high) × (l.high ≤ length l.later) × Rising l.found.offset (drop l.low l.later) × (l.found.offset ≤ l.offset)
+    × ((at : ℕ) → l.found.offset ≤ at → place_at l.found (drop l.low l.later) at ≡ place_at l.fn.first l.later at)
     × ((k : ℕ) (d : Segment) → l.high ≤ k → k < length l.later → l.offset < (get_or l.later k d).offset)
 
 abbrev pub decreases-loop-low : goal.decreases-loop-low

@@ -1,14 +1,17 @@
 -- Ranges of events that are moved to the page, one after the other.
-use Rattle.std.proofs.Common.{ℕ, zero, suc, ◌+◌, ◌-◌, ◌<◌, ◌≤◌, ◌≡◌, List, [], ◌∷◌, ◌++◌, length, take, drop, set, get_or}
-use Rattle.std.proofs.Common.{map, sym, ap, ◌∙◌, subst, arith, add-one, append-nil}
+use Rattle.std.proofs.Common.{ℕ, zero, suc, ◌+◌, ◌-◌, ◌^◌, ◌<◌, ◌≤◌, ◌≡◌, List, [], ◌∷◌, ◌++◌, length, take, drop, set, get_or}
+use Rattle.std.proofs.Common.{map, refl, sym, ap, ◌∙◌, subst, arith, add-one, append-nil}
+use Rattle.std.specs.Prelude.{slice_index}
 use Rattle.std.specs.declared.ops.Range.{Range}
+use Rattle.std.proofs.lemmas.Bool.{lt-ltb}
 use Rattle.std.proofs.lemmas.List.{drop_all, get_or-append_right, get_or-drop, get_or-map, get_or_default}
 use Rattle.std.proofs.lemmas.List.{length-append, length-drop, length-map, length-take, map-set, take_all}
 use Rattle.std.proofs.lemmas.List.Edits.{map_over_more}
 use Rattle.markdown_values.specs.declared.values.events.Event.{Event}
-use Rattle.markdown_blocks.specs.content.Content.{Placed}
+use Rattle.markdown_blocks.specs.content.Content.{IsRunOf, Placed}
+use Rattle.markdown_blocks.specs.declared.content.Run.{Run}
 use Rattle.markdown_events.specs.InlineEvents.{RangedEvent, seen_event}
-use Rattle.markdown_events.specs.page.LeafContent.{EndWithin}
+use Rattle.markdown_events.specs.page.LeafContent.{CanPlace, EndWithin}
 use Rattle.markdown_events.specs.page.LeafEvents.{page_range, placed}
 
 -- The events before the index are moved, and the others as they were; none of those ends after the content.
@@ -109,3 +112,31 @@ all_moved before content old now index past holds =
     let counted = length-map old seen_event in
     holds.moved ∙ (ap (λ rest. map change (take index seen) ++ rest) (drop_all index seen (omega (arith, past, counted)))
     ∙ (append-nil (map change (take index seen)) ∙ ap (map change) (take_all index seen (omega (arith, past, counted)))))
+
+-- a range of a run that stands in the lines as it does in the content
+abbrev range_of : ℕ → ℕ → Range ℕ
+range_of start end = record { start = start; end = end }
+
+pub in_run : (before : ℕ) (content : Placed) (run : Run) (start end : ℕ) → IsRunOf content run → run.start ≤ start → start < end
+    → end ≤ run.end
+    → range_of (before + run.place + (start - run.start)) (before + run.place + (start - run.start) + (end - start))
+    ≡ page_range before content.places (range_of start end)
+in_run before content run start end is low less high =
+    let first = is.places start low (omega (arith, less, high)) in
+    let last = is.places (end - 1) (omega (arith, low, less)) (omega (arith, less, high)) in
+    rw (lt-ltb start end less)
+    (ap (λ n. range_of n (before + run.place + (start - run.start) + (end - start))) (omega (arith, first))
+    ∙ ap (λ n. range_of (before + slice_index content.places start) n) (omega (arith, last, low, less)))
+
+-- the place of a byte of it is a number, also with the bytes before the block
+pub run_fits : (before : ℕ) (content : Placed) (run : Run) (at : ℕ) → IsRunOf content run → CanPlace before content → run.start ≤ at
+    → at < run.end → before + run.place + (at - run.start) + 1 < 2 ^ 64
+run_fits before content run at is can low high =
+    omega (arith, is.places at low high, can.fits at (omega (arith, high, is.within)))
+
+pub no_run : (content : Placed) → IsRunOf content (record { start = 0; end = 0; place = 0 })
+no_run content = record { within = omega arith; places = λ offset low high. absurd (omega (arith, high)) }
+
+pub none_moved : (before : ℕ) (content : Placed) (old : List (Event × Range ℕ)) → EndWithin (length content.text) (map seen_event old)
+    → AreMovedTo before content old old 0
+none_moved before content old within = record { moved = refl; within = within }
