@@ -30,7 +30,8 @@ use markdown_scanners_tree::scanners::{ReferenceDefinition, scan_line};
 use markdown_values::strings::CowStr;
 use std::alloc::{AllocError, Global};
 use std::borrow::CowSlice;
-use std::collections::{BTreeMap, btree_map};
+use std::collections::BTreeMap;
+use std::collections::btree_map::{self, Entry};
 use std::marker::Model;
 use std::ops::Range;
 
@@ -199,11 +200,13 @@ impl<'a> LinkDefinitions<'a> {
         ensures refused { IfErr result (λ _. self.new ≡ self.old) }
     {
         let key = key_of(self.alloc, label)?;
-        if self.by_key.contains_key(&key) {
-            return Ok(false);
-        }
-        self.by_key.insert(key, definition)?;
-        Ok(true)
+        let entry = self.by_key.entry(key)?;
+        let is_first = match entry {
+            Entry::Vacant(_) => true,
+            Entry::Occupied(_) => false,
+        };
+        entry.or_insert(definition);
+        Ok(is_first)
     }
 
     /// Adds the definitions that a block's content begins with, in order. The content is as

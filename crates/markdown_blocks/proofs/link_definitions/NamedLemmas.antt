@@ -1,7 +1,7 @@
 -- What the definitions of a page name, and which of them a label finds.
 use Rattle.std.proofs.Common.{ℕ, List, [], ◌∷◌, ◌++◌, ◌+◌, ◌≡◌, ◌⊎◌, inl, inr, Option, Some, None, drop, take, cond, false, Bool, true}
 use Rattle.std.proofs.Common.{arith, refl, sym, ap, ◌∙◌, subst, append_assoc}
-use Rattle.std.specs.Prelude.{◌==◌, length, is_some}
+use Rattle.std.specs.Prelude.{◌==◌, length, is_some, unwrap_or}
 use Rattle.std.specs.Map.{lookup}
 use Rattle.std.specs.Ordering.{is_eq, nat_cmp}
 use Rattle.std.specs.Str.{IsUtf8, bytes_eq}
@@ -127,9 +127,27 @@ newly_known old new label target none added asked = elim (cases_Bool (bytes_eq (
     not_same false apart = refl
     not_same true apart = absurd (apart refl)
 
-pub none_found : (found : Option Target) → is_some found ≡ false → found ≡ None
-none_found None none = refl
-none_found (Some target) none = cc
+-- a label leads where it did, or where it did not, to the target that is put in then
+pub known_once : (old new : Known) (label : List ℕ) (target : Target)
+    → ((key : List ℕ) → lookup (bytes_eq key) new
+    ≡ cond (bytes_eq (key_bytes label) key) (Some (unwrap_or (known_as old label) target)) (lookup (bytes_eq key) old))
+    → (asked : List ℕ) → known_as new asked ≡ known_before old (record { label = label; target = target } ∷ []) asked
+known_once old new label target put asked = by_found (known_as old label) refl
+  where
+    with : Option Target → List ℕ → Option Target
+    with found key = cond (bytes_eq (key_bytes label) key) (Some (unwrap_or found target)) (lookup (bytes_eq key) old)
+
+    same : (there : Target) → known_as old label ≡ Some there → (is : Bool) → bytes_eq (key_bytes label) (key_bytes asked) ≡ is
+        → cond is (Some there) (known_as old asked) ≡ known_as old asked
+    same there found true is = sym (ap (λ key. lookup (bytes_eq key) old) (sym (same_key (key_bytes label) (key_bytes asked) is)) ∙ found)
+    same there found false is = refl
+
+    by_found : (found : Option Target) → known_as old label ≡ found
+        → known_as new asked ≡ known_before old (record { label = label; target = target } ∷ []) asked
+    by_found None is = newly_known old new label target is (λ key. put key ∙ ap (λ found. with found key) is) asked
+    by_found (Some there) is = put (key_bytes asked) ∙ ap (λ found. with found (key_bytes asked)) is
+        ∙ same there is (bytes_eq (key_bytes label) (key_bytes asked)) refl
+        ∙ already_known old label target (ap is_some is) asked
 
 -- ---- the definitions of a text
 
