@@ -11,9 +11,6 @@ use std::cmp::Ordering;
 use std::marker::Model;
 use std::str::from_utf8;
 
-// How many bytes of a text the number has.
-const FRONT: usize = 8;
-
 /// How long a text may be that lies in the key itself.
 pub(crate) const SHORT: usize = 32;
 
@@ -76,7 +73,8 @@ impl Folding {
         lower.copy_from_slice(text.as_bytes());
         lower.make_ascii_lowercase();
         Folding {
-            front: front_of(lower),
+            // Zeros stand after the text, as the number has them.
+            front: front_of(&bytes),
             text: Text::Short(ShortText { bytes, len }),
         }
     }
@@ -109,13 +107,16 @@ fn front_of(bytes: &[u8]) -> u64
     ensures front { result ≡ front_of bytes.now }
     ensures digits { HasDigits 8 bytes.now }
 {
-    let mut front = 0;
-    let mut index = 0;
-    while index < FRONT {
-        front = front * 256 + byte_at(bytes, index) as u64;
-        index += 1;
-    }
-    front
+    u64::from_be_bytes([
+        byte_at(bytes, 0),
+        byte_at(bytes, 1),
+        byte_at(bytes, 2),
+        byte_at(bytes, 3),
+        byte_at(bytes, 4),
+        byte_at(bytes, 5),
+        byte_at(bytes, 6),
+        byte_at(bytes, 7),
+    ])
 }
 
 // The byte at the index, or zero.

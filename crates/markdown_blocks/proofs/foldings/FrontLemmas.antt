@@ -1,9 +1,10 @@
 -- Texts are ordered as the numbers that they begin with.
-use Rattle.std.proofs.Common.{ℕ, zero, suc, ◌+◌, ◌-◌, ◌*◌, ◌^◌, ◌<◌, ◌≤◌, List, [], ◌∷◌, ◌≡◌, inl, inr, get_or, drop, refl, sym, ap, subst, ◌∙◌, arith}
+use Rattle.std.proofs.Common.{ℕ, zero, suc, ◌+◌, ◌*◌, ◌<◌, ◌≤◌, List, [], ◌∷◌, ◌++◌, ◌≡◌, get_or, drop, refl, ap, subst, ◌∙◌, arith}
+use Rattle.std.specs.Prelude.{replicate}
+use Rattle.std.specs.Int.{w64, from_be_bytes}
 use Rattle.std.specs.Cmp.Lexicographic.{slice_cmp}
 use Rattle.std.specs.Ordering.{nat_cmp, ordering_then}
 use Rattle.std.specs.declared.cmp.Ordering.{Ordering}
-use Rattle.std.proofs.lemmas.Bool.{cases_eq}
 use Rattle.std.proofs.lemmas.Cmp.{ranked}
 use Rattle.std.specs.declared.cmp.Ordering.TheVariants.{Less, Equal, Greater}
 use Rattle.markdown_blocks.specs.foldings.Fronts.{number_after, front_of, HasDigits}
@@ -50,47 +51,60 @@ by_front (suc n) a (x ∷ xs) (y ∷ ys) dx dy below =
 
 -- ---- the number as it is made
 
--- so many numbers have n digits
-abbrev pub limit : ℕ → ℕ
-limit zero = 1
-limit (suc n) = 256 * limit n
-
 -- one more digit
-pub with_digit : (n number index : ℕ) (bytes : List ℕ)
+with_digit : (n number index : ℕ) (bytes : List ℕ)
     → number_after (suc n) number (drop index bytes) ≡ number_after n (number * 256 + get_or bytes index 0) (drop (suc index) bytes)
 with_digit n number zero [] = ap (λ m. number_after n m []) (omega arith)
 with_digit n number zero (byte ∷ bytes) = refl
 with_digit n number (suc index) [] = ap (λ m. number_after n m []) (omega arith)
 with_digit n number (suc index) (byte ∷ bytes) = with_digit n number index bytes
 
-limit_rises : (n m : ℕ) → n ≤ m → limit n ≤ limit m
-limit_rises zero zero least = omega arith
-limit_rises zero (suc m) least = omega (arith, limit_rises zero m (omega arith))
-limit_rises (suc n) zero least = absurd (omega (arith, least))
-limit_rises (suc n) (suc m) least = omega (arith, limit_rises n m (omega (arith, least)))
+-- the number of eight bytes, the first the highest
+pub eight_digits : (bytes : List ℕ) (a b c d e f g h : ℕ) → a ≡ get_or bytes 0 0 → b ≡ get_or bytes 1 0 → c ≡ get_or bytes 2 0
+    → d ≡ get_or bytes 3 0 → e ≡ get_or bytes 4 0 → f ≡ get_or bytes 5 0 → g ≡ get_or bytes 6 0 → h ≡ get_or bytes 7 0
+    → from_be_bytes w64 (a ∷ b ∷ c ∷ d ∷ e ∷ f ∷ g ∷ h ∷ []) ≡ front_of bytes
+eight_digits bytes a b c d e f g h a' b' c' d' e' f' g' h' =
+    let two = (0 * 256 + get_or bytes 0 0) * 256 + get_or bytes 1 0 in
+    let four = (two * 256 + get_or bytes 2 0) * 256 + get_or bytes 3 0 in
+    let six = (four * 256 + get_or bytes 4 0) * 256 + get_or bytes 5 0 in
+    let whole : front_of bytes ≡ (six * 256 + get_or bytes 6 0) * 256 + get_or bytes 7 0 =
+    with_digit 7 0 0 bytes ∙ with_digit 6 (0 * 256 + get_or bytes 0 0) 1 bytes
+    ∙ with_digit 5 two 2 bytes ∙ with_digit 4 (two * 256 + get_or bytes 2 0) 3 bytes
+    ∙ with_digit 3 four 4 bytes ∙ with_digit 2 (four * 256 + get_or bytes 4 0) 5 bytes
+    ∙ with_digit 1 six 6 bytes ∙ with_digit 0 (six * 256 + get_or bytes 6 0) 7 bytes in
+    omega (arith, whole)
 
-pub one_more_digit : (n : ℕ) → limit (n + 1) ≡ 256 * limit n
-one_more_digit n = ap limit (let after : n + 1 ≡ suc n = omega arith in after)
+-- eight bytes are digits
+pub are_digits : (bytes : List ℕ) (a b c d e f g h : ℕ) → a ≡ get_or bytes 0 0 → b ≡ get_or bytes 1 0 → c ≡ get_or bytes 2 0
+    → d ≡ get_or bytes 3 0 → e ≡ get_or bytes 4 0 → f ≡ get_or bytes 5 0 → g ≡ get_or bytes 6 0 → h ≡ get_or bytes 7 0
+    → a < 256 → b < 256 → c < 256 → d < 256 → e < 256 → f < 256 → g < 256 → h < 256 → HasDigits 8 bytes
+are_digits bytes a b c d e f g h a' b' c' d' e' f' g' h' a'' b'' c'' d'' e'' f'' g'' h'' = at
+  where
+    at : HasDigits 8 bytes
+    at zero less = omega arith
+    at (suc zero) less = omega arith
+    at (suc (suc zero)) less = omega arith
+    at (suc (suc (suc zero))) less = omega arith
+    at (suc (suc (suc (suc zero)))) less = omega arith
+    at (suc (suc (suc (suc (suc zero))))) less = omega arith
+    at (suc (suc (suc (suc (suc (suc zero)))))) less = omega arith
+    at (suc (suc (suc (suc (suc (suc (suc zero))))))) less = omega arith
+    at (suc (suc (suc (suc (suc (suc (suc (suc k)))))))) less = absurd (omega arith)
 
--- fewer than eight digits and one more make a word
-pub below_word : (index : ℕ) → index < 8 → limit index ≤ 2 ^ 56
-below_word index less = limit_rises index 7 (omega (arith, less))
+-- zeros after a text are not seen
+pub zeros_after : (n number count : ℕ) (bytes : List ℕ) → number_after n number (bytes ++ replicate count 0) ≡ number_after n number bytes
+zeros_after zero number count bytes = refl
+zeros_after (suc n) number zero [] = refl
+zeros_after (suc n) number (suc count) [] =
+    ap (λ m. number_after n m (replicate count 0)) (let none : number * 256 + 0 ≡ number * 256 = omega arith in none)
+    ∙ zeros_after n (number * 256) count []
+zeros_after (suc n) number count (byte ∷ bytes) = zeros_after n (number * 256 + byte) count bytes
 
-pub next_digit : (index number byte : ℕ) (bytes : List ℕ) → index < 8 → byte ≡ get_or bytes index 0
-    → number_after (8 - index) number (drop index bytes) ≡ front_of bytes
-    → number_after (8 - (index + 1)) (number * 256 + byte) (drop (index + 1) bytes) ≡ front_of bytes
-next_digit index number byte bytes less is whole =
-    let count : 8 - index ≡ suc (8 - (index + 1)) = omega (arith, less) in
-    let after : index + 1 ≡ suc index = omega arith in
-    ap (λ (k : ℕ). number_after (8 - (index + 1)) (number * 256 + byte) (drop k bytes)) after
-    ∙ (ap (λ (b : ℕ). number_after (8 - (index + 1)) (number * 256 + b) (drop (suc index) bytes)) is
-    ∙ (sym (with_digit (8 - (index + 1)) number index bytes)
-    ∙ (ap (λ (n : ℕ). number_after n number (drop index bytes)) (sym count) ∙ whole)))
+digit_before : (k count : ℕ) (bytes : List ℕ) → get_or (bytes ++ replicate count 0) k 0 < 256 → get_or bytes k 0 < 256
+digit_before k count [] small = omega arith
+digit_before zero count (byte ∷ bytes) small = small
+digit_before (suc k) count (byte ∷ bytes) small = digit_before k count bytes small
 
--- one more byte is a digit
-pub more_digits : (index byte : ℕ) (bytes : List ℕ) → HasDigits index bytes → byte ≡ get_or bytes index 0 → byte < 256
-    → HasDigits (index + 1) bytes
-more_digits index byte bytes digits is small = λ k less. elim (cases_eq k index) [
-  | inl same ↦ subst (λ (j : ℕ). get_or bytes j 0 < 256) (sym same) (omega (arith, is, small))
-  | inr other ↦ digits k (omega (arith, less, other))
-]
+-- its bytes are digits where they are with zeros after them
+pub digits_before : (n count : ℕ) (bytes : List ℕ) → HasDigits n (bytes ++ replicate count 0) → HasDigits n bytes
+digits_before n count bytes digits = λ k less. digit_before k count bytes (digits k less)
