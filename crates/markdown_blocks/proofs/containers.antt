@@ -1,3 +1,4 @@
 pub mod ContainerLemmas
 pub mod MarkerLemmas
+pub mod PlainItems
 pub mod StartLemmas

@@ -1,6 +1,6 @@
 -- Bytes with which a container begins.
-use Rattle.std.specs.Prelude.{ℕ, Bool, ◌==◌, ◌||◌, ◌&&◌}
-use Rattle.markdown_scanners_tree.specs.Ascii.{colon, greater_than_sign, left_bracket}
+use Rattle.std.specs.Prelude.{ℕ, Bool, true, ◌==◌, ◌||◌, ◌&&◌, ◌≡◌, ◌<◌, List, ◌∷◌}
+use Rattle.markdown_scanners_tree.specs.Ascii.{colon, greater_than_sign, left_bracket, space}
 use Rattle.markdown_scanners_tree.specs.Bytes.{is_digit}
 use Rattle.markdown_scanners_tree.specs.scanners.list_items.ListMarker.{is_bullet}
 use Rattle.markdown_blocks.specs.declared.containers.BlockExtensions.{BlockExtensions}
@@ -13,3 +13,8 @@ is_item_byte b = is_bullet b || is_digit b
 abbrev pub is_other_byte : BlockExtensions → ℕ → Bool
 is_other_byte asked b =
     b == greater_than_sign || ((asked.footnotes && b == left_bracket) || (asked.definition_lists && b == colon))
+
+-- a bullet, one space, and a byte with which neither white space nor a marker of an item or a block quote begins
+abbrev pub IsPlainBullet : ℕ → List ℕ → Type 0
+IsPlainBullet bullet text = (byte : ℕ) × (rest : List ℕ) × (is_bullet bullet ≡ true) × (greater_than_sign < byte)
+    × (text ≡ bullet ∷ space ∷ byte ∷ rest)
