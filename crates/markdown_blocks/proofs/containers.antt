@@ -1,4 +1,5 @@
 pub mod ContainerLemmas
 pub mod MarkerLemmas
 pub mod PlainItems
+pub mod TextLines
 pub mod StartLemmas

@@ -1,15 +1,16 @@
 //! Block quotes, list items, footnote definitions and the definitions of definition lists: how far
 //! a line goes on with those that are open, and what it begins. (CommonMark 0.31.2, sections 5.1 and
 //! 5.2; GitHub Docs, footnotes; pulldown-cmark, definition lists)
-ghost use Rattle.std.specs.Prelude.{◌≡◌, ◌<◌, ◌≤◌, length, false, Some, None, IfSome, IfNone};
+ghost use Rattle.std.specs.Prelude.{◌≡◌, ◌<◌, ◌≤◌, length, false, Some, None, IfSome, IfNone, IsTrue};
 ghost use Rattle.markdown_scanners_tree.specs.Bytes.{begins_with};
+ghost use Rattle.markdown_scanners_tree.specs.line.ItemRules.{start_of};
 ghost use Rattle.markdown_scanners_tree.specs.line.Outcome.{item_outcome};
 ghost use Rattle.markdown_scanners_tree.specs.line.State.{space_within, after_space};
-ghost use Rattle.markdown_scanners_tree.specs.scanners.list_items.ListMarker.{is_bullet};
 ghost use Rattle.markdown_blocks.specs.containers.Containers.{begun_behind, behind, behind_quote, extension_of, goes_on_blank, item_of};
 ghost use Rattle.markdown_blocks.specs.containers.Containers.{settled, within, within_quote, within_width};
-ghost use Rattle.markdown_blocks.specs.containers.private.Markers.{IsPlainBullet, is_item_byte, is_other_byte};
+ghost use Rattle.markdown_blocks.specs.containers.private.Markers.{is_item_byte, is_other_byte};
 
+use crate::bullets::plain_bullet;
 use crate::footnotes::scan_footnote;
 use crate::kinds::is_blank;
 use crate::terms::scan_term_definition;
@@ -200,7 +201,28 @@ pub(crate) fn go_on<'a>(line: &'a [u8], outer: &Outer) -> (usize, LineStart<'a>)
     if outer.containers.is_empty() {
         return (0, LineStart::new(line));
     }
+    if ends_all(line, outer) {
+        return (0, LineStart::new(line));
+    }
     go_on_in(line, outer)
+}
+
+// Whether the line is seen to go on with none of them: it begins with text, and the outermost is an item.
+#[inline(always)]
+fn ends_all(line: &[u8], outer: &Outer) -> bool
+    ensures { IsTrue result → behind outer.now.containers line.now
+        ≡ record { kept = 0; state = start_of line.now } }
+{
+    let [Container::Item(item), ..] = outer.containers else {
+        return false;
+    };
+    let [byte, ..] = line else {
+        return false;
+    };
+    if item.width == 0 {
+        return false;
+    }
+    *byte > b' '
 }
 
 // The same of a line where some are open.
@@ -461,22 +483,4 @@ fn scan_plain_item<'a>(
         width: indent as u8 + 2,
         start: 0,
     }))
-}
-
-// The bullet at the front, if one stands there with one space and text after it, in which no marker
-// begins.
-fn plain_bullet(text: &[u8]) -> Option<u8>
-    ensures { IfSome result (λ bullet. IsPlainBullet bullet text.now) }
-{
-    match text {
-        [bullet, b' ', byte, ..] if is_bullet(*bullet) && *byte > b'>' => Some(*bullet),
-        _ => None,
-    }
-}
-
-// Whether it is the marker of a bullet list's item.
-fn is_bullet(byte: u8) -> bool
-    ensures { result ≡ is_bullet byte }
-{
-    matches!(byte, b'-' | b'+' | b'*')
 }

@@ -5,6 +5,7 @@
 pub mod alerts;
 mod block_events;
 pub mod blocks;
+mod bullets;
 pub mod cells;
 pub mod containers;
 pub mod content;

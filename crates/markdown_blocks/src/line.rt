@@ -1,7 +1,8 @@
 //! A line where containers are open.
-ghost use Rattle.std.specs.Prelude.{◌≡◌, is_some, IfSome, IfNone};
+ghost use Rattle.std.specs.Prelude.{◌≡◌, is_some, true, IfSome, IfNone, IsTrue};
 ghost use Rattle.markdown_blocks.specs.containers.Containers.{asked_in, begun_at, behind, rest_in, IsInside};
 
+use crate::bullets::plain_bullet;
 use crate::containers::{BlockExtensions, Outer, go_on, scan_container};
 use crate::rest::{Rest, scan_rest};
 use crate::terms::asked_first;
@@ -94,10 +95,25 @@ impl<'a> Line<'a> {
         ensures { result ≡ is_some (begun_at (asked_in self.now.outer self.now.bytes)
             (behind self.now.outer.containers self.now.bytes).state) }
     {
+        if self.begins_plain_item() {
+            return true;
+        }
         let rest = self.rest();
         let Ok(mut start) = self.after.clone() else {
             return false;
         };
         scan_container(self.bytes, &mut start, rest.indent, self.asked()).is_some()
+    }
+
+    // Whether it begins an item with a plain bullet, as most that begin a container do.
+    fn begins_plain_item(&self) -> bool
+        ensures { IsTrue result → is_some (begun_at (asked_in self.now.outer self.now.bytes)
+            (behind self.now.outer.containers self.now.bytes).state) ≡ true }
+    {
+        let rest = self.rest();
+        if rest.indent == 4 || self.after.remaining_space() > 0 {
+            return false;
+        }
+        plain_bullet(rest.text).is_some()
     }
 }

@@ -1,11 +1,12 @@
 -- Items that begin with a bullet, one space and text.
-use Rattle.std.proofs.Common.{ℕ, Bool, true, false, ◌==◌, ◌≡◌, ◌<◌, ◌≤◌, ◌+◌, ◌-◌, ◌%◌, List, [], ◌∷◌, length, drop, get_or, Option, Some, None, refl, sym, ap, ◌∙◌, inl, arith}
-use Rattle.std.specs.Prelude.{nat_lt, not, ◌||◌, ◌&&◌, if◌then◌else◌}
+use Rattle.std.proofs.Common.{ℕ, Bool, true, false, ◌==◌, ◌≡◌, ◌<◌, ◌≤◌, ◌+◌, ◌-◌, ◌%◌, List, []}
+use Rattle.std.proofs.Common.{◌∷◌, length, drop, get_or, Option, Some, None, refl, sym, ap, ◌∙◌, inl, arith}
+use Rattle.std.specs.Prelude.{IfSome, is_some, nat_lt, not, ◌||◌, ◌&&◌, if◌then◌else◌}
 use Rattle.std.specs.List.{list_all}
 use Rattle.std.proofs.lemmas.Bool.{eqb-true}
 use Rattle.std.proofs.lemmas.Bool.Decides.{nat_tests}
 use Rattle.std.proofs.lemmas.List.{drop-drop, drop_more, length-drop}
-use Rattle.markdown_scanners_tree.specs.Bytes.{is_blank, is_line_ending, line_head, is_space_or_tab, is_white_space_in_line, begins_with}
+use Rattle.markdown_scanners_tree.specs.Bytes.{is_blank, is_digit, is_line_ending, line_head, is_space_or_tab, is_white_space_in_line, begins_with}
 use Rattle.markdown_scanners_tree.specs.Columns.{written_out}
 use Rattle.markdown_scanners_tree.specs.line.Outcome.{Outcome, further_spaces, item_outcome, item_outcome_after, item_outcome_by, space_or_end_follows}
 use Rattle.markdown_scanners_tree.specs.line.State.{LineState, after_space, bytes_further, leading_spaces, rest_of, space_within, unscanned}
@@ -13,10 +14,12 @@ use Rattle.markdown_scanners_tree.specs.scanners.Breaks.{is_break_head, is_thema
 use Rattle.markdown_scanners_tree.specs.scanners.list_items.ListMarker.{Marker, bullet_marker, is_bullet, list_marker, ordered_marker}
 use Rattle.markdown_scanners_tree.proofs.line.SpaceLemmas.{IsTaken, none_at_front, none_of_byte, one_of_byte, state_of}
 use Rattle.markdown_scanners_tree.proofs.line.WrittenLemmas.{head-cons}
-use Rattle.markdown_blocks.specs.containers.Containers.{item_of}
-use Rattle.markdown_blocks.specs.containers.private.Markers.{IsPlainBullet}
+use Rattle.markdown_blocks.specs.containers.Containers.{begun_behind, item_of}
+use Rattle.markdown_blocks.specs.containers.private.Markers.{IsPlainBullet, is_item_byte}
 use Rattle.markdown_blocks.specs.declared.containers.Container.TheVariants.{Item}
+use Rattle.markdown_blocks.specs.declared.containers.BlockExtensions.{BlockExtensions}
 use Rattle.markdown_blocks.proofs.containers.ContainerLemmas.{item_given}
+use Rattle.markdown_blocks.proofs.containers.MarkerLemmas.{item_begun}
 
 -- a byte of text is no white space
 record Word (byte : ℕ) : Type 0 where
@@ -80,75 +83,75 @@ marked byte rest more bullet is =
     ap (λ (m : Option Marker). elim m [ Some marker ↦ Some marker | None ↦ ordered_marker text ]) found
 
 -- the bytes after the first of what is left
-pub tail_at : (bytes : List ℕ) (place b : ℕ) (rest : List ℕ) → drop place bytes ≡ b ∷ rest → drop (place + 1) bytes ≡ rest
-tail_at bytes place b rest at = sym (drop-drop 1 place bytes) ∙ ap (drop 1) at
+pub tail_at : (bytes : List ℕ) (offset b : ℕ) (rest : List ℕ) → drop offset bytes ≡ b ∷ rest → drop (offset + 1) bytes ≡ rest
+tail_at bytes offset b rest at = sym (drop-drop 1 offset bytes) ∙ ap (drop 1) at
 
-byte_there : (bytes : List ℕ) (place b : ℕ) (rest : List ℕ) → drop place bytes ≡ b ∷ rest → (place < length bytes) × (get_or bytes place 0 ≡ b)
-byte_there bytes place b rest at =
-    let size : length (drop place bytes) ≡ length (b ∷ rest) = ap length at in
-    let inside : place < length bytes = omega (arith, size, length-drop place bytes) in
-    let same : get_or bytes place 0 ∷ drop (place + 1) bytes ≡ b ∷ rest = sym (drop_more bytes place 0 inside) ∙ at in
-    (inside, (let head : get_or bytes place 0 ≡ b = cc in head))
+byte_there : (bytes : List ℕ) (offset b : ℕ) (rest : List ℕ) → drop offset bytes ≡ b ∷ rest → (offset < length bytes) × (get_or bytes offset 0 ≡ b)
+byte_there bytes offset b rest at =
+    let size : length (drop offset bytes) ≡ length (b ∷ rest) = ap length at in
+    let inside : offset < length bytes = omega (arith, size, length-drop offset bytes) in
+    let same : get_or bytes offset 0 ∷ drop (offset + 1) bytes ≡ b ∷ rest = sym (drop_more bytes offset 0 inside) ∙ at in
+    (inside, (let head : get_or bytes offset 0 ≡ b = cc in head))
 
 module _ (indent : ℕ) (s : LineState) (bullet byte : ℕ) (rest : List ℕ) (is : is_bullet bullet ≡ true) (more : 62 < byte)
     (none : s.pending ≡ 0) (at : unscanned s ≡ bullet ∷ 32 ∷ byte ∷ rest) where
   -- after the marker, and after its space
-  abbrev behind_marker : LineState
-  behind_marker = bytes_further 1 s
+  abbrev past_marker : LineState
+  past_marker = bytes_further 1 s
 
-  abbrev pub behind_space : LineState
-  behind_space = state_of s.bytes (s.place + 1 + 1) 0 (s.phase + 2)
+  abbrev pub past_space : LineState
+  past_space = state_of s.bytes (s.place + 1 + 1) 0 (s.phase + 2)
 
   space_there : drop (s.place + 1) s.bytes ≡ 32 ∷ byte ∷ rest
   space_there = tail_at s.bytes s.place bullet (32 ∷ byte ∷ rest) at
 
-  pub word_there : unscanned behind_space ≡ byte ∷ rest
+  pub word_there : unscanned past_space ≡ byte ∷ rest
   word_there = tail_at s.bytes (s.place + 1) 32 (byte ∷ rest) space_there
 
-  one_space : IsTaken 1 1 behind_marker behind_space
+  one_space : IsTaken 1 1 past_marker past_space
   one_space =
       let there = byte_there s.bytes (s.place + 1) 32 (byte ∷ rest) space_there in
       one_of_byte s.bytes (s.place + 1) (s.phase + 1) s.pending 32 1 (s.phase + 2) 0 none there.0 there.1 (inl (refl, refl))
       (ap (λ n. n % 4) (let sum : s.phase + 2 ≡ s.phase + 1 + 1 = omega arith in sum)) refl
 
-  text_front : begins_with is_space_or_tab (unscanned behind_space) ≡ false
+  text_front : begins_with is_space_or_tab (unscanned past_space) ≡ false
   text_front = ap (begins_with is_space_or_tab) word_there ∙ (let w = word byte more in rw (w.space, w.tab) refl)
 
-  no_space : IsTaken 0 0 behind_space behind_space
+  no_space : IsTaken 0 0 past_space past_space
   no_space =
       let there = byte_there s.bytes (s.place + 1 + 1) byte rest word_there in
       none_of_byte s.bytes (s.place + 1 + 1) (s.phase + 2) 0 0 refl (omega (arith, there.0))
-      (none_at_front (unscanned behind_space) (s.phase + 2) text_front)
+      (none_at_front (unscanned past_space) (s.phase + 2) text_front)
 
-  pub not_blank : is_blank (unscanned behind_space) ≡ false
+  pub not_blank : is_blank (unscanned past_space) ≡ false
   not_blank =
       let w = word byte more in
       ap is_blank word_there ∙ ap (list_all is_white_space_in_line) (head-cons byte rest w.goes)
       ∙ ap (λ t. t && list_all is_white_space_in_line (line_head rest)) w.in_line
 
   -- one space follows the marker
-  follows : space_or_end_follows behind_marker ≡ true
+  follows : space_or_end_follows past_marker ≡ true
   follows =
-      let some : 1 ≡ space_within 1 behind_marker = one_space.answer in
-      let there : nat_lt 0 (leading_spaces (rest_of behind_marker)) ≡ true = grind (arith, nat_tests) in
+      let some : 1 ≡ space_within 1 past_marker = one_space.answer in
+      let there : nat_lt 0 (leading_spaces (rest_of past_marker)) ≡ true = grind (arith, nat_tests) in
       rw there refl
 
-  none_further : further_spaces behind_space ≡ 0
+  none_further : further_spaces past_space ≡ 0
   none_further =
-      let spaces : leading_spaces (rest_of behind_space) ≡ 0 =
-      none_at_front (unscanned behind_space) ((s.phase + 2) % 4) text_front in
+      let spaces : leading_spaces (rest_of past_space) ≡ 0 =
+      none_at_front (unscanned past_space) ((s.phase + 2) % 4) text_front in
       rw (not_blank, spaces) refl
 
   abbrev outcome_with : ℕ → LineState → Outcome (ℕ × ℕ × ℕ)
   outcome_with further after = record { answer = Some (bullet, 0, indent + 1 + 1 + further); state = after }
 
-  pub plain_outcome : item_outcome indent s ≡ outcome_with 0 behind_space
+  pub plain_outcome : item_outcome indent s ≡ outcome_with 0 past_space
   plain_outcome =
       ap (item_outcome_by indent s) (ap list_marker at ∙ marked byte rest more bullet is)
-      ∙ (let here : item_outcome_by indent s (Some (plain_marker bullet)) ≡ item_outcome_after indent (plain_marker bullet) (after_space 1 behind_marker) =
+      ∙ (let here : item_outcome_by indent s (Some (plain_marker bullet)) ≡ item_outcome_after indent (plain_marker bullet) (after_space 1 past_marker) =
       rw follows refl in here)
       ∙ ap (item_outcome_after indent (plain_marker bullet)) (sym one_space.state)
-      ∙ ap (λ n. outcome_with n (after_space n behind_space)) none_further
+      ∙ ap (λ n. outcome_with n (after_space n past_space)) none_further
       ∙ ap (outcome_with 0) (sym no_space.state)
 
 -- a plain bullet begins an item
@@ -156,12 +159,26 @@ pub plain_given : (indent : ℕ) (s after : LineState) (bullet width : ℕ) → 
     → after ≡ record { bytes = s.bytes; place = s.place + 2; pending = 0; phase = (s.phase + 2) % 4 } → width ≡ indent + 2
     → item_of (item_outcome indent s) ≡ Some (Item (record { delimiter = bullet; start = 0; width = width; begun = false }), after)
 plain_given indent s after bullet width (byte, rest, is, more, at) none there wide =
-    let place : s.place + 1 + 1 ≡ s.place + 2 = omega arith in
+    let two : s.place + 1 + 1 ≡ s.place + 2 = omega arith in
     let sum : indent + 1 + 1 + 0 ≡ indent + 2 = omega arith in
-    let same : after ≡ behind_space indent s bullet byte rest is more none at =
-    there ∙ ap (λ p. record { bytes = s.bytes; place = p; pending = 0; phase = (s.phase + 2) % 4 }) (sym place) in
+    let same : after ≡ past_space indent s bullet byte rest is more none at =
+    there ∙ ap (λ p. record { bytes = s.bytes; place = p; pending = 0; phase = (s.phase + 2) % 4 }) (sym two) in
     let whole = plain_outcome indent s bullet byte rest is more none at in
     item_given (item_outcome indent s) after bullet 0 width false
     (ap (λ n. Some (bullet, 0, n)) (wide ∙ sym sum) ∙ sym (ap (λ (o : Outcome (ℕ × ℕ × ℕ)). o.answer) whole))
     (same ∙ sym (ap (λ (o : Outcome (ℕ × ℕ × ℕ)). o.state) whole))
     (sym (ap (λ z. is_blank (unscanned z)) same ∙ not_blank indent s bullet byte rest is more none at))
+
+-- so does one after less than four columns of space, whatever extensions are on
+pub plain_begun : (asked : BlockExtensions) (indent : ℕ) (s : LineState) (bullet : ℕ) → IsPlainBullet bullet (unscanned s) → s.pending ≡ 0
+    → (indent == 4) ≡ false → is_some (begun_behind asked indent s) ≡ true
+plain_begun asked indent s bullet (byte, rest, is, more, at) none near =
+    let item : begins_with is_item_byte (unscanned s) ≡ true =
+    ap (begins_with is_item_byte) at ∙ ap (λ t. t || is_digit bullet) is in
+    ap is_some (item_begun asked indent s item near
+    ∙ plain_given indent s _ bullet _ (byte, rest, is, more, at) none refl refl)
+
+pub some_bullet : (found : Option ℕ) (text : List ℕ) → is_some found ≡ true → IfSome found (λ bullet. IsPlainBullet bullet text)
+    → (bullet : ℕ) × IsPlainBullet bullet text
+some_bullet (Some bullet) text some is = (bullet, is)
+some_bullet None text some is = absurd cc
