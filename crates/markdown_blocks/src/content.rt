@@ -1,15 +1,15 @@
 //! The content of leaf blocks: what is handed to the inline pass, and the text of code and HTML, with the place of each of its
 //! bytes. (CommonMark 0.31.2, sections 2.2, 4.2 to 4.6 and 4.8)
-ghost use Rattle.std.specs.Prelude.{◌≡◌, ◌^◌, ◌++◌, ◌+◌, ◌-◌, ◌<◌, ◌≤◌, ℕ, List, length, replicate, slice_index, IfOk, IfSome, IfNone, IsOk, IsTrue, OnOk};
+ghost use Rattle.std.specs.Prelude.{◌≡◌, ◌^◌, ◌++◌, ◌∷◌, [], ◌+◌, ◌-◌, ◌<◌, ◌≤◌, ℕ, List, length, replicate, slice_index, IfOk, IfErr, IfSome, IsOk, IsTrue, OnOk};
 ghost use Rattle.std.specs.Str.{IsUtf8};
 ghost use Rattle.markdown_scanners_tree.specs.Ascii.{space};
 ghost use Rattle.markdown_scanners_tree.specs.scanners.TextLines.{lines_of};
 ghost use Rattle.markdown_blocks.specs.content.Bytes.{AreBytesOf};
-ghost use Rattle.markdown_blocks.specs.content.Content.{IsContent, IsRunOf, StandsFrom, content_len, content_with, text_of, words_len};
+ghost use Rattle.markdown_blocks.specs.content.Content.{IsContent, IsRunOf, StandsFrom, content_len, content_with, joined, text_of, words_len};
 ghost use Rattle.markdown_blocks.specs.content.Left.{IsRun, IsRunAt, parts_left};
 ghost use Rattle.markdown_blocks.specs.content.Parts.{AreOneRun, AreParts, Part, one_part};
-ghost use Rattle.markdown_blocks.specs.content.Seen.{seen_part};
-ghost use Rattle.markdown_blocks.specs.content.Segments.{Rising, place_at, place_in};
+ghost use Rattle.markdown_blocks.specs.content.Seen.{IsIn, seen_part};
+ghost use Rattle.markdown_blocks.specs.content.Segments.{Rising, place_at, place_in, segments_from};
 ghost use Rattle.markdown_blocks.specs.declared.blocks.BlockKind.TheVariants.{Paragraph};
 
 mod cell;
@@ -89,10 +89,10 @@ pub fn content_of<'a>(
         return Ok(lent(alloc, &lines[begin..end], kind, begin));
     }
     let parts = Parts::of(lines, kind, &outer, kept);
-    if let Some((begin, end)) = run_of(parts) {
-        return Ok(lent(alloc, &lines[begin..end], kind, begin));
+    match run_of(parts) {
+        Ok((begin, end)) => Ok(lent(alloc, &lines[begin..end], kind, begin)),
+        Err((front, later)) => built(alloc, front, later, kind),
     }
-    built(alloc, parts, kind)
 }
 
 /// The content of a paragraph of one line whose text this is, from this offset in the line on, and
@@ -230,27 +230,37 @@ fn segment_at(first: Segment, later: &[Segment], offset: usize, len: usize) -> (
     (found, len)
 }
 
-// Where the parts begin and end in the lines, if they are one run of them.
-fn run_of(parts: Parts) -> Option<(usize, usize)>
-    ensures run { IfSome result (λ r. IsRun parts.entry.lines.now
+// Where the parts begin and end in the lines, if they are one run of them. Else the run that they begin
+// with, as one part, and the parts after it.
+fn run_of<'a>(parts: Parts<'a>) -> Result<(usize, usize), (LinePart<'a>, Parts<'a>)>
+    ensures run { IfOk result (λ r. IsRun parts.entry.lines.now
         (parts_left parts.entry) r.0 r.1) }
-    ensures none { IfNone result (¬ AreOneRun (parts_left parts.entry)) }
+    ensures none { IfErr result (λ _. ¬ AreOneRun (parts_left parts.entry)) }
+    ensures joined { IfErr result (λ r.
+        joined (seen_part r.0 ∷ parts_left r.1) ≡ joined (parts_left parts.entry)) }
+    ensures lines { IfErr result (λ r. r.1.lines.now ≡ parts.entry.lines.now) }
+    ensures inside { IfErr result (λ r. IsIn parts.entry.lines.now (seen_part r.0)) }
 {
     let mut rest = parts;
     let Some(part) = rest.next() else {
-        return Some((0, 0));
+        return Ok((0, 0));
     };
     if part.columns > 0 {
-        return None;
+        return Err((part, rest));
     }
     let mut end = part.place + part.bytes.len();
     while let Some(next) = rest.next() {
         if next.columns > 0 || next.place != end {
-            return None;
+            let run = LinePart {
+                columns: 0,
+                place: part.place,
+                bytes: &parts.lines[part.place..end],
+            };
+            return Err((run, rest.with(next)));
         }
         end += next.bytes.len();
     }
-    Some((part.place, end))
+    Ok((part.place, end))
 }
 
 // The content that is one run of the lines, from this place on.
@@ -270,21 +280,24 @@ fn lent<'a>(alloc: Global, run: &'a [u8], kind: BlockKind, place: usize) -> Cont
     }
 }
 
-// The content that the parts are, joined.
-fn built<'a>(alloc: Global, parts: Parts, kind: BlockKind) -> Result<Content<'a>, AllocError>
-    ensures { IfOk result (λ content. content ≡ content_with kind (parts_left parts.entry)) }
+// The content that a part and those after it are, joined.
+fn built<'a>(
+    alloc: Global,
+    first: LinePart,
+    later: Parts,
+    kind: BlockKind,
+) -> Result<Content<'a>, AllocError>
+    requires { IsIn later.lines.now (seen_part first) }
+    ensures { IfOk result (λ content. content
+        ≡ content_with kind (seen_part first.entry ∷ parts_left later.entry)) }
 {
     // No longer than the lines, but where a tab is cut.
-    let mut text = Vec::with_capacity(alloc, parts.lines.len())?;
+    let mut text = Vec::with_capacity(alloc, later.lines.len())?;
     let mut segments = Vec::new(alloc);
-    let mut rest = parts;
+    add_part(&mut text, first)?;
+    let mut rest = later;
     while let Some(part) = rest.next() {
-        segments.push(Segment {
-            offset: text.len(),
-            columns: part.columns,
-            place: part.place,
-        })?;
-        add_part(&mut text, part)?;
+        add_segment(&mut text, &mut segments, part)?;
     }
     let end = content_len(&text, kind);
     text.truncate(end);
@@ -293,11 +306,29 @@ fn built<'a>(alloc: Global, parts: Parts, kind: BlockKind) -> Result<Content<'a>
         built: text,
         first: Segment {
             offset: 0,
-            columns: 0,
-            place: 0,
+            columns: first.columns,
+            place: first.place,
         },
         later: segments,
     })
+}
+
+// Adds the part, and the segment that it is.
+fn add_segment(
+    text: &mut Vec<u8>,
+    segments: &mut Vec<Segment>,
+    part: LinePart,
+) -> Result<(), AllocError>
+    ensures text { OnOk result (text.new.items ≡ text.old.items ++ text_of (seen_part part.entry)) }
+    ensures segments { OnOk result (segments.new.items
+        ≡ segments.old.items ++ segments_from (length text.old.items) (seen_part part.entry ∷ [])) }
+{
+    segments.push(Segment {
+        offset: text.len(),
+        columns: part.columns,
+        place: part.place,
+    })?;
+    add_part(text, part)
 }
 
 // Adds the part.

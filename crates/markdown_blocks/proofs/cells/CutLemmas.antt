@@ -30,9 +30,9 @@ IsCellCut row cell = IsCharBoundary row cell.start × IsCharBoundary row cell.en
 
 module _ (row : List ℕ) (utf8 : IsUtf8 row) where
   -- that of a piece that stands in the row
-  cell_cut : (place : ℕ) (p : List ℕ) → take (length p) (drop place row) ≡ p → IsUtf8 p → IsCharBoundary row (place + length p)
-      → IsCellCut row (cell_at place p)
-  cell_cut place p stands own ends =
+  cell_cut : (from : ℕ) (p : List ℕ) → take (length p) (drop from row) ≡ p → IsUtf8 p → IsCharBoundary row (from + length p)
+      → IsCellCut row (cell_at from p)
+  cell_cut from p stands own ends =
       let n = prefix_len is_space_or_tab p in
       let w = without_front p in
       let m = length w - suffix_len is_space_or_tab w in
@@ -41,40 +41,40 @@ module _ (row : List ℕ) (utf8 : IsUtf8 row) where
       let inner : IsCharBoundary w m = cut_before_end is_space_or_tab spaces_low w in
       let last : IsCharBoundary p (n + m) = IsCharBoundary-from_rest p n m few inner in
       let size : length (without_end w) ≡ m = (let short = length-take m w in omega (arith, short)) in
-      let in_row : (i : ℕ) → IsCharBoundary p i → IsCharBoundary row (place + i) =
-      λ i cut. cut_of_part row place (length p) i ends (subst (λ (t : List ℕ). IsCharBoundary t i) (sym stands) cut) in
-      let end : place + (n + m) ≡ place + n + length (without_end w) = omega (arith, size) in
+      let in_row : (i : ℕ) → IsCharBoundary p i → IsCharBoundary row (from + i) =
+      λ i cut. cut_of_part row from (length p) i ends (subst (λ (t : List ℕ). IsCharBoundary t i) (sym stands) cut) in
+      let end : from + (n + m) ≡ from + n + length (without_end w) = omega (arith, size) in
       (in_row n begins, subst (IsCharBoundary row) end (in_row (n + m) last))
 
-  cells_cut_at : (place : ℕ) (ps : List (List ℕ)) → IsCharBoundary row place → drop place row ≡ join_with_byte vertical_line ps
-      → AllByRecursion (IsCellCut row) (cells_at place ps)
-  cells_cut_at place [] begins stands = tt
-  cells_cut_at place (p ∷ []) begins stands =
-      let size = length-drop place row in
+  cells_cut_at : (from : ℕ) (ps : List (List ℕ)) → IsCharBoundary row from → drop from row ≡ join_with_byte vertical_line ps
+      → AllByRecursion (IsCellCut row) (cells_at from ps)
+  cells_cut_at from [] begins stands = tt
+  cells_cut_at from (p ∷ []) begins stands =
+      let size = length-drop from row in
       let within = begins.0 in
-      let end : length row ≡ place + length p = omega (arith, size, within, ap length stands) in (
-        cell_cut place p (ap (take (length p)) stands ∙ take_all (length p) p (omega arith)) (subst IsUtf8 stands (IsUtf8-drop row place utf8 begins))
+      let end : length row ≡ from + length p = omega (arith, size, within, ap length stands) in (
+        cell_cut from p (ap (take (length p)) stands ∙ take_all (length p) p (omega arith)) (subst IsUtf8 stands (IsUtf8-drop row from utf8 begins))
             (subst (IsCharBoundary row) end (IsCharBoundary-end row)),
         tt,
       )
-  cells_cut_at place (p ∷ q ∷ ps) begins stands =
+  cells_cut_at from (p ∷ q ∷ ps) begins stands =
       let n = length p in
       let rest = join_with_byte vertical_line (q ∷ ps) in
       let within = begins.0 in
-      let size = length-drop place row in
+      let size = length-drop from row in
       let sizes = ap length stands ∙ length-append p (vertical_line ∷ rest) in
-      let there : drop (place + n) row ≡ vertical_line ∷ rest =
-      sym (drop-drop n place row) ∙ ap (drop n) stands ∙ drop-append_seam p (vertical_line ∷ rest) in
-      let inside : place + n < length row = omega (arith, size, within, sizes) in
-      let byte : get_or row (place + n) 0 ≡ vertical_line =
-      ap (λ k. get_or row k 0) (let same : place + n ≡ place + n + 0 = omega arith in same) ∙ sym (get_or-drop (place + n) row 0 0)
+      let there : drop (from + n) row ≡ vertical_line ∷ rest =
+      sym (drop-drop n from row) ∙ ap (drop n) stands ∙ drop-append_seam p (vertical_line ∷ rest) in
+      let inside : from + n < length row = omega (arith, size, within, sizes) in
+      let byte : get_or row (from + n) 0 ≡ vertical_line =
+      ap (λ k. get_or row k 0) (let same : from + n ≡ from + n + 0 = omega arith in same) ∙ sym (get_or-drop (from + n) row 0 0)
       ∙ ap (λ (t : List ℕ). get_or t 0 0) there in
-      let ends = IsCharBoundary-before_ascii row (place + n) inside (omega (arith, byte)) in
-      let front : take n (drop place row) ≡ p = ap (take n) stands ∙ take-append_seam p (vertical_line ∷ rest) in
-      let own : IsUtf8 p = subst IsUtf8 front (IsUtf8-take (drop place row) n (IsUtf8-drop row place utf8 begins) (cut_of_rest row place n ends)) in (
-        cell_cut place p front own ends,
-        cells_cut_at (place + n + 1) (q ∷ ps) (IsCharBoundary-after_ascii row (place + n) utf8 inside (omega (arith, byte)))
-            (sym (drop-drop 1 (place + n) row) ∙ ap (drop 1) there),
+      let ends = IsCharBoundary-before_ascii row (from + n) inside (omega (arith, byte)) in
+      let front : take n (drop from row) ≡ p = ap (take n) stands ∙ take-append_seam p (vertical_line ∷ rest) in
+      let own : IsUtf8 p = subst IsUtf8 front (IsUtf8-take (drop from row) n (IsUtf8-drop row from utf8 begins) (cut_of_rest row from n ends)) in (
+        cell_cut from p front own ends,
+        cells_cut_at (from + n + 1) (q ∷ ps) (IsCharBoundary-after_ascii row (from + n) utf8 inside (omega (arith, byte)))
+            (sym (drop-drop 1 (from + n) row) ∙ ap (drop 1) there),
       )
 
 all_taken : {X : Type 0} (P : X → Type 0) (n : ℕ) (xs : List X) → AllByRecursion P xs → AllByRecursion P (take n xs)
@@ -176,44 +176,44 @@ cell_utf8 row cell utf8 less cut =
 
 module _ (row : List ℕ) where
   -- where bytes stand in a row up to a boundary, and what is left of them may be cut after one
-  unescaped_cut : (bytes : List ℕ) (place n : ℕ) → take n (drop place row) ≡ bytes → IsCharBoundary row (place + length bytes) → (i : ℕ)
-      → i < length (unescaped bytes) → IsCharBoundary (unescaped bytes) (i + 1) → IsCharBoundary row (get_or (unescaped_places place bytes) i 0 + 1)
-  unescaped_cut [] place n stands ends i low cut = absurd (omega (arith, low))
-  unescaped_cut (b ∷ bs) place zero stands ends i low cut = absurd (cc)
-  unescaped_cut (b ∷ bs) place (suc n) stands ends i low cut =
-      by (escapes_pipe (b ∷ bs)) refl i low cut (unescaped_cut bs (place + 1) n rest (subst (IsCharBoundary row) further ends))
+  unescaped_cut : (bytes : List ℕ) (from n : ℕ) → take n (drop from row) ≡ bytes → IsCharBoundary row (from + length bytes) → (i : ℕ)
+      → i < length (unescaped bytes) → IsCharBoundary (unescaped bytes) (i + 1) → IsCharBoundary row (get_or (unescaped_places from bytes) i 0 + 1)
+  unescaped_cut [] from n stands ends i low cut = absurd (omega (arith, low))
+  unescaped_cut (b ∷ bs) from zero stands ends i low cut = absurd (cc)
+  unescaped_cut (b ∷ bs) from (suc n) stands ends i low cut =
+      by (escapes_pipe (b ∷ bs)) refl i low cut (unescaped_cut bs (from + 1) n rest (subst (IsCharBoundary row) further ends))
     where
-      further : place + length (b ∷ bs) ≡ place + 1 + length bs
+      further : from + length (b ∷ bs) ≡ from + 1 + length bs
       further = omega arith
 
-      rest : take n (drop (place + 1) row) ≡ bs
-      rest = next (drop place row) stands (sym (drop-drop 1 place row))
+      rest : take n (drop (from + 1) row) ≡ bs
+      rest = next (drop from row) stands (sym (drop-drop 1 from row))
         where
-          next : (t : List ℕ) → take (suc n) t ≡ b ∷ bs → drop (place + 1) row ≡ drop 1 t → take n (drop (place + 1) row) ≡ bs
+          next : (t : List ℕ) → take (suc n) t ≡ b ∷ bs → drop (from + 1) row ≡ drop 1 t → take n (drop (from + 1) row) ≡ bs
           next [] is at = absurd (cc)
           next (c ∷ t) is at = ap (take n) at ∙ (let same : take n t ≡ bs = cc in same)
 
       -- after a byte that stays, another that stays, or a backslash, or the end of the cell
-      here : (cs : List ℕ) → bs ≡ cs → IsCharBoundary (b ∷ unescaped bs) 1 → IsCharBoundary row (place + 1)
+      here : (cs : List ℕ) → bs ≡ cs → IsCharBoundary (b ∷ unescaped bs) 1 → IsCharBoundary row (from + 1)
       here [] none cut =
-          let end : place + length (b ∷ bs) ≡ place + 1 = (let size = ap length none in omega (arith, size)) in
+          let end : from + length (b ∷ bs) ≡ from + 1 = (let size = ap length none in omega (arith, size)) in
           subst (IsCharBoundary row) end ends
       here (c ∷ cs) some cut = first (escapes_pipe (c ∷ cs)) refl
         where
-          size : 0 < length (take n (drop (place + 1) row))
+          size : 0 < length (take n (drop (from + 1) row))
           size = (let same = ap length rest in let more = ap length some in omega (arith, same, more))
 
-          inside : place + 1 < length row
-          inside = (let few = length-take n (drop (place + 1) row) in let left = length-drop (place + 1) row in omega (arith, size, few, left))
+          inside : from + 1 < length row
+          inside = (let few = length-take n (drop (from + 1) row) in let left = length-drop (from + 1) row in omega (arith, size, few, left))
 
-          byte : get_or row (place + 1) 0 ≡ c
+          byte : get_or row (from + 1) 0 ≡ c
           byte =
-              ap (λ k. get_or row k 0) (let same : place + 1 ≡ place + 1 + 0 = omega arith in same) ∙ sym (get_or-drop (place + 1) row 0 0)
-              ∙ sym (get_or-take n (drop (place + 1) row) 0 0 (let few = length-take n (drop (place + 1) row) in omega (arith, size, few)))
+              ap (λ k. get_or row k 0) (let same : from + 1 ≡ from + 1 + 0 = omega arith in same) ∙ sym (get_or-drop (from + 1) row 0 0)
+              ∙ sym (get_or-take n (drop (from + 1) row) 0 0 (let few = length-take n (drop (from + 1) row) in omega (arith, size, few)))
               ∙ ap (λ (t : List ℕ). get_or t 0 0) (rest ∙ some)
 
-          first : (s : Bool) → escapes_pipe (c ∷ cs) ≡ s → IsCharBoundary row (place + 1)
-          first true is = IsCharBoundary-before_ascii row (place + 1) inside (omega (arith, byte, escape_is c cs is))
+          first : (s : Bool) → escapes_pipe (c ∷ cs) ≡ s → IsCharBoundary row (from + 1)
+          first true is = IsCharBoundary-before_ascii row (from + 1) inside (omega (arith, byte, escape_is c cs is))
           first false is =
               let text : unescaped bs ≡ c ∷ unescaped cs = ap unescaped some ∙ rw is refl in
               let at : IsCharBoundary (b ∷ c ∷ unescaped cs) 1 = subst (λ (t : List ℕ). IsCharBoundary (b ∷ t) 1) text cut in (
@@ -223,8 +223,8 @@ module _ (row : List ℕ) where
 
       by : (s : Bool) → escapes_pipe (b ∷ bs) ≡ s → (i : ℕ) → i < length (unescaped (b ∷ bs)) → IsCharBoundary (unescaped (b ∷ bs)) (i + 1)
           → ((i : ℕ) → i < length (unescaped bs) → IsCharBoundary (unescaped bs) (i + 1)
-          → IsCharBoundary row (get_or (unescaped_places (place + 1) bs) i 0 + 1))
-          → IsCharBoundary row (get_or (unescaped_places place (b ∷ bs)) i 0 + 1)
+          → IsCharBoundary row (get_or (unescaped_places (from + 1) bs) i 0 + 1))
+          → IsCharBoundary row (get_or (unescaped_places from (b ∷ bs)) i 0 + 1)
       by true is i low cut later = rw is (later i (rw is at low) (rw is at cut))
       by false is zero low cut later = rw is (here bs refl (rw is at cut))
       by false is (suc i) low cut later =
@@ -235,7 +235,7 @@ module _ (row : List ℕ) where
           let within = inner.0 in
           rw is (later i (omega (arith, less)) (omega (arith, within), λ low high. inner.1 (omega (arith, low)) high))
 
--- where the content of a cell may be cut after one of its bytes, so may the row after that byte's place
+-- where the content of a cell may be cut after one of its bytes, so may the row after that byte's from
 pub cell_ends : (row : List ℕ) (cell : Cell) → cell.start ≤ cell.end → IsCellCut row cell → (offset : ℕ)
     → offset < length (content_of_cell row cell).text → IsCharBoundary (content_of_cell row cell).text (offset + 1)
     → IsCharBoundary row (slice_index (content_of_cell row cell).places offset + 1)

@@ -3,9 +3,9 @@ use Rattle.std.proofs.Common.{ℕ, zero, suc, ◌+◌, ◌-◌, ◌≤◌, ◌�
 use Rattle.std.proofs.Common.{refl, sym, ap, ◌∙◌, subst, arith, append_assoc, length-append}
 use Rattle.std.specs.List.{flat_map, range_with_len}
 use Rattle.std.proofs.Math.Seq.{take-add, take-append_seam}
-use Rattle.std.proofs.lemmas.List.{drop-drop}
+use Rattle.std.proofs.lemmas.List.{drop-drop, length-drop, length-take-le, take-append-drop}
 use Rattle.markdown_scanners_tree.specs.Ascii.{space}
-use Rattle.markdown_blocks.specs.content.Content.{places_of, text_of}
+use Rattle.markdown_blocks.specs.content.Content.{joined, places_of, text_of}
 use Rattle.markdown_blocks.specs.content.Parts.{GoOn, Part}
 use Rattle.markdown_blocks.specs.content.Seen.{IsIn}
 
@@ -85,3 +85,55 @@ go_next left rest p end none at is = (
 -- a part that is cut, or stands elsewhere, ends the run
 pub not_cut : (end : ℕ) (left rest : List Part) (p : Part) → left ≡ p ∷ rest → GoOn end left → (p.columns ≡ 0) × (p.place ≡ end)
 not_cut end left rest p is on = let here = subst (GoOn end) is on in (here.0, here.1)
+
+-- the places of a part without columns, of the first part of a run, and of a part more
+plain_places : (p : Part) → p.columns ≡ 0 → places_of p ≡ range_with_len p.place (length p.bytes)
+plain_places p none = ap (λ n. replicate n (p.place - 1) ++ range_with_len p.place (length p.bytes)) none
+
+pub places_first : (all rest : List Part) (p : Part) → p.columns ≡ 0 → all ≡ p ∷ rest
+    → flat_map places_of all ≡ range_with_len p.place (p.place + length p.bytes - p.place) ++ flat_map places_of rest
+places_first all rest p none is =
+    let size : length p.bytes ≡ p.place + length p.bytes - p.place = omega arith in
+    ap (flat_map places_of) is
+    ∙ ap (λ ns. ns ++ flat_map places_of rest) (plain_places p none ∙ ap (range_with_len p.place) size)
+
+pub places_next : (all left rest : List Part) (p : Part) (begin end : ℕ) → p.columns ≡ 0 → p.place ≡ end → begin ≤ end → left ≡ p ∷ rest
+    → flat_map places_of all ≡ range_with_len begin (end - begin) ++ flat_map places_of left
+    → flat_map places_of all ≡ range_with_len begin (end + length p.bytes - begin) ++ flat_map places_of rest
+places_next all left rest p begin end none at low is so_far =
+    let front = range_with_len begin (end - begin) in
+    let place : p.place ≡ begin + (end - begin) = omega (arith, at, low) in
+    let size : end - begin + length p.bytes ≡ end + length p.bytes - begin = omega (arith, low) in
+    so_far ∙ ap (λ ps. front ++ flat_map places_of ps) is
+    ∙ ap (λ ns. front ++ (ns ++ flat_map places_of rest)) (plain_places p none ∙ ap (λ n. range_with_len n (length p.bytes)) place)
+    ∙ sym (append_assoc front (range_with_len (begin + (end - begin)) (length p.bytes)) (flat_map places_of rest))
+    ∙ ap (λ ns. ns ++ flat_map places_of rest) (range_on begin (end - begin) (length p.bytes) ∙ ap (range_with_len begin) size)
+
+-- a run as one part
+abbrev pub run_part : List ℕ → ℕ → ℕ → Part
+run_part lines begin end = record { columns = 0; place = begin; bytes = take (end - begin) (drop begin lines) }
+
+run_size : (lines : List ℕ) (begin end : ℕ) → begin ≤ end → end ≤ length lines → length (take (end - begin) (drop begin lines)) ≡ end - begin
+run_size lines begin end low within =
+    length-take-le (end - begin) (drop begin lines) (omega (arith, low, within, length-drop begin lines))
+
+pub run_inside : (lines : List ℕ) (begin end : ℕ) → begin ≤ end → end ≤ length lines → IsIn lines (run_part lines begin end)
+run_inside lines begin end low within =
+    let size = run_size lines begin end low within in
+    let after : begin + (end - begin) ≡ begin + length (take (end - begin) (drop begin lines)) = omega (arith, size) in (
+      omega (arith, size, low, within),
+      sym (ap (λ bs. take (end - begin) (drop begin lines) ++ bs)
+          (sym (drop-drop (end - begin) begin lines ∙ ap (λ n. drop n lines) after))
+          ∙ take-append-drop (end - begin) (drop begin lines)),
+    )
+
+-- it stands for the parts that it joins
+pub run_joined : (lines : List ℕ) (all left : List Part) (begin end : ℕ) → begin ≤ end → end ≤ length lines
+    → flat_map text_of all ≡ take (end - begin) (drop begin lines) ++ flat_map text_of left
+    → flat_map places_of all ≡ range_with_len begin (end - begin) ++ flat_map places_of left
+    → joined (run_part lines begin end ∷ left) ≡ joined all
+run_joined lines all left begin end low within text places =
+    let size = run_size lines begin end low within in
+    sym (ap (λ t. record { text = t; places = flat_map places_of all }) text
+    ∙ ap (λ ns. record { text = take (end - begin) (drop begin lines) ++ flat_map text_of left; places = ns })
+    (places ∙ ap (λ n. range_with_len begin n ++ flat_map places_of left) (sym size)))

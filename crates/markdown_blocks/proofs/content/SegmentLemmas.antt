@@ -269,6 +269,34 @@ module _ (lines : List ℕ) (parts : List Part) (text kept : List ℕ) (segments
       ∙ ap (λ ps. record { text = take n (flat_map text_of parts); places = ps })
       (sym (take-map-range_with_len (place_at (start 0) (segments_from 0 parts)) 0 whole n low) ∙ ap (take n) (places_all (start 0) 0 parts))
 
+-- what is built of the parts, where a segment for the first stands by itself
+module _ (lines : List ℕ) (p : Part) (parts : List Part) (text kept : List ℕ) (segments : List Segment) (n : ℕ)
+    (is : text ≡ flat_map text_of (p ∷ parts)) (segs : segments ≡ segments_from (length (text_of p)) parts) (cut : kept ≡ take n text)
+    (within : n ≤ length text) where
+  same_place : (offset : ℕ) → place_at (segment_of 0 p) segments offset ≡ place_at (start 0) (segments_from 0 (p ∷ parts)) offset
+  same_place offset =
+      let zero : length (text_of p) ≡ 0 + length (text_of p) = omega arith in
+      ap (λ ss. place_at (segment_of 0 p) ss offset) (segs ∙ ap (λ k. segments_from k parts) zero)
+      ∙ sym (first_reached (start 0) (segment_of 0 p) (segments_from (0 + length (text_of p)) parts) offset (omega arith))
+
+  pub begun_held : AllByRecursion (IsIn lines) (p ∷ parts) → length lines < 2 ^ 64 → Held [] kept (segment_of 0 p) segments
+  begun_held all small = record {
+    one = inl refl;
+    begins = refl;
+    rising = subst (Rising 0) (sym segs) (rising_parts (length (text_of p)) parts 0 (omega arith));
+    fits = λ offset low. omega (
+      arith,
+      same_place offset,
+      (built_held lines (p ∷ parts) text kept (segments_from 0 (p ∷ parts)) n is refl cut within all small).fits offset low,
+    );
+  }
+
+  pub begun_seen : seen kept (segment_of 0 p) segments ≡ front n (joined (p ∷ parts))
+  begun_seen =
+      ap (λ ps. record { text = kept; places = ps }) (range_same (place_at (segment_of 0 p) segments)
+      (place_at (start 0) (segments_from 0 (p ∷ parts))) 0 (length kept) (λ i low high. same_place i))
+      ∙ built_seen lines (p ∷ parts) text kept (segments_from 0 (p ∷ parts)) n is refl cut within
+
 -- what is lent, one run of the lines
 pub lent_seen : (run : List ℕ) (place n : ℕ) (parts : List Part) → n ≤ length run → IsRunAt run place parts
     → seen (take n run) (start place) [] ≡ front n (joined parts)

@@ -134,6 +134,22 @@ impl<'a> Parts<'a> {
         }
     }
 
+    /// The parts with the one before them that was read last.
+    pub(crate) fn with(self, part: LinePart<'a>) -> Parts<'a>
+        requires read { self.first ≡ None }
+        requires inside { IsIn self.lines.now (seen_part part) }
+        ensures parts { parts_left result ≡ seen_part part.entry ∷ parts_left self.entry }
+        ensures lines { result.lines.now ≡ self.entry.lines.now }
+    {
+        Parts {
+            lines: self.lines,
+            first: Some(part),
+            read: self.read,
+            count: self.count,
+            cut: self.cut,
+        }
+    }
+
     /// The next part. The others are left then.
     #[inline(always)]
     pub(crate) fn next(&mut self) -> Option<LinePart<'a>>
@@ -142,6 +158,7 @@ impl<'a> Parts<'a> {
         ensures none { IfNone result (parts_left self.old ≡ []) }
         ensures inside { IfSome result (λ part. IsIn self.old.lines.now (seen_part part)) }
         ensures lines { self.new.lines.now ≡ self.old.lines.now }
+        ensures read { self.new.first ≡ None }
     {
         if let Some(part) = self.first {
             self.first = None;

@@ -1,7 +1,7 @@
 use Rattle.std.proofs.Common.{◌≡◌, ◌∙◌, arith}
 use Rattle.markdown_blocks.specs.content.Left.{parts_left}
 use Rattle.markdown_blocks.specs.content.Seen.{seen_part}
-use Rattle.markdown_blocks.proofs.content.RunLemmas.{go_first, go_next, run_first, run_next}
+use Rattle.markdown_blocks.proofs.content.RunLemmas.{go_first, go_next, places_first, places_next, run_first, run_inside, run_joined, run_next}
 use Rattle.markdown_blocks.proofs.content.run_of.Goals as goal
 
 pub loop-next-init : goal.loop-next-init
@@ -15,6 +15,7 @@ loop-next-init c =
       run_first c.args.parts.lines.now (parts_left c.args.parts) (parts_left c.next.new.self) p none inside c.in-Some.ensures.some,
       (go_first (parts_left c.args.parts) (parts_left c.next.new.self) p none c.in-Some.ensures.some).0,
       (go_first (parts_left c.args.parts) (parts_left c.next.new.self) p none c.in-Some.ensures.some).1,
+      places_first (parts_left c.args.parts) (parts_left c.next.new.self) p none c.in-Some.ensures.some,
     )
 
 pub loop-next-preserved : goal.loop-next-preserved
@@ -30,4 +31,10 @@ loop-next-preserved c =
           c.if-next-end.false inside l.invariant.1 c.in-Some-next.ensures.some l.invariant.3,
       λ on. l.invariant.4 ((go_next (parts_left l.rest) (parts_left c.next-in-loop-next.new.self) p l.end none c.if-next-end.false c.in-Some-next.ensures.some).0 on),
       λ on. (go_next (parts_left l.rest) (parts_left c.next-in-loop-next.new.self) p l.end none c.if-next-end.false c.in-Some-next.ensures.some).1 (l.invariant.5 on),
+      places_next (parts_left c.args.parts) (parts_left l.rest) (parts_left c.next-in-loop-next.new.self) p c.in-Some.part.place l.end none
+          c.if-next-end.false l.invariant.1 c.in-Some-next.ensures.some l.invariant.6,
     )
+
+pub returns-then-next-gt0-clause-inside : goal.returns-then-next-gt0-clause-inside
+returns-then-next-gt0-clause-inside c =
+    run_inside c.args.parts.lines.now c.in-Some.part.place c.loop-next.end c.loop-next.invariant.1 c.loop-next.invariant.2
