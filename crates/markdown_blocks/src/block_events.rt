@@ -176,8 +176,11 @@ impl<'a> BlockEvents<'a> {
         }
     }
 
-    // The next container that ends or begins, if there is one.
-    fn next_container(&mut self, containers: &[Container]) -> Option<BlockEvent<'a>>
+    /// The next container that ends or begins, if there is one.
+    ///
+    /// It is inlined, since most blocks have none.
+    #[inline(always)]
+    pub fn next_container(&mut self, containers: &[Container]) -> Option<BlockEvent<'a>>
         ensures event { IfSome result (λ event. (content : List ℕ) (later : List Event)
             → GivesBlock containers.now content self.new later
             → GivesBlock containers.now content self.old (seen_event event ∷ later)) }
@@ -186,6 +189,7 @@ impl<'a> BlockEvents<'a> {
         ensures used { IfSome result (λ event. (content : List ℕ)
             → IsUsedBy content self.old.used (seen_event event) self.new.used) }
         ensures same { self.new.used ≡ self.old.used }
+        ensures part { self.new.part ≡ self.old.part }
         ensures none { IfNone result (self.new ≡ self.old) }
         ensures ended { IfNone result (self.old.ending ≡ 0) }
         ensures begun { IfNone result (length containers.now ≤ self.old.begun) }
@@ -282,6 +286,13 @@ impl<'a> BlockEvents<'a> {
         self.used += found.bytes;
         let leaf = self.take_lines(BlockKind::Definition, found.lines, containers);
         Ok(Some(leaf))
+    }
+
+    /// All that is left, as a leaf block of the block's own kind.
+    pub fn whole(self) -> Leaf<'a>
+        ensures { seen_leaf result ≡ leaf_of self.entry.kind self.entry.part }
+    {
+        self.leaf
     }
 
     // Takes all that is left, as a leaf block of the block's own kind.

@@ -1,5 +1,5 @@
 //! The blocks of a page and its link reference definitions, read in one pass.
-ghost use Rattle.std.specs.Prelude.{◌≡◌, ◌++◌, List, ℕ, drop, map, replicate, IfOk, OnOk};
+ghost use Rattle.std.specs.Prelude.{◌≡◌, ◌++◌, ◌<◌, ◌≤◌, List, ℕ, drop, length, map, replicate, IfOk, OnOk};
 ghost use Rattle.markdown_blocks.specs.events.Events.{Event, IsEventsOf, ends, seen_event};
 ghost use Rattle.markdown_blocks.specs.events.Given.{GivesBlock};
 ghost use Rattle.markdown_blocks.specs.link_definitions.LinkDefinitions.{Named, Names, HasDefinitions, first_of, known_as, known_before};
@@ -62,6 +62,54 @@ fn read_bytes<'a>(
 
 // Adds the events of a block, in these containers and with this content, and its definitions.
 fn push_events<'a>(
+    blocks: &mut Vec<BlockEvent<'a>>,
+    known: &mut LinkDefinitions<'a>,
+    containers: &[Container],
+    content: &[u8],
+    mut events: BlockEvents<'a>,
+) -> Result<(), AllocError>
+    requires some { 0 < length events.part.lines }
+    ensures events { OnOk result ((given : List Event)
+        × GivesBlock containers.now content.now events.entry given
+        × (map seen_event blocks.new.items ≡ map seen_event blocks.old.items ++ given)) }
+    ensures named { OnOk result ((named : List Named)
+        × Names (drop events.entry.used content.now) named
+        × ((asked : List ℕ) → known_as known.new asked ≡ known_before known.old named asked)) }
+{
+    push_containers(blocks, containers, &mut events)?;
+    // Most blocks are one leaf block.
+    if content.is_empty() {
+        blocks.push(BlockEvent::Block(events.whole()))?;
+        return Ok(());
+    }
+    push_leaves(blocks, known, containers, content, events)?;
+    Ok(())
+}
+
+// Adds the events of the containers that end and begin with a block.
+fn push_containers<'a>(
+    blocks: &mut Vec<BlockEvent<'a>>,
+    containers: &[Container],
+    events: &mut BlockEvents<'a>,
+) -> Result<(), AllocError>
+    ensures events { OnOk result ((content : List ℕ) (later : List Event)
+        → GivesBlock containers.now content events.new later → (given : List Event)
+        × GivesBlock containers.now content events.old given
+        × (map seen_event blocks.new.items ++ later ≡ map seen_event blocks.old.items ++ given)) }
+    ensures ended { OnOk result (events.new.ending ≡ 0) }
+    ensures begun { OnOk result (length containers.now ≤ events.new.begun) }
+    ensures used { OnOk result (events.new.used ≡ events.old.used) }
+    ensures part { OnOk result (events.new.part ≡ events.old.part) }
+{
+    while let Some(event) = events.next_container(containers) {
+        blocks.push(event)?;
+    }
+    Ok(())
+}
+
+// Adds the events of a block that are left, in these containers and with this content, and its
+// definitions.
+fn push_leaves<'a>(
     blocks: &mut Vec<BlockEvent<'a>>,
     known: &mut LinkDefinitions<'a>,
     containers: &[Container],

@@ -1,15 +1,22 @@
 -- The events of a page whose blocks are read one after another.
-use Rattle.std.proofs.Common.{ℕ, List, [], ◌++◌, ◌+◌, ◌≡◌, length, drop, refl, sym, ap, ◌∙◌, append_assoc}
+use Rattle.std.proofs.Common.{ℕ, List, [], ◌∷◌, ◌++◌, ◌+◌, ◌<◌, ◌≤◌, ◌≡◌, length, drop, map, refl, sym, ap, ◌∙◌, append_assoc, arith, inr}
 use Rattle.std.specs.Prelude.{None, replicate}
+use Rattle.std.proofs.lemmas.List.{drop_all, length-drop}
+use Rattle.markdown_scanners_tree.specs.scanners.TextLines.{lines_of}
+use Rattle.markdown_scanners_tree.specs.declared.scanners.reference_definitions.ReferenceDefinition.{ReferenceDefinition}
 use Rattle.markdown_blocks.specs.blocks.Pages.{root}
 use Rattle.markdown_blocks.specs.containers.Containers.{Between}
 use Rattle.markdown_blocks.specs.declared.containers.BlockExtensions.{BlockExtensions}
 use Rattle.markdown_blocks.specs.declared.step.Step.{Step}
 use Rattle.markdown_blocks.specs.declared.taken.Taken.{Taken}
-use Rattle.markdown_blocks.specs.events.Events.{Event, IsEventsOf, ends, open_after}
-use Rattle.markdown_blocks.specs.events.Given.{Gives, GivesBlock, Left, block_left}
+use Rattle.markdown_blocks.specs.declared.containers.Container.{Container}
+use Rattle.markdown_blocks.specs.definitions.Definitions.{IsDefinition}
+use Rattle.markdown_blocks.specs.events.Events.{Event, IsEventsOf, LeafBlock, ends, leaf, leaf_of, open_after, started}
+use Rattle.markdown_blocks.specs.events.Given.{BlockLeft, Gives, GivesBlock, Left, block_left}
 use Rattle.markdown_blocks.specs.walk.Walk.{IsStep, IsContentOf}
+use Rattle.markdown_blocks.proofs.definitions.DefinitionLemmas.{no_text}
 use Rattle.markdown_blocks.proofs.events.EventLemmas.{block_read, ended_page}
+use Rattle.markdown_blocks.proofs.whole.WholeLemmas.{some_lines}
 
 -- how far a page is read where no block is, and all open containers have begun
 abbrev pub from_here : Between → List ℕ → ℕ → ℕ → Left
@@ -59,3 +66,30 @@ block_given old new lines step s before content gathered here later given g =
 pub all_end : (open_now : Between) (text : List ℕ) (line start : ℕ) → text ≡ []
     → Gives (from_here open_now text line start) (replicate (length open_now.containers) ends)
 all_end open_now text line start last = ended_page text open_now.extensions open_now.containers open_now.term line start (length open_now.containers) last
+
+-- no definition stands in no content
+pub none_in_nothing : (content : List ℕ) → length content ≡ 0 → (d : ReferenceDefinition) → ¬ IsDefinition content d
+none_in_nothing [] none = no_text
+none_in_nothing (b ∷ bytes) none = absurd (omega (arith, none))
+
+-- the event of a block of which one leaf block is left
+pub leaf_given : (outer : List Container) (content : List ℕ) (left : BlockLeft) (block : LeafBlock) → length content ≡ 0
+    → left.ending ≡ 0 → length outer ≤ left.begun → 0 < length left.part.lines → block ≡ leaf_of left.kind left.part
+    → GivesBlock outer content left (leaf block ∷ [])
+leaf_given outer content left block nothing ended begun some is = record {
+  leaves = block ∷ [];
+  are_leaves = (
+    λ none. omega (arith, some, ap length none),
+    inr (none_in_nothing (drop left.used content) (omega (arith, nothing, length-drop left.used content)), is, refl),
+  );
+  given = sym (ap (λ n. replicate n ends ++ started left.front left.place (drop left.begun outer) ++ map leaf (block ∷ [])) ended
+      ∙ ap (λ cs. started left.front left.place cs ++ map leaf (block ∷ [])) (drop_all left.begun outer begun));
+}
+
+-- a block has a line
+pub some_line : (step : Step) → 0 < step.block.taken.bytes → 0 < length (lines_of step.lines.now)
+some_line step some = by (lines_of step.lines.now) refl
+  where
+    by : (lines : List (List ℕ)) → lines_of step.lines.now ≡ lines → 0 < length lines
+    by [] none = absurd (omega (arith, some, step.bytes, ap length (some_lines step.lines.now none)))
+    by (line ∷ lines) is = omega arith

@@ -1,40 +1,41 @@
-use Rattle.std.proofs.Common.{[], ◌∷◌, ◌++◌, ◌∙◌, map, refl, sym, ap, append-nil, append_assoc}
-use Rattle.std.proofs.lemmas.List.{map-append}
-use Rattle.markdown_blocks.specs.events.Events.{seen_event}
-use Rattle.markdown_blocks.proofs.link_definitions.NamedLemmas.{none_added, added_both, added_before}
+use Rattle.std.proofs.Common.{[], ◌∷◌, ◌++◌, ◌<◌, ◌≡◌, ◌∙◌, drop, length, map, sym, ap, subst, arith}
+use Rattle.std.proofs.lemmas.Bool.{eqb-true}
+use Rattle.std.proofs.lemmas.List.{length-drop, map-append}
+use Rattle.markdown_blocks.specs.events.Events.{leaf, seen_event, seen_leaf}
+use Rattle.markdown_blocks.specs.link_definitions.LinkDefinitions.{Names}
+use Rattle.markdown_blocks.proofs.link_definitions.NamedLemmas.{none_later, none_named}
+use Rattle.markdown_events.proofs.page.blocks_of.ReadLemmas.{leaf_given, none_in_nothing}
 use Rattle.markdown_events.proofs.page.blocks_of.push_events.Goals as goal
 
-pub loop-event-init : goal.loop-event-init
-loop-event-init c = record {
-  are_given = λ later gives. (later, gives, refl);
-  are_added = none_added _ _ c.args.content.now _ _ refl refl;
-}
+pub returns-then-is_empty-clause-events : goal.returns-then-is_empty-clause-events
+returns-then-is_empty-clause-events c =
+    let content = c.args.content.now in
+    let nothing : length content ≡ 0 = eqb-true (length content) 0 (sym c.is_empty.ensures ∙ c.if-is_empty.true) in
+    let before = c.in_ok-push_containers.ensures in
+    let left = c.push_containers.new.events in
+    let block = seen_leaf c.whole.result in
+    let whole = leaf_given c.args.containers.now content left block nothing before.ended before.begun
+    (subst (λ part. 0 < length part.lines) (sym before.part) c.requires.some) c.whole.ensures in
+    let given = before.events content (leaf block ∷ []) whole in (
+      given.0,
+      given.1,
+      ap (map seen_event) c.in_ok-push.ensures.items ∙ map-append seen_event c.push_containers.new.blocks.items (_ ∷ []) ∙ given.2,
+    )
 
-pub loop-event-preserved : goal.loop-event-preserved
-loop-event-preserved c =
-    let event = rw c.in-Some.is at c.in_ok-event.ensures.event in
-    record {
-      are_given = λ later gives.
-          let whole = c.loop-event.invariant.are_given (seen_event c.in-Some.event ∷ later) (event later gives) in (
-            whole.0,
-            whole.1,
-            ap (λ es. map seen_event es ++ later) c.in_ok-push.ensures.items
-                ∙ ap (λ es. es ++ later) (map-append seen_event c.loop-event.blocks.items (c.in-Some.event ∷ []))
-                ∙ append_assoc (map seen_event c.loop-event.blocks.items) (seen_event c.in-Some.event ∷ []) later ∙ whole.2,
-          );
-      are_added = added_both _ _ _ c.args.content.now _ _ _ c.loop-event.invariant.are_added c.in_ok-event.ensures.added;
-    }
+pub returns-then-is_empty-clause-named : goal.returns-then-is_empty-clause-named
+returns-then-is_empty-clause-named c =
+    let content = c.args.content.now in
+    let nothing : length content ≡ 0 = eqb-true (length content) 0 (sym c.is_empty.ensures ∙ c.if-is_empty.true) in
+    let rest = drop c.args.events.used content in
+    ([], none_named rest (none_in_nothing rest (omega (arith, nothing, length-drop c.args.events.used content))), none_later c.args.known.now)
 
 pub returns-clause-events : goal.returns-clause-events
 returns-clause-events c =
-    let whole = c.loop-event.invariant.are_given [] (rw c.in_default.is at c.in_ok-event.ensures.none) in
-    (whole.0, whole.1, sym (append-nil (map seen_event c.loop-event.blocks.items)) ∙ whole.2)
+    let rest = c.in_ok-push_leaves.ensures.events in
+    let given = c.in_ok-push_containers.ensures.events c.args.content.now rest.0 rest.1 in
+    (given.0, given.1, rest.2 ∙ given.2)
 
 pub returns-clause-named : goal.returns-clause-named
 returns-clause-named c =
-    let before = added_both _ _ _ c.args.content.now _ _ _ c.loop-event.invariant.are_added c.in_ok-event.ensures.added in
-    let rest = rw c.content_left.ensures at c.in_ok-add_content.ensures.added in (
-      before.0 ++ rest.0,
-      before.1 rest.0 rest.1,
-      λ asked. rest.2 asked ∙ added_before _ _ before.0 rest.0 asked (before.2 asked),
-    )
+    let rest = c.in_ok-push_leaves.ensures.named in
+    (rest.0, subst (λ n. Names (drop n c.args.content.now) rest.0) c.in_ok-push_containers.ensures.used rest.1, rest.2)

@@ -1,10 +1,11 @@
-use Rattle.std.proofs.Common.{[], ◌++◌, ◌∙◌, length, drop, map, replicate, refl, sym, ap, subst, arith, append_assoc}
+use Rattle.std.proofs.Common.{[], ◌++◌, ◌<◌, ◌∙◌, length, drop, map, replicate, refl, sym, ap, subst, arith, append_assoc}
 use Rattle.std.proofs.lemmas.List.{drop-drop, length-drop}
 use Rattle.markdown_blocks.specs.events.Events.{IsEventsOf, ends, seen_event}
+use Rattle.markdown_blocks.specs.events.Given.{BlockLeft}
 use Rattle.markdown_blocks.specs.link_definitions.LinkDefinitions.{known_as}
 use Rattle.markdown_blocks.proofs.taken.TakenLemmas.{slice_behind}
 use Rattle.markdown_blocks.proofs.link_definitions.NamedLemmas.{none_left, whole_page, block_named, none_later, added_before}
-use Rattle.markdown_events.proofs.page.blocks_of.ReadLemmas.{all_end, block_given, whole_page as whole_events}
+use Rattle.markdown_events.proofs.page.blocks_of.ReadLemmas.{all_end, block_given, some_line, whole_page as whole_events}
 use Rattle.markdown_events.proofs.page.blocks_of.read_bytes.Goals as goal
 
 pub loop-content-init : goal.loop-content-init
@@ -19,6 +20,12 @@ loop-content-init c = record {
     whole_page c.args.extensions c.args.page.now later (rw c.new_ext-walk.ensures.none at left),
     λ label. rw c.new-known.ensures.none refl,
   );
+}
+
+pub push_events-requires : goal.push_events-requires
+push_events-requires c = record {
+  some = subst (λ (left : BlockLeft). 0 < length left.part.lines) (sym c.new-events.ensures)
+      (some_line c.in-Some.step (rw c.in-Some.is at c.in_ok-step.ensures.some));
 }
 
 pub loop-content-preserved : goal.loop-content-preserved

@@ -2,7 +2,7 @@ use Rattle.std.proofs.Common.{List, ◌≡◌, ◌++◌, map}
 use Rattle.markdown_blocks.specs.events.Events.{Event, seen_event}
 use Rattle.markdown_blocks.specs.events.Given.{GivesBlock, block_events_left}
 use Rattle.markdown_blocks.specs.link_definitions.LinkDefinitions.{AreAddedBetween}
-use Rattle.markdown_events.proofs.page.blocks_of.push_events.Given as goal
+use Rattle.markdown_events.proofs.page.blocks_of.push_leaves.Given as goal
 
 -- whatever events are left, the block gives those that are added and these; and the definitions of those are added
 abbrev pub invariant-loop-event : goal.invariant-loop-event
