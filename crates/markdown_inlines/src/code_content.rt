@@ -10,10 +10,20 @@ ghost use Rattle.markdown_scanners_tree.specs.Bytes.{is_line_ending};
 ghost use Rattle.markdown_scanners_tree.specs.scanners.reference_definitions.ReferenceDefinition.{IsCutAt};
 ghost use Rattle.markdown_inlines.specs.CodeContent.{as_space, with_spaces, without_padding, code_text};
 
+use markdown_scanners_tree::byte_sets::ByteSet;
 use markdown_scanners_tree::scanners::line_head;
 use markdown_values::strings::CowStr;
 use std::alloc::{AllocError, Global};
 use std::ops::Range;
+
+// CR and LF.
+const LINE_ENDINGS: ByteSet = ByteSet {
+    low: [0, 0, 0, 0, 0, 0, 0, 0, 0, 0, 1, 0, 0, 1, 0, 0],
+    high: [1, 0, 0, 0, 0, 0, 0, 0, 0, 0, 0, 0, 0, 0, 0, 0],
+};
+
+// Of how many bytes it costs less to ask of 16 at a time.
+const FEW: usize = 16;
 
 /// The text of a code span with this content between its backtick strings: line endings are spaces,
 /// and one space is left out at each end, if the content has one at both and more than spaces.
@@ -36,6 +46,16 @@ pub fn code_text<'a>(alloc: Global, content: &'a str) -> Result<CowStr<'a>, Allo
     if !has_line_ending(content.as_bytes()) {
         return Ok(CowStr::from(text));
     }
+    spaced_text(alloc, text)
+}
+
+// The text with its line endings as spaces, in memory of its own. It is not inlined, so that the
+// texts without line endings cost less.
+#[inline(never)]
+fn spaced_text(alloc: Global, text: &str) -> Result<CowStr<'static>, AllocError>
+    ensures text { IfOk result (λ spaced. cow_text spaced ≡ with_spaces text.now) }
+    ensures boxed { IfOk result IsBoxed }
+{
     let mut spaced = String::with_capacity(alloc, spaced_len(text.as_bytes()))?;
     push_spaced(&mut spaced, text)?;
     CowStr::from_string(alloc, spaced)
@@ -43,6 +63,16 @@ pub fn code_text<'a>(alloc: Global, content: &'a str) -> Result<CowStr<'a>, Allo
 
 // Whether a line ends in the bytes.
 fn has_line_ending(bytes: &[u8]) -> bool
+    ensures { result ≡ list_any is_line_ending bytes.now }
+{
+    if bytes.len() < FEW {
+        return few_have_ending(bytes);
+    }
+    LINE_ENDINGS.len_outside(bytes) < bytes.len()
+}
+
+// The same of bytes of which it is asked one by one.
+fn few_have_ending(bytes: &[u8]) -> bool
     ensures { result ≡ list_any is_line_ending bytes.now }
 {
     bytes.iter().any(|b| ends_line(*b))

@@ -5,7 +5,7 @@ use Rattle.std.proofs.Common.{one-add, append_assoc}
 use Rattle.std.specs.Prelude.{slice_range}
 use Rattle.std.specs.List.{list_all, list_any, prefix_len}
 use Rattle.std.specs.Str.{IsUtf8, IsCharBoundary}
-use Rattle.std.proofs.lemmas.Bool.{cases_Bool, cases_lt, eqb-true, lt-ltb, ltb-true}
+use Rattle.std.proofs.lemmas.Bool.{cases_Bool, cases_lt, eqb-true, le-ltb, lt-ltb, ltb-true}
 use Rattle.std.proofs.lemmas.List.{length-append, length-take, length-drop, get_or-take, get_or-drop, nil_from_length, drop-drop}
 use Rattle.std.proofs.lemmas.List.Folds.{length-prefix_len}
 use Rattle.std.proofs.lemmas.Str.{IsCharBoundary-before_ascii, IsCharBoundary-after_ascii, IsCharBoundary-end}
@@ -393,3 +393,17 @@ module _ (text : List ℕ) (place head : ℕ) (within : place ≤ length text) (
       ∙ second ∙ ap (λ m. m ++ with_spaces rest) (first ∙ ap (λ t. before ++ t) front)
       ∙ append_assoc before (line_head line) (with_spaces rest)
       ∙ ap (λ t. before ++ t) kept
+
+suc_lt : (a b : ℕ) → nat_lt (suc a) (suc b) ≡ nat_lt a b
+suc_lt a b = elim (cases_lt a b) [
+  | inl less ↦ lt-ltb (suc a) (suc b) (omega (arith, less)) ∙ sym (lt-ltb a b less)
+  | inr not_less ↦ le-ltb (suc a) (suc b) (omega (arith, not_less)) ∙ sym (le-ltb a b not_less)
+]
+
+-- some byte passes a test where those at the front that don't are not all
+pub some_stops : (p : ℕ → Bool) (xs : List ℕ) → nat_lt (prefix_len (λ b. not (p b)) xs) (length xs) ≡ list_any p xs
+some_stops p [] = refl
+some_stops p (x ∷ xs) = elim (cases_Bool (p x)) [
+  | inl passes ↦ rw passes (lt-ltb 0 (suc (length xs)) (omega arith))
+  | inr fails ↦ rw (fails, one-add) (suc_lt (prefix_len (λ b. not (p b)) xs) (length xs) ∙ some_stops p xs)
+]
