@@ -17,6 +17,7 @@ pub mod Nesting
 pub mod Output
 pub mod PieceBytes
 pub mod Pieces
+pub mod PlainLabels
 pub mod Readings
 pub mod Searches
 pub mod Sources

@@ -22,6 +22,7 @@ pub mod marks;
 mod piece_at;
 mod piece_scanner;
 pub mod pieces;
+mod plain_labels;
 mod reading;
 mod searches;
 mod wiki_links;

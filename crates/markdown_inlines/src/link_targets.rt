@@ -13,6 +13,7 @@ ghost use Rattle.markdown_inlines.specs.declared.links.LinkTarget.TheVariants.{F
 
 use crate::link_tails::scan_link_tail;
 use crate::links::{Labels, LinkTarget};
+use crate::plain_labels::scan_plain_label;
 use markdown_scanners_tree::linklabel::scan_link_label_rest;
 use markdown_values::strings::CowStr;
 use std::alloc::{AllocError, Global};
@@ -183,6 +184,29 @@ pub fn scan_label<'t>(
         → ¬ IsLabelAt text.entry.now from close name)) }
 
     // Its bracket is in the text, which may be cut after it.
+    ensures within { IfOk result (λ found. IfSome found (λ r.
+        (from ≤ r.0) × (r.0 < length text.entry.now))) }
+    ensures boundary { IfOk result (λ found. IfSome found (λ r.
+        IsCharBoundary text.entry.now (r.0 + 1))) }
+{
+    let (_, rest) = text.split_at(from);
+    match scan_plain_label(rest.as_bytes()) {
+        Some(len) => Ok(Some((from + len, CowStr::from(&rest[..len])))),
+        None => scan_any_label(alloc, text, from),
+    }
+}
+
+// The same, however the label is written.
+fn scan_any_label<'t>(
+    alloc: Global,
+    text: &'t str,
+    from: usize,
+) -> Result<Option<(usize, CowStr<'t>)>, AllocError>
+    requires { IsCharBoundary text.now from }
+    ensures found { IfOk result (λ found. IfSome found (λ r.
+        IsLabelAt text.entry.now from r.0 (cow_text r.1))) }
+    ensures none { IfOk result (λ found. IfNone found ((close : ℕ) (name : List ℕ)
+        → ¬ IsLabelAt text.entry.now from close name)) }
     ensures within { IfOk result (λ found. IfSome found (λ r.
         (from ≤ r.0) × (r.0 < length text.entry.now))) }
     ensures boundary { IfOk result (λ found. IfSome found (λ r.
