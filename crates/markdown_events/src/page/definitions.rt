@@ -7,7 +7,7 @@ ghost use Rattle.markdown_events.specs.Meanings.{IsTargetMeaning};
 ghost use Rattle.markdown_events.specs.Targets.{or_else, seen_target};
 
 use crate::definitions::{Definitions, Target};
-use crate::parts::meaning_of;
+use crate::parts::{meaning_of, text_of};
 use markdown_blocks::link_definitions::{KnownDefinitions, LinkDefinition, LinkDefinitions};
 use markdown_values::strings::CowStr;
 use std::alloc::{AllocError, Global};
@@ -160,6 +160,10 @@ fn copy_of(alloc: Global, bytes: &[u8]) -> Result<CowStr<'static>, AllocError>
 fn text_in(bytes: &[u8]) -> Result<&str, AllocError>
     ensures { IfOk result (λ text. text.now ≡ bytes.now) }
 {
+    // Most texts are ASCII, of which it costs little to tell.
+    if bytes.is_ascii() {
+        return Ok(text_of(bytes));
+    }
     match from_utf8(bytes) {
         Ok(text) => Ok(text),
         // Not reached: the page is UTF-8, and definitions are cut at ASCII bytes.
