@@ -196,7 +196,8 @@ pub fn scan_label<'t>(
     }
 }
 
-// The same, however the label is written.
+// The same, however the label is written. It is not inlined, so that most labels cost less.
+#[inline(never)]
 fn scan_any_label<'t>(
     alloc: Global,
     text: &'t str,
