@@ -1,1 +1,2 @@
 pub mod CodeContentLemmas
+pub mod EightLanes

@@ -15,6 +15,7 @@ use markdown_scanners_tree::scanners::line_head;
 use markdown_values::strings::CowStr;
 use std::alloc::{AllocError, Global};
 use std::ops::Range;
+use std::simd::prelude::*;
 
 // CR and LF.
 const LINE_ENDINGS: ByteSet = ByteSet {
@@ -22,8 +23,10 @@ const LINE_ENDINGS: ByteSet = ByteSet {
     high: [1, 0, 0, 0, 0, 0, 0, 0, 0, 0, 0, 0, 0, 0, 0, 0],
 };
 
-// Of how many bytes it costs less to ask of 16 at a time.
-const FEW: usize = 16;
+// Of how many bytes it costs less to ask of 8 at a time, and of how many of 16.
+const EIGHT: usize = 8;
+
+const SIXTEEN: usize = 16;
 
 /// The text of a code span with this content between its backtick strings: line endings are spaces,
 /// and one space is left out at each end, if the content has one at both and more than spaces.
@@ -65,10 +68,34 @@ fn spaced_text(alloc: Global, text: &str) -> Result<CowStr<'static>, AllocError>
 fn has_line_ending(bytes: &[u8]) -> bool
     ensures { result ≡ list_any is_line_ending bytes.now }
 {
-    if bytes.len() < FEW {
+    if bytes.len() < EIGHT {
         return few_have_ending(bytes);
     }
+    if bytes.len() < SIXTEEN {
+        return some_have_ending(bytes);
+    }
     LINE_ENDINGS.len_outside(bytes) < bytes.len()
+}
+
+// The same of 8 to 16 bytes: the first 8 of them and the last 8, some of which may be both.
+fn some_have_ending(bytes: &[u8]) -> bool
+    requires many { EIGHT ≤ length bytes.now }
+    requires few { length bytes.now ≤ SIXTEEN }
+    ensures { result ≡ list_any is_line_ending bytes.now }
+{
+    let first = eight_have_ending(bytes);
+    let last = eight_have_ending(&bytes[bytes.len() - EIGHT..]);
+    first || last
+}
+
+// Whether a line ends in the first 8 bytes.
+fn eight_have_ending(bytes: &[u8]) -> bool
+    requires { EIGHT ≤ length bytes.now }
+    ensures { result ≡ list_any is_line_ending (take EIGHT bytes.now) }
+{
+    let lanes = u8x8::from_slice(bytes);
+    let is_ending = lanes.simd_eq(u8x8::splat(b'\n')) | lanes.simd_eq(u8x8::splat(b'\r'));
+    is_ending.to_bitmask() != 0
 }
 
 // The same of bytes of which it is asked one by one.
