@@ -1,5 +1,5 @@
 -- Labels that stand in a text as they are. (CommonMark 0.31.2, section 6.3, link labels)
-use Rattle.std.specs.Prelude.{ℕ, true, false, ◌+◌, ◌<◌, ◌≤◌, ◌≡◌, List, get_or, length, take}
+use Rattle.std.specs.Prelude.{ℕ, true, false, ◌+◌, ◌<◌, ◌≤◌, ◌≡◌, List, get_or, take}
 use Rattle.markdown_scanners_tree.specs.Ascii.{space}
 use Rattle.markdown_scanners_tree.specs.NoSkips.{SkipsNothing}
 use Rattle.markdown_scanners_tree.specs.linklabel.Label.{Label, IsLabel}

@@ -1,8 +1,8 @@
 //! What follows the text of an inline link or image. (CommonMark 0.31.2, section 6.3)
-ghost use Rattle.std.specs.Prelude.{◌≡◌, ◌==◌, ◌+◌, ◌-◌, ◌<◌, ◌≤◌, length, IsTrue, IfSome};
+ghost use Rattle.std.specs.Prelude.{◌≡◌, ◌==◌, ◌||◌, ◌+◌, ◌-◌, ◌<◌, ◌≤◌, length, IsTrue, IfSome};
 ghost use Rattle.std.specs.Str.{IsUtf8, IsCharBoundary};
 ghost use Rattle.markdown_scanners_tree.specs.Ascii.{left_parenthesis, right_parenthesis};
-ghost use Rattle.markdown_scanners_tree.specs.Bytes.{begins_with};
+ghost use Rattle.markdown_scanners_tree.specs.Bytes.{begins_with, is_line_ending, is_space_or_tab};
 ghost use Rattle.markdown_scanners_tree.specs.SomeExactly.{SomeExactly, IsOnly};
 ghost use Rattle.markdown_scanners_tree.specs.scanners.reference_definitions.ReferenceDefinition.{IsCutAt};
 ghost use Rattle.markdown_scanners_tree.specs.scanners.reference_definitions.private.GapLength.{gap_length};
@@ -166,8 +166,41 @@ fn is_closed(bytes: &[u8]) -> bool
     matches!(bytes, [b')', ..])
 }
 
-// The length of the spaces and tabs at the front, including up to one line ending.
+// The length of the spaces and tabs at the front, including up to one line ending. Most often there
+// are none, which one look tells.
+#[inline(always)]
 fn gap_len(bytes: &[u8]) -> usize
+    ensures gap { result ≡ gap_length bytes.now }
+    ensures within { result ≤ length bytes.now }
+    ensures after { IsUtf8 bytes.now → IsCharBoundary bytes.now result }
+{
+    if begins_gap(bytes) {
+        some_gap_len(bytes)
+    } else {
+        0
+    }
+}
+
+// Whether a space, a tab or a line ending stands at the front.
+fn begins_gap(bytes: &[u8]) -> bool
+    ensures { result ≡ begins_with (λ b. is_space_or_tab b || is_line_ending b) bytes.now }
+{
+    match bytes {
+        [byte, ..] => opens_gap(*byte),
+        _ => false,
+    }
+}
+
+// Whether the byte is a space, a tab or a line ending.
+fn opens_gap(byte: u8) -> bool
+    ensures { result ≡ (is_space_or_tab byte || is_line_ending byte) }
+{
+    matches!(byte, b' ' | b'\t' | b'\n' | b'\r')
+}
+
+// The same, whatever stands at the front.
+#[inline(never)]
+fn some_gap_len(bytes: &[u8]) -> usize
     ensures gap { result ≡ gap_length bytes.now }
     ensures within { result ≤ length bytes.now }
     ensures after { IsUtf8 bytes.now → IsCharBoundary bytes.now result }

@@ -1,9 +1,9 @@
 -- A bare destination without parentheses and escapes is as long as the bytes that may stand in one.
-use Rattle.std.proofs.Common.{◌≡◌, ◌≢◌, ◌+◌, ◌<◌, ◌≤◌, ◌||◌, ◌&&◌, ◌==◌, not, nat_le, nat_lt, ℕ, zero, suc, Bool, true, false, cond, eqb}
-use Rattle.std.proofs.Common.{List, [], ◌∷◌, ◌++◌, take, drop, length, get_or, refl, sym, ap, subst, arith, ◌∙◌, inl, inr}
-use Rattle.std.specs.List.{concat, list_all, prefix_len}
+use Rattle.std.proofs.Common.{◌≡◌, ◌≢◌, ◌+◌, ◌<◌, ◌≤◌, ◌==◌, not, nat_le, nat_lt, ℕ, zero, suc, true, false, cond}
+use Rattle.std.proofs.Common.{List, [], ◌∷◌, ◌++◌, take, drop, length, refl, ap, subst, arith, ◌∙◌, inl, inr}
+use Rattle.std.specs.List.{list_all, prefix_len}
 use Rattle.std.proofs.lemmas.Bool.{and_from, and_parts, eqb-true, leb-true, lt-ltb, ltb-true, ne_eqb, or_cases}
-use Rattle.std.proofs.lemmas.List.{length-append, length-take-le, take-append-drop}
+use Rattle.std.proofs.lemmas.List.{length-take-le, take-append-drop}
 use Rattle.std.proofs.lemmas.List.Sums.{prefix_len-le-length, sum_by-cons}
 use Rattle.markdown_scanners_tree.proofs.PrefixLemmas.{list_all-prefix}
 use Rattle.markdown_scanners_tree.specs.scanners.Escapes.{units}
