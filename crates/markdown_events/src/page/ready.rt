@@ -10,7 +10,7 @@ use std::collections::VecDeque;
 use std::marker::Model;
 use std::mem;
 
-/// At most two events of containers and lists, and after them those of a leaf block.
+/// At most two events of containers and lists, or those of a leaf block.
 #[derive(Drop)]
 pub(crate) struct ReadyEvents<'a> {
     first: Option<Edge>,
@@ -19,7 +19,7 @@ pub(crate) struct ReadyEvents<'a> {
 }
 
 impl<'a> Model for ReadyEvents<'a> {
-    ghost use Rattle.std.specs.Prelude.{◌++◌, List, map};
+    ghost use Rattle.std.specs.Prelude.{◌≡◌, ◌<◌, ◌++◌, List, None, length, map};
     ghost use Rattle.std.specs.Option.{option_to_list};
     ghost use Rattle.markdown_events.specs.InlineEvents.{RangedEvent, seen_event};
     ghost use Rattle.markdown_events.specs.page.OpenElements.{edge_event};
@@ -28,6 +28,9 @@ impl<'a> Model for ReadyEvents<'a> {
 
     ghost view = { λ r. map edge_event (option_to_list r.first ++ option_to_list r.second)
         ++ map seen_event r.leaf.items };
+
+    // An event of a leaf block is the first, which is then taken without a look at the others.
+    ghost invariant = { λ r. 0 < length r.leaf.items → (r.first ≡ None) × (r.second ≡ None) };
 }
 
 impl<'a> ReadyEvents<'a> {
@@ -74,9 +77,6 @@ impl<'a> ReadyEvents<'a> {
         ensures event { IfSome result (λ event. self.old ≡ seen_event event ∷ self.new) }
         ensures unchanged { IfNone result (self.new ≡ self.old) }
     {
-        if self.first.is_some() || self.second.is_some() {
-            return None;
-        }
         self.leaf.pop_front()
     }
 
