@@ -29,6 +29,7 @@ use markdown_blocks::first_blocks::{FirstBlock, Task};
 use markdown_inlines::extensions::InlineExtensions;
 use markdown_values::values::{Event, Options};
 use std::alloc::{AllocError, Global};
+use std::collections::VecDeque;
 use std::marker::Model;
 use std::ops::Range;
 
@@ -381,7 +382,7 @@ impl<'a> EventReader<'a> {
         &mut self,
         block: Leaf<'a>,
         broken: &B,
-    ) -> Result<Vec<(Event<'a>, Range<usize>)>, AllocError>
+    ) -> Result<VecDeque<(Event<'a>, Range<usize>)>, AllocError>
         requires next { self.old.blocks ≡ leaf (seen_leaf block) ∷ drop 1 self.old.blocks }
         ensures events { IfOk result (λ events. AreBlockEvents self.old.page
             (setting_with (B.targets broken.now) self.old) (place_in self.old.elements)
@@ -444,7 +445,7 @@ impl<'a> EventReader<'a> {
     }
 
     // Makes the events of the leaf block that comes next ready, and passes it.
-    fn make_ready(&mut self, block: Leaf, events: Vec<(Event<'a>, Range<usize>)>)
+    fn make_ready(&mut self, block: Leaf, events: VecDeque<(Event<'a>, Range<usize>)>)
         requires waiting { self.old.ready ≡ [] }
         requires next { self.old.blocks ≡ leaf (seen_leaf block) ∷ drop 1 self.old.blocks }
         ensures ready { self.new ≡ left_with self.old (map seen_event events.entry.items)

@@ -17,7 +17,7 @@ ghost use Rattle.markdown_events.specs.page.Spans.{block_end};
 
 use crate::definitions::Definitions;
 use crate::elements::InlineMemory;
-use crate::page::element::element;
+use crate::page::element::block_element;
 use crate::page::leaf_content::{code_events, text_events};
 use crate::page::table_events::table_events;
 use crate::parts::{meaning_of, text_of};
@@ -29,6 +29,7 @@ use markdown_inlines::extensions::InlineExtensions;
 use markdown_values::strings::CowStr;
 use markdown_values::values::{CodeBlockKind, Event, HeadingLevel, Tag};
 use std::alloc::{AllocError, Global};
+use std::collections::VecDeque;
 use std::ops::Range;
 
 /// The events of a leaf block of a page, each with its range in the page. The block stands in these
@@ -44,7 +45,7 @@ pub(crate) fn leaf_events<'a, D: Definitions<'a>>(
     kept: usize,
     is_tight: bool,
     leaf: Leaf<'a>,
-) -> Result<Vec<(Event<'a>, Range<usize>)>, AllocError>
+) -> Result<VecDeque<(Event<'a>, Range<usize>)>, AllocError>
     requires cut_out { IsCutOut page.now (seen_leaf leaf) }
     requires fence { HasAsciiFence leaf.kind }
     requires text { HoldsText page.now containers.now kept (seen_leaf leaf) }
@@ -58,7 +59,7 @@ pub(crate) fn leaf_events<'a, D: Definitions<'a>>(
         → LieInBlock (seen_leaf leaf.entry) (map seen_event events.items)) }
 {
     match leaf.kind {
-        BlockKind::Blank | BlockKind::Definition => Ok(Vec::new(alloc)),
+        BlockKind::Blank | BlockKind::Definition => Ok(VecDeque::new(alloc)),
         BlockKind::Break => rule(alloc, leaf),
         BlockKind::Heading(level) | BlockKind::Setext(level) => {
             let inner = text_events(
@@ -121,14 +122,14 @@ pub(crate) fn has_no_events(kind: BlockKind) -> bool
 }
 
 // A thematic break. (4.1)
-fn rule<'a>(alloc: Global, leaf: Leaf) -> Result<Vec<(Event<'a>, Range<usize>)>, AllocError>
+fn rule<'a>(alloc: Global, leaf: Leaf) -> Result<VecDeque<(Event<'a>, Range<usize>)>, AllocError>
     ensures rule { IfOk result (λ events. map seen_event events.items
         ≡ ranged rule leaf.entry.place (block_end (seen_leaf leaf.entry)) ∷ []) }
     ensures within { IfOk result (λ events. HasPlace (seen_leaf leaf.entry)
         → LieInBlock (seen_leaf leaf.entry) (map seen_event events.items)) }
 {
-    let mut events = Vec::new(alloc);
-    events.push((Event::Rule, leaf.place..leaf.start + leaf.bytes))?;
+    let mut events = VecDeque::new(alloc);
+    events.push_back((Event::Rule, leaf.place..leaf.start + leaf.bytes))?;
     Ok(events)
 }
 
@@ -137,7 +138,7 @@ fn enclosed<'a>(
     tag: Tag<'a>,
     leaf: Leaf,
     inner: Vec<(Event<'a>, Range<usize>)>,
-) -> Result<Vec<(Event<'a>, Range<usize>)>, AllocError>
+) -> Result<VecDeque<(Event<'a>, Range<usize>)>, AllocError>
     ensures enclosed { IfOk result (λ events. map seen_event events.items
         ≡ enclosed (tag_view cow_text tag.entry) (seen_leaf leaf.entry)
         (map seen_event inner.entry.items)) }
@@ -145,7 +146,7 @@ fn enclosed<'a>(
         → LieInBlock (seen_leaf leaf.entry) (map seen_event inner.entry.items)
         → LieInBlock (seen_leaf leaf.entry) (map seen_event events.items)) }
 {
-    element(tag, leaf.place, leaf.start + leaf.bytes, inner)
+    block_element(tag, leaf.place, leaf.start + leaf.bytes, inner)
 }
 
 // Lines of code or HTML, between the start and the end of their block.
@@ -153,7 +154,7 @@ fn enclosed_lines<'a>(
     tag: Tag<'a>,
     leaf: Leaf,
     lines: Vec<(Event<'a>, Range<usize>)>,
-) -> Result<Vec<(Event<'a>, Range<usize>)>, AllocError>
+) -> Result<VecDeque<(Event<'a>, Range<usize>)>, AllocError>
     ensures enclosed { IfOk result (λ events. map seen_event events.items
         ≡ enclosed_lines (tag_view cow_text tag.entry) (seen_leaf leaf.entry)
         (map seen_event lines.entry.items)) }
@@ -162,7 +163,7 @@ fn enclosed_lines<'a>(
         → LieInBlock (seen_leaf leaf.entry) (map seen_event events.items)) }
 {
     let from = lines_place(leaf, &lines);
-    element(tag, from, leaf.start + leaf.bytes, lines)
+    block_element(tag, from, leaf.start + leaf.bytes, lines)
 }
 
 // Where a block of lines begins: with its text, or where its first line does. (2.2, 4.6)
@@ -180,7 +181,7 @@ pub(crate) fn in_paragraph<'a>(
     is_tight: bool,
     leaf: Leaf,
     inner: Vec<(Event<'a>, Range<usize>)>,
-) -> Result<Vec<(Event<'a>, Range<usize>)>, AllocError>
+) -> Result<VecDeque<(Event<'a>, Range<usize>)>, AllocError>
     ensures enclosed { IfOk result (λ events. map seen_event events.items
         ≡ in_paragraph is_tight (seen_leaf leaf.entry) (map seen_event inner.entry.items)) }
     ensures within { IfOk result (λ events. HasPlace (seen_leaf leaf.entry)
@@ -188,7 +189,7 @@ pub(crate) fn in_paragraph<'a>(
         → LieInBlock (seen_leaf leaf.entry) (map seen_event events.items)) }
 {
     if is_tight {
-        Ok(inner)
+        Ok(VecDeque::from(inner))
     } else {
         enclosed(Tag::Paragraph, leaf, inner)
     }

@@ -63,12 +63,12 @@ impl<'a> ReadyEvents<'a> {
 
     /// Makes the events of a leaf block ready. Answers the memory of those before, of which none is
     /// left.
-    pub(crate) fn put_events(&mut self, events: Vec<Ranged<'a>>) -> Vec<Ranged<'a>>
+    pub(crate) fn put_events(&mut self, events: VecDeque<Ranged<'a>>) -> Vec<Ranged<'a>>
         requires { self.old ≡ [] }
         ensures events { self.new ≡ map seen_event events.entry.items }
         ensures few { length self.new < 2 ^ 64 }
     {
-        Vec::from(mem::replace(&mut self.leaf, VecDeque::from(events)))
+        Vec::from(mem::replace(&mut self.leaf, events))
     }
 
     /// Takes the first, if it is one of a leaf block.

@@ -16,7 +16,7 @@ ghost use Rattle.markdown_events.specs.page.TableEvents.{AreCellEvents, AreRowEv
 use crate::definitions::Definitions;
 use crate::elements::InlineMemory;
 use crate::inline_events::source_events;
-use crate::page::element::{element, push_all};
+use crate::page::element::{block_element, element, push_all};
 use crate::page::leaf_content::{in_page, lines_in};
 use crate::page::source::Source;
 use markdown_blocks::cells::{Cell, Cells, cells_of};
@@ -28,6 +28,7 @@ use markdown_inlines::extensions::InlineExtensions;
 use markdown_scanners_tree::scanners::line_head;
 use markdown_values::values::{Event, Tag};
 use std::alloc::{AllocError, Global};
+use std::collections::VecDeque;
 use std::ops::Range;
 
 /// The events of a table with so many columns, each with its range in the page. Its first line goes
@@ -45,7 +46,7 @@ pub(crate) fn table_events<'a, D: Definitions<'a>>(
     kept: usize,
     leaf: Leaf,
     columns: usize,
-) -> Result<Vec<(Event<'a>, Range<usize>)>, AllocError>
+) -> Result<VecDeque<(Event<'a>, Range<usize>)>, AllocError>
     requires cut_out { IsCutOut page.now (seen_leaf leaf) }
     ensures events { IfOk result (λ events. (is_tight : Bool) → AreTableEvents page.now
         (record { asked = extensions; targets = D.targets definitions.now })
@@ -67,7 +68,7 @@ pub(crate) fn table_events<'a, D: Definitions<'a>>(
         columns,
         rows,
     )?;
-    element(
+    block_element(
         Tag::Table(alignments),
         leaf.place,
         leaf.start + leaf.bytes,

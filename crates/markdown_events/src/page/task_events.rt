@@ -26,6 +26,7 @@ use markdown_inlines::extensions::InlineExtensions;
 use markdown_scanners_tree::scanners::is_ascii_whitespace;
 use markdown_values::values::Event;
 use std::alloc::{AllocError, Global};
+use std::collections::VecDeque;
 use std::ops::Range;
 
 /// The events of a paragraph of a page with this task list marker: the marker, and the inlines of
@@ -42,7 +43,7 @@ pub(crate) fn task_events<'a, D: Definitions<'a>>(
     is_tight: bool,
     leaf: Leaf<'a>,
     task: Task,
-) -> Result<Vec<(Event<'a>, Range<usize>)>, AllocError>
+) -> Result<VecDeque<(Event<'a>, Range<usize>)>, AllocError>
     requires marker { HasMarker page.now containers.now kept (seen_leaf leaf) task }
     ensures events { IfOk result (λ events. AreTaskEvents page.now
         (record { asked = extensions; targets = D.targets definitions.now })
