@@ -62,7 +62,9 @@ impl<'a> Writer<'a> {
         ensures { OnOk result
             (self.new ≡ with_event (ranged (event_view cow_text event.entry) from to) self.old) }
     {
-        self.events.push((event, from..to))?;
+        // With room at hand the event is written where it stands, and not moved there.
+        self.events.reserve(1)?;
+        self.events.push_reserved((event, from..to));
         Ok(())
     }
 
@@ -72,11 +74,12 @@ impl<'a> Writer<'a> {
     {
         let end = tag.to_end();
         let index = self.events.len();
-        self.opened.push(Begun {
+        self.opened.reserve(1)?;
+        self.opened.push_reserved(Begun {
             tag: end,
             from,
             index,
-        })?;
+        });
         self.push(Event::Start(tag), from, 0)
     }
 

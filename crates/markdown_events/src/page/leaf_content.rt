@@ -31,6 +31,7 @@ use std::ops::Range;
 
 /// The events of the inlines of a leaf block, with their ranges in the page. Its first line goes on
 /// with `kept` of the containers.
+#[inline(always)]
 pub(crate) fn text_events<'a, D: Definitions<'a>>(
     alloc: Global,
     memory: &mut InlineMemory<'a>,
@@ -147,8 +148,10 @@ fn line_events<'a>(
     let mut from = 0;
     while from < text.len() {
         let to = from + scan_line(&text[from..]);
+        // With room at hand the event is written where it stands, and not moved there.
+        events.reserve(1)?;
         let line = source.part(alloc, from, to)?;
-        events.push((line_event(line, is_html), from..to))?;
+        events.push_reserved((line_event(line, is_html), from..to));
         from = to;
     }
     Ok(events)
@@ -166,6 +169,7 @@ fn line_event(line: CowStr<'_>, is_html: bool) -> Event<'_>
 
 /// Events of the content with their ranges in the page, in which so many bytes stand before its
 /// block.
+#[inline(always)]
 pub(crate) fn in_page<'a>(
     events: Vec<(Event<'a>, Range<usize>)>,
     before: usize,
@@ -183,6 +187,7 @@ pub(crate) fn in_page<'a>(
 
 // Moves the ranges of events from the content to the page, in which so many bytes stand before its
 // block.
+#[inline(always)]
 fn move_to_page(events: &mut [(Event, Range<usize>)], before: usize, content: &Content)
     requires places { CanPlace before content.now }
     requires within { EndWithin (length content.now.text) (map seen_event events.old) }
@@ -231,6 +236,7 @@ fn run_range(
 }
 
 // The same of any content. Ranges rise, and most are within a line, as the ranges before them are.
+#[inline(never)]
 fn move_runs(events: &mut [(Event, Range<usize>)], before: usize, content: &Content)
     requires fit { CanPlace before content.now }
     requires within { EndWithin (length content.now.text) (map seen_event events.old) }

@@ -20,7 +20,7 @@ pub loop-from-preserved : goal.loop-from-preserved
 loop-from-preserved c =
     let there = line_there c.args.source.now c.as_bytes-text.result.now c.loop-from.from c.scan_line.result
     (c.as_bytes-text.ensures.value ∙ c.text.ensures) c.loop-from-test.true c.scan_line.ensures.line c.scan_line.ensures.within in
-    rw c.in_ok-push.ensures.items (next_given c.args.is_html c.args.source.now c.loop-from.events.items c.loop-from.from c.scan_line.result
+    rw (c.push_reserved.ensures.items, c.reserve.ensures.items) (next_given c.args.is_html c.args.source.now c.loop-from.events.items c.loop-from.from c.scan_line.result
     (subst IsUtf8 c.text.ensures c.text.utf8) there.0 there.1 there.2 c.loop-from.invariant _
     (ap (λ e. ranged e c.loop-from.from (c.loop-from.from + c.scan_line.result))
     (c.line_event.ensures ∙ ap (line_event c.args.is_html) c.in_ok-line.ensures)))
