@@ -1,6 +1,6 @@
 //! What is known of the blocks in a container where a page is read from its end.
 //! (CommonMark 0.31.2, section 5.3)
-ghost use Rattle.std.specs.Prelude.{◌≡◌, ℕ};
+ghost use Rattle.std.specs.Prelude.{◌≡◌, ℕ, None, false, true};
 ghost use Rattle.markdown_blocks.specs.events.Events.{seen_leaf};
 ghost use Rattle.markdown_blocks.specs.blocks.Pages.{is_blank_kind};
 ghost use Rattle.markdown_blocks.specs.lists.Lists.{Nodes, nothing, leaf_then, container_then};
@@ -76,24 +76,22 @@ impl Level {
         }
     }
 
-    /// The blocks with a leaf block before them.
-    pub(crate) fn with_leaf(self, block: Leaf) -> Level
-        ensures { (later : Nodes) → self ≡ level_of later
-            → result ≡ level_of (leaf_then (seen_leaf block.entry) later) }
+    /// Adds a leaf block before the blocks.
+    //
+    // Most blocks are leaf blocks: what is known is changed where it stands, and not moved for each.
+    pub(crate) fn add_leaf(&mut self, block: Leaf)
+        ensures { (later : Nodes) → self.old ≡ level_of later
+            → self.new ≡ level_of (leaf_then (seen_leaf block.entry) later) }
     {
         if is_blank(block.kind) {
-            return Level {
-                place: block.place,
-                begins_blank: true,
-                begins_blank_twice: self.begins_blank,
-                ..self
-            };
+            self.add_blank_line(block.place);
+            return;
         }
         let last = LastBlock {
             to: block.start + block.bytes,
             is_blank: self.begins_blank,
         };
-        self.with_block(block.place, last, false, None)
+        self.add_block(block.place, last);
     }
 
     /// The blocks with a container before them, in which these stand.
@@ -180,6 +178,34 @@ impl Level {
             }
             _ => None,
         }
+    }
+
+    // Adds a blank line before the blocks, which begins here.
+    fn add_blank_line(&mut self, place: usize)
+        ensures { self.new ≡ record self.old {
+          place = place;
+          begins_blank = true;
+          begins_blank_twice = self.old.begins_blank;
+        } }
+    {
+        self.place = place;
+        self.begins_blank_twice = self.begins_blank;
+        self.begins_blank = true;
+    }
+
+    // Adds a block before the blocks that is not blank, begins here, and begins no list.
+    fn add_block(&mut self, place: usize, block: LastBlock)
+        ensures { self.new ≡ with_block place block false None self.old }
+    {
+        if self.last.is_some() {
+            self.is_parted = block.is_blank || self.is_parted;
+        } else {
+            self.last = Some(block);
+        }
+        self.place = place;
+        self.begins_blank = false;
+        self.begins_blank_twice = false;
+        self.list = None;
     }
 
     // The blocks with a block before them that is not blank and begins here, one more item of their

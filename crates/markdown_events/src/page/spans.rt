@@ -79,7 +79,7 @@ impl Reader {
         match event {
             BlockEvent::Start(container, place) => self.start(container, place),
             BlockEvent::Block(leaf) => {
-                self.level = self.level.with_leaf(leaf);
+                self.level.add_leaf(leaf);
                 Ok(())
             }
             BlockEvent::End => {

@@ -11,9 +11,9 @@ returns-in-Block c = λ events known.
     let before = subst (IsKnownOf events) (sym c.self.view_is) known in
     let outer = reverse c.self.inside.outer.items in
     let found = reverse c.self.inside.spans.items in
-    let level = c.with_leaf-self-inside.result in
+    let level = c.add_leaf.new.self in
     subst (λ e. KnownOf (seen_event e ∷ events) level outer found) (sym c.in-Block.is)
-    (known_with_leaf (seen_leaf c.in-Block.leaf) events c.self.inside.level level outer found c.with_leaf-self-inside.ensures before)
+    (known_with_leaf (seen_leaf c.in-Block.leaf) events c.self.inside.level level outer found c.add_leaf.ensures before)
 
 pub returns-in_ok-push-in-End : goal.returns-in_ok-push-in-End
 returns-in_ok-push-in-End c = λ events known.
