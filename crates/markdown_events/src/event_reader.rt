@@ -4,7 +4,7 @@ ghost use Rattle.markdown_events.specs.EventLaws.{AreAtBoundaries, AreBalanced, 
 ghost use Rattle.markdown_events.specs.InlineEvents.{RangedEvent, seen_event};
 ghost use Rattle.markdown_events.specs.Nesting.{AreNested, without_ranges};
 ghost use Rattle.markdown_blocks.specs.events.Events.{ends, leaf, seen_event as seen_block, seen_leaf, starts};
-ghost use Rattle.markdown_events.specs.page.Given.{AlwaysGivesOnly, Gives, GivesOnly, GivesOnlyWith, GivesWith, IsDone, events_left, left_with, setting_with};
+ghost use Rattle.markdown_events.specs.page.Given.{AlwaysGivesOnly, Gives, GivesOnly, GivesOnlyWith, GivesWith, IsDone, IsPassed, events_left, left_with, setting_with};
 ghost use Rattle.markdown_events.specs.page.OpenElements.{begun, end_events, ended, next_span, passed, place_in, start_events};
 ghost use Rattle.markdown_events.specs.page.PageEvents.{AreDefinitionsOf, ArePageEvents, ArePageEventsWith, commonmark};
 ghost use Rattle.markdown_events.specs.Targets.{Targets};
@@ -16,7 +16,7 @@ use crate::elements::InlineMemory;
 use crate::page::blocks_left::BlocksLeft;
 use crate::page::blocks_of::read_page;
 use crate::page::definitions::WithBrokenLinks;
-use crate::page::leaf_events::{has_no_events, leaf_events};
+use crate::page::leaf_events::leaf_events;
 use crate::page::open_elements::OpenElements;
 use crate::page::ready::ReadyEvents;
 use crate::page::spans::spans_of;
@@ -287,7 +287,9 @@ impl<'a> EventReader<'a> {
         ensures definitions { self.new.known ≡ self.old.known }
     {
         while self.is_waiting() {
-            self.read_block(broken)?;
+            if !self.pass_without_events() {
+                self.read_block(broken)?;
+            }
         }
         Ok(())
     }
@@ -301,9 +303,19 @@ impl<'a> EventReader<'a> {
         self.ready.is_empty() && self.blocks.has_next()
     }
 
-    // Reads the next block event, so that its events are ready.
-    //
-    // It is not inlined, so that an event that is ready costs no more than to be moved.
+    // Passes the next block event, if it is a leaf block without events.
+    fn pass_without_events(&mut self) -> bool
+        ensures passed { IsTrue result → IsPassed self.old self.new }
+        ensures left { result ≡ false → self.new ≡ self.old }
+    {
+        let Some(block) = self.blocks.next_without_events() else {
+            return false;
+        };
+        self.pass(block);
+        true
+    }
+
+    // Reads the next block event. It isn't inlined: events that are ready are taken faster so.
     #[inline(never)]
     fn read_block<B: Definitions<'a>>(&mut self, broken: &B) -> Result<(), AllocError>
         requires waiting { self.old.ready ≡ [] }
@@ -368,16 +380,13 @@ impl<'a> EventReader<'a> {
         ensures few { OnOk result (length self.new.ready < 2 ^ 64) }
         ensures refused { IfErr result (λ _. self.new ≡ self.old) }
     {
-        if has_no_events(block.kind) {
-            self.pass(block);
-            return Ok(());
-        }
         let events = self.leaf_events(block, broken)?;
         self.make_ready(block, events);
         Ok(())
     }
 
     // The events of a leaf block that comes next.
+    #[inline(always)]
     fn leaf_events<B: Definitions<'a>>(
         &mut self,
         block: Leaf<'a>,

@@ -1,10 +1,11 @@
 -- The events of a page that are left, while they are given one after another.
-use Rattle.std.specs.Prelude.{ℕ, Bool, ◌≡◌, ◌+◌, ◌*◌, ◌^◌, length, List, [], ◌∷◌, ◌++◌}
-use Rattle.markdown_blocks.specs.events.Events.{Event, starts, leaf, ends}
+use Rattle.std.specs.Prelude.{ℕ, Bool, ◌≡◌, ◌+◌, ◌*◌, ◌^◌, drop, length, List, [], ◌∷◌, ◌++◌}
+use Rattle.markdown_blocks.specs.events.Events.{Event, LeafBlock, starts, leaf, ends}
 use Rattle.markdown_blocks.specs.link_definitions.LinkDefinitions.{Known, known_as}
 use Rattle.markdown_inlines.specs.declared.extensions.InlineExtensions.{InlineExtensions}
 use Rattle.markdown_events.specs.InlineEvents.{RangedEvent}
 use Rattle.markdown_events.specs.Targets.{Targets, or_else}
+use Rattle.markdown_events.specs.page.LeafEvents.{HasNoEvents}
 use Rattle.markdown_events.specs.page.OpenElements.{OpenElements, begun, ended, passed, place_in, start_events, end_events, next_span}
 use Rattle.markdown_events.specs.page.TaskEvents.{AreBlockEvents, BlockSetting}
 
@@ -47,6 +48,13 @@ setting_with more left = record {
 -- the same with other events ready, other elements open and other block events left
 abbrev pub left_with : PageLeft → List RangedEvent → OpenElements → List Event → PageLeft
 left_with old ready elements blocks = record old { ready = ready; elements = elements; blocks = blocks }
+
+-- the next block event is passed, which is a leaf block without events
+pub record IsPassed (old new : PageLeft) : Type 0 where
+  pub block : LeafBlock
+  pub has_none : HasNoEvents block.kind
+  pub is_next : old.blocks ≡ leaf block ∷ drop 1 old.blocks
+  pub is_new : new ≡ left_with old old.ready (passed block old.elements) (drop 1 old.blocks)
 
 -- from here these events are given
 pub record Gives (left : PageLeft) (events : List RangedEvent) : Type 0 where

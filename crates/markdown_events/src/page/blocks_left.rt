@@ -1,8 +1,10 @@
 //! The block events of a page that are left.
 ghost use Rattle.std.specs.Prelude.{◌≡◌, ◌∷◌, ◌<◌, [], drop, false, length, map, IfNone, IfSome, IsTrue};
-ghost use Rattle.markdown_blocks.specs.events.Events.{seen_event};
+ghost use Rattle.markdown_blocks.specs.events.Events.{leaf, seen_event, seen_leaf};
+ghost use Rattle.markdown_events.specs.page.LeafEvents.{HasNoEvents};
 
-use markdown_blocks::events::BlockEvent;
+use crate::page::leaf_events::has_no_events;
+use markdown_blocks::events::{BlockEvent, Leaf};
 use std::marker::Model;
 
 /// The block events of a page, of which so many are read.
@@ -48,6 +50,19 @@ impl<'a> BlocksLeft<'a> {
             return Some(self.blocks[self.read]);
         }
         None
+    }
+
+    /// The next, if it is a leaf block without events.
+    #[inline(always)]
+    pub(crate) fn next_without_events(&self) -> Option<Leaf<'a>>
+        ensures none { IfSome result (λ block. HasNoEvents block.kind) }
+        ensures next { IfSome result (λ block.
+            self.now ≡ leaf (seen_leaf block) ∷ drop 1 self.now) }
+    {
+        match self.next() {
+            Some(BlockEvent::Block(leaf)) if has_no_events(leaf.kind) => Some(leaf),
+            _ => None,
+        }
     }
 
     /// Passes the next.
