@@ -5,6 +5,7 @@ ghost use Rattle.std.specs.Str.{IsCharBoundary};
 ghost use Rattle.html_entities.specs.Entities.{html_entity};
 ghost use Rattle.markdown_values.specs.strings.Text.{cow_text};
 ghost use Rattle.markdown_values.specs.values.Tags.{TagView, tag_view, emphasis, strong};
+ghost use Rattle.markdown_values.specs.values.Events.{text};
 ghost use Rattle.markdown_scanners_tree.specs.scanners.entities.CharacterReference.{StartsWithReference};
 ghost use Rattle.markdown_events.specs.Found.{HasParts};
 ghost use Rattle.markdown_scanners_tree.specs.scanners.reference_definitions.ReferenceDefinition.{IsCutAt};
@@ -12,9 +13,9 @@ ghost use Rattle.markdown_inlines.specs.CodeContent.{code_text};
 ghost use Rattle.markdown_inlines.specs.declared.links.LinkTarget.TheVariants.{Wiki};
 ghost use Rattle.markdown_inlines.specs.Sources.{IsLinkSource, IsSource};
 ghost use Rattle.markdown_events.specs.EventLaws.{AreAtBoundaries, AreBalanced, AreWithin};
-ghost use Rattle.markdown_events.specs.InlineEvents.{AreEvents, AreInlineEvents, ArePieceEvents, RangedEvent, seen_event, autolink, shown_target};
+ghost use Rattle.markdown_events.specs.InlineEvents.{AreEvents, AreInlineEvents, ArePieceEvents, RangedEvent, ranged, seen_event, autolink, shown_target};
 ghost use Rattle.markdown_events.specs.Meanings.{IsLinkTag};
-ghost use Rattle.markdown_events.specs.Passes.{EndsBelow, IsFound, IsWritten, Leads, begun, with_events};
+ghost use Rattle.markdown_events.specs.Passes.{EndsBelow, IsFound, IsWritten, Leads, begun, with_event, with_events};
 
 use crate::definitions::{Defined, Definitions};
 use crate::elements::{InlineMemory, take_room};
@@ -253,11 +254,29 @@ fn push_piece<'a>(
             let html = source.part(alloc, start, end)?;
             writer.push(Event::InlineHtml(html), start, end)
         }
-        _ => {
-            let words = source.part(alloc, start, end)?;
-            writer.push(Event::Text(words), start, end)
-        }
+        _ => push_words(alloc, source, writer, start, end),
     }
+}
+
+// Adds what stands from one place up to another as a text. Most texts are lent from a run.
+#[inline(always)]
+fn push_words<'a>(
+    alloc: Global,
+    source: &Source<'a, '_>,
+    writer: &mut Writer<'a>,
+    start: usize,
+    end: usize,
+) -> Result<(), AllocError>
+    requires begins { IsCharBoundary source.now start }
+    requires ends { IsCharBoundary source.now end }
+    ensures { OnOk result (writer.new
+        ≡ with_event (ranged (text (slice_range source.now start end)) start end) writer.old) }
+{
+    if let Some(run) = source.run() {
+        return writer.push_text(part(run, start, end), start, end);
+    }
+    let words = source.part(alloc, start, end)?;
+    writer.push(Event::Text(words), start, end)
 }
 
 // The text of the character reference that stands at a place.

@@ -1,12 +1,13 @@
 //! The events of a text that are written one after another.
 ghost use Rattle.std.specs.Prelude.{◌≡◌, [], reverse, map, OnOk};
 ghost use Rattle.markdown_values.specs.strings.Text.{cow_text};
-ghost use Rattle.markdown_values.specs.values.Events.{event_view};
+ghost use Rattle.markdown_values.specs.values.Events.{event_view, text};
 ghost use Rattle.markdown_values.specs.values.Tags.{tag_view};
 ghost use Rattle.markdown_events.specs.InlineEvents.{seen_event, ranged};
 ghost use Rattle.markdown_events.specs.Passes.{with_event, with_end, begun, ended};
 
 use crate::elements::Begun;
+use markdown_values::strings::CowStr;
 use markdown_values::values::{Event, Tag};
 use std::alloc::AllocError;
 use std::marker::Model;
@@ -65,6 +66,23 @@ impl<'a> Writer<'a> {
         // With room at hand the event is written where it stands, and not moved there.
         self.events.reserve(1)?;
         self.events.push_reserved((event, from..to));
+        Ok(())
+    }
+
+    /// The same of a text that is lent.
+    #[inline(always)]
+    pub(crate) fn push_text(
+        &mut self,
+        words: &'a str,
+        from: usize,
+        to: usize,
+    ) -> Result<(), AllocError>
+        ensures { OnOk result
+            (self.new ≡ with_event (ranged (text words.now) from to) self.old) }
+    {
+        self.events.reserve(1)?;
+        self.events
+            .push_reserved((Event::Text(CowStr::from(words)), from..to));
         Ok(())
     }
 
