@@ -328,8 +328,8 @@ impl<'a> EventReader<'a> {
         ensures refused { IfErr result (λ _. self.new ≡ self.old) }
     {
         match self.next_block() {
-            Some(BlockEvent::Start(container, place)) => self.read_start(container, place),
-            Some(BlockEvent::Block(leaf)) => self.read_leaf(leaf, broken),
+            Some(&BlockEvent::Start(container, place)) => self.read_start(container, place),
+            Some(&BlockEvent::Block(leaf)) => self.read_leaf(leaf, broken),
             Some(BlockEvent::End) => {
                 self.read_end();
                 Ok(())
@@ -339,9 +339,9 @@ impl<'a> EventReader<'a> {
     }
 
     // The next block event, if one is left.
-    fn next_block(&self) -> Option<BlockEvent<'a>>
+    fn next_block(&self) -> Option<&BlockEvent<'a>>
         ensures next { IfSome result (λ block.
-            self.now.blocks ≡ seen_block block ∷ drop 1 self.now.blocks) }
+            self.now.blocks ≡ seen_block block.now ∷ drop 1 self.now.blocks) }
         ensures none { IfNone result (self.now.blocks ≡ []) }
     {
         self.blocks.next()

@@ -42,12 +42,12 @@ impl<'a> BlocksLeft<'a> {
 
     /// The next, if one is left.
     #[tactic(auto, using(crate::proofs::page::LeftLemmas::first_left, crate::proofs::page::LeftLemmas::none_left))]
-    pub(crate) fn next(&self) -> Option<BlockEvent<'a>>
-        ensures next { IfSome result (λ block. self.now ≡ seen_event block ∷ drop 1 self.now) }
+    pub(crate) fn next(&self) -> Option<&BlockEvent<'a>>
+        ensures next { IfSome result (λ block. self.now ≡ seen_event block.now ∷ drop 1 self.now) }
         ensures none { IfNone result (self.now ≡ []) }
     {
         if self.read < self.blocks.len() {
-            return Some(self.blocks[self.read]);
+            return Some(&self.blocks[self.read]);
         }
         None
     }
@@ -60,7 +60,7 @@ impl<'a> BlocksLeft<'a> {
             self.now ≡ leaf (seen_leaf block) ∷ drop 1 self.now) }
     {
         match self.next() {
-            Some(BlockEvent::Block(leaf)) if has_no_events(leaf.kind) => Some(leaf),
+            Some(BlockEvent::Block(leaf)) if has_no_events(leaf.kind) => Some(*leaf),
             _ => None,
         }
     }
