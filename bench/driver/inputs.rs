@@ -51,6 +51,9 @@ pub const CALLS: &[(&str, &str)] = &[
     ("inlines", "InlineFinder::find, a paragraph"),
     ("inlines_defined", "InlineFinder::find, each label defined"),
     ("inlines_once", "find_inlines, a paragraph"),
+    ("page_events", "Parser, a page"),
+    ("page_ranges", "OffsetIter, a page"),
+    ("page_html", "push_html, a page"),
     ("type_6", "starts_html_block_type_6"),
     ("type_7", "scan_html_type_7"),
     ("html_start", "scan_html_block_start"),
@@ -179,6 +182,7 @@ pub fn real(call: &str, text: &[u8]) -> Option<Input> {
         "wikilink" | "label" | "label_table" => after(text, b'['),
         "inline_html" | "inline_html_run" => openers(text),
         "inlines" | "inlines_defined" | "inlines_once" => return Some(input(text.to_vec(), paragraph_ends(text))),
+        "page_events" | "page_ranges" | "page_html" => return Some(input(text.to_vec(), vec![text.len()])),
         "classes" => vec![0],
         _ => line_starts(text),
     };

@@ -1,5 +1,6 @@
-//! The passes of pulldown-cmark 0.9.2 over a page, for `bench/pages`: the block pass alone, which `Parser::new` makes, or both.
-use pulldown_cmark::Parser;
+//! What pulldown-cmark 0.9.2 does of a page, for `bench/pages`: the block pass alone, which `Parser::new` makes, or all events, their ranges
+//! too, or HTML.
+use pulldown_cmark::{Parser, html::push_html};
 use std::{env, fs, process::ExitCode};
 
 fn main() -> ExitCode {
@@ -11,8 +12,16 @@ fn main() -> ExitCode {
         return ExitCode::FAILURE;
     };
     let parser = Parser::new(&page);
-    if passes == "both" {
-        println!("{}", parser.count());
+    match passes.as_str() {
+        "blocks" => {}
+        "both" => println!("{}", parser.count()),
+        "ranges" => println!("{}", parser.into_offset_iter().count()),
+        "html" => {
+            let mut html = String::new();
+            push_html(&mut html, parser);
+            println!("{}", html.len());
+        }
+        _ => return ExitCode::FAILURE,
     }
     ExitCode::SUCCESS
 }

@@ -14,6 +14,7 @@ mod inlines;
 mod labels;
 mod lines;
 mod loops;
+mod pages;
 mod small_trees;
 mod texts;
 mod trees;
