@@ -172,8 +172,8 @@ unfolding last_byte
 last_at [] = refl
 last_at (b ∷ []) = refl
 last_at (b ∷ c ∷ bs) =
-    let behind : length (b ∷ c ∷ bs) - 1 ≡ suc (length (c ∷ bs) - 1) = omega arith in
-    ap (λ k. get_or (b ∷ c ∷ bs) k 0) behind ∙ last_at (c ∷ bs)
+    let less : length (b ∷ c ∷ bs) - 1 ≡ suc (length (c ∷ bs) - 1) = omega arith in
+    ap (λ k. get_or (b ∷ c ∷ bs) k 0) less ∙ last_at (c ∷ bs)
 
 last-cons : (x : ℕ) (xs : List ℕ) → 0 < length xs → last_byte (x ∷ xs) ≡ last_byte xs
 unfolding last_byte

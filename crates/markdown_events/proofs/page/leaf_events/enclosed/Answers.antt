@@ -10,6 +10,6 @@ use Rattle.markdown_events.proofs.page.leaf_events.enclosed.Goals as goal
 
 pub returns-clause-within : goal.returns-clause-within
 returns-clause-within c =
-    IfOk-weaker c.block_element.result _ _ (λ events is place inner.
+    IfOk-weaker c.block_element.result _ _ (λ events is has inner.
     subst (λ (es : List RangedEvent). LieInBlock (seen_leaf c.args.leaf) es) (sym is)
-    (enclosed_lies (tag_view cow_text c.args.tag) (seen_leaf c.args.leaf) (map seen_event c.args.inner.items) place inner)) c.block_element.ensures
+    (enclosed_lies (tag_view cow_text c.args.tag) (seen_leaf c.args.leaf) (map seen_event c.args.inner.items) has inner)) c.block_element.ensures

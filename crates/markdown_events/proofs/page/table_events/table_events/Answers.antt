@@ -31,7 +31,7 @@ returns-clause-within g c =
     subst (λ (t : List ℕ). length t ≤ leaf.bytes) (sym c.lines_in-lines.ensures) (omega (arith, length-take {A = ℕ})) in
     let ends = subst (RowsEndBy leaf.start to) (sym c.rows_of-rows.ensures.rows)
     (rows_end c.args.kept c.args.containers.now leaf.start to c.lines_in-lines.result.now (omega (arith, few))) in
-    IfOk-weaker c.block_element.result _ _ (λ events is place.
+    IfOk-weaker c.block_element.result _ _ (λ events is has.
     subst (λ (es : List RangedEvent). LieInBlock (seen_leaf leaf) es) (sym is)
     (element_lies (table c.in_ok-alignments.alignments.items) leaf.start to leaf.place to (map seen_event c.in_ok-inner.inner.items)
-    place.begins place.ends (omega arith) (c.in_ok-inner.ensures.within to ends))) c.block_element.ensures
+    has.begins has.ends (omega arith) (c.in_ok-inner.ensures.within to ends))) c.block_element.ensures
