@@ -81,6 +81,7 @@ impl<'a> HtmlWriter<'a> {
     ///
     /// `AllocError` where memory is refused. The writer is spent then: what it had written is given
     /// back, and it refuses each later event. Another one writes the events again, from the first on.
+    #[inline(always)]
     pub fn push<A: AllowedAddresses>(
         &mut self,
         setting: &HtmlSetting<A>,
@@ -101,6 +102,7 @@ impl<'a> HtmlWriter<'a> {
     }
 
     // Adds an event, and leaves a part of it where memory is refused.
+    #[inline(always)]
     fn push_unless_spent<A: AllowedAddresses>(
         &mut self,
         setting: &HtmlSetting<A>,
@@ -135,6 +137,7 @@ impl<'a> HtmlWriter<'a> {
     }
 
     // Adds an event outside of images.
+    #[inline(always)]
     fn push_outside_images<A: AllowedAddresses>(
         &mut self,
         setting: &HtmlSetting<A>,
@@ -146,13 +149,14 @@ impl<'a> HtmlWriter<'a> {
         match event {
             Event::Start(tag) => self.start(setting, tag),
             Event::End(tag) => self.end(tag),
-            Event::Text(words) => self.write_escaped(words.as_str()),
+            Event::Text(words)
+            | Event::InlineMath(words)
+            | Event::DisplayMath(words)
+            | Event::FootnoteReference(words) => self.write_escaped(words.as_str()),
             Event::Code(words) => self.write_code(words.as_str()),
-            Event::InlineMath(words) => self.write_escaped(words.as_str()),
-            Event::DisplayMath(words) => self.write_escaped(words.as_str()),
-            Event::Html(words) => self.write_raw(setting.raw, words.as_str()),
-            Event::InlineHtml(words) => self.write_raw(setting.raw, words.as_str()),
-            Event::FootnoteReference(words) => self.write_escaped(words.as_str()),
+            Event::Html(words) | Event::InlineHtml(words) => {
+                self.write_raw(setting.raw, words.as_str())
+            }
             Event::SoftBreak => self.write("\n"),
             Event::HardBreak => self.write("<br />\n"),
             Event::Rule => self.write_on_line("<hr />\n"),
@@ -161,6 +165,7 @@ impl<'a> HtmlWriter<'a> {
     }
 
     // Adds an event in an image.
+    #[inline(never)]
     fn push_in_image<A: AllowedAddresses>(
         &mut self,
         setting: &HtmlSetting<A>,
@@ -189,6 +194,9 @@ impl<'a> HtmlWriter<'a> {
     }
 
     // Begins an element.
+    //
+    // It isn't inlined: a function clears the memory of all its values where it begins, and most events are no start.
+    #[inline(never)]
     fn start<A: AllowedAddresses>(
         &mut self,
         setting: &HtmlSetting<A>,
@@ -235,6 +243,7 @@ impl<'a> HtmlWriter<'a> {
     }
 
     // Ends an element.
+    #[inline(never)]
     fn end(&mut self, tag: TagEnd) -> Result<(), AllocError>
         ensures { OnOk result (self.new ≡ ended tag self.old) }
     {
