@@ -21,9 +21,9 @@ use crate::page::open_elements::OpenElements;
 use crate::page::ready::ReadyEvents;
 use crate::page::spans::spans_of;
 use crate::page::task_events::task_events;
-pub use crate::settings::NewError;
 use crate::settings::setting_of;
-use markdown_blocks::containers::{BlockExtensions, Container};
+pub use crate::settings::{NewError, PageSetting};
+use markdown_blocks::containers::Container;
 use markdown_blocks::events::{BlockEvent, Leaf};
 use markdown_blocks::first_blocks::{FirstBlock, Task};
 use markdown_inlines::extensions::InlineExtensions;
@@ -32,44 +32,6 @@ use std::alloc::{AllocError, Global};
 use std::collections::VecDeque;
 use std::marker::Model;
 use std::ops::Range;
-
-/// What a page is read with: whether tables and task list markers are read, and the extensions of
-/// inlines.
-#[derive(Clone, Copy)]
-pub struct PageSetting {
-    /// Tables of rows and cells. (GFM, section 4.10)
-    pub tables: bool,
-    /// The markers of task list items. (GFM, section 5.3)
-    pub tasks: bool,
-    /// The extensions of inlines.
-    pub inlines: InlineExtensions,
-}
-
-impl PageSetting {
-    ghost use Rattle.std.specs.Prelude.{◌≡◌};
-    ghost use Rattle.markdown_events.specs.page.PageEvents.{blocks_of, commonmark};
-
-    /// CommonMark, without extensions.
-    pub fn commonmark() -> PageSetting
-        ensures { result ≡ commonmark }
-    {
-        PageSetting {
-            tables: false,
-            tasks: false,
-            inlines: InlineExtensions::none(),
-        }
-    }
-
-    // The extensions of blocks that it asks for.
-    fn blocks(self) -> BlockExtensions
-        ensures { result ≡ blocks_of self }
-    {
-        BlockExtensions {
-            no_tables: !self.tables,
-            ..BlockExtensions::none()
-        }
-    }
-}
 
 /// The events of a page, from the first to the last, each with the range of its source.
 #[derive(Drop)]
@@ -97,7 +59,7 @@ impl<'a> Model for EventReader<'a> {
       tasks = p.tasks;
       extensions = p.extensions;
       known = p.definitions;
-      ready = p.ready;
+      ready = p.ready.events;
       elements = p.elements;
       blocks = p.blocks;
     } };
@@ -218,8 +180,8 @@ impl<'a> EventReader<'a> {
 
     /// The next event of the page, with the range of its source, or None after the last.
     ///
-    /// Memory is asked for as by `content_of` and `inline_events`. After a refusal the same event may
-    /// be asked for again.
+    /// Memory is asked for as by `content_of` and `inline_events`, and by containers. After a refusal
+    /// the same event may be asked for again.
     ///
     /// # Errors
     ///
@@ -275,10 +237,28 @@ impl<'a> EventReader<'a> {
     /// # Errors
     ///
     /// `AllocError` where memory is refused, which is asked for as by `next_with`.
+    #[inline(always)]
     pub(crate) fn read_until_ready<B: Definitions<'a>>(
         &mut self,
         broken: &B,
     ) -> Result<(), AllocError>
+        ensures same { (events : List RangedEvent)
+            → GivesWith (B.targets broken.now) self.new events
+            → GivesWith (B.targets broken.now) self.old events }
+        ensures no_more { events_left self.new ≤ events_left self.old }
+        ensures done { OnOk result (self.new.ready ≡ [] → IsDone self.new) }
+        ensures definitions { self.new.known ≡ self.old.known }
+    {
+        // Most events are ready.
+        if self.ready.is_empty() {
+            return self.read_blocks(broken);
+        }
+        Ok(())
+    }
+
+    // The same. It isn't inlined: events that are ready are taken faster so.
+    #[inline(never)]
+    fn read_blocks<B: Definitions<'a>>(&mut self, broken: &B) -> Result<(), AllocError>
         ensures same { (events : List RangedEvent)
             → GivesWith (B.targets broken.now) self.new events
             → GivesWith (B.targets broken.now) self.old events }
@@ -315,8 +295,7 @@ impl<'a> EventReader<'a> {
         true
     }
 
-    // Reads the next block event. It isn't inlined: events that are ready are taken faster so.
-    #[inline(never)]
+    // Reads the next block event.
     fn read_block<B: Definitions<'a>>(&mut self, broken: &B) -> Result<(), AllocError>
         requires waiting { self.old.ready ≡ [] }
         ensures same { OnOk result ((events : List RangedEvent)
@@ -330,10 +309,7 @@ impl<'a> EventReader<'a> {
         match self.next_block() {
             Some(&BlockEvent::Start(container, place)) => self.read_start(container, place),
             Some(&BlockEvent::Block(leaf)) => self.read_leaf(leaf, broken),
-            Some(BlockEvent::End) => {
-                self.read_end();
-                Ok(())
-            }
+            Some(BlockEvent::End) => self.read_end(),
             None => Ok(()),
         }
     }
@@ -357,6 +333,7 @@ impl<'a> EventReader<'a> {
             (begun container place self.old.elements) (drop 1 self.old.blocks)) }
         ensures refused { IfErr result (λ _. self.new ≡ self.old) }
     {
+        self.ready.make_room()?;
         let (list, start) = self.elements.begin(container, place)?;
         self.ready.put_edges(list, Some(start));
         self.blocks.pass();
@@ -466,28 +443,23 @@ impl<'a> EventReader<'a> {
     }
 
     // Reads the end of a container, which is the next block event.
-    fn read_end(&mut self)
+    fn read_end(&mut self) -> Result<(), AllocError>
         requires waiting { self.old.ready ≡ [] }
         requires next { self.old.blocks ≡ ends ∷ drop 1 self.old.blocks }
-        ensures read { self.new ≡ left_with self.old (end_events self.old.elements.elements)
-            (ended self.old.elements) (drop 1 self.old.blocks) }
+        ensures read { OnOk result (self.new
+            ≡ left_with self.old (end_events self.old.elements.elements)
+            (ended self.old.elements) (drop 1 self.old.blocks)) }
+        ensures refused { IfErr result (λ _. self.new ≡ self.old) }
     {
+        self.ready.make_room()?;
         let (end, list) = self.elements.end();
         self.ready.put_edges(end, list);
         self.blocks.pass();
-    }
-
-    /// The first of the events that are ready, if it is one of a leaf block.
-    #[inline(always)]
-    pub(crate) fn take_leaf_event(&mut self) -> Option<(Event<'a>, Range<usize>)>
-        ensures event { IfSome result (λ event.
-            self.old ≡ record self.new { ready = seen_event event ∷ self.new.ready }) }
-        ensures unchanged { IfNone result (self.new ≡ self.old) }
-    {
-        self.ready.take_leaf_event()
+        Ok(())
     }
 
     /// The first of the events that are ready.
+    #[inline(always)]
     pub(crate) fn take_ready(&mut self) -> Option<(Event<'a>, Range<usize>)>
         ensures event { IfSome result (λ event.
             self.old ≡ record self.new { ready = seen_event event ∷ self.new.ready }) }

@@ -4,13 +4,14 @@ ghost use Rattle.std.specs.List.{All};
 ghost use Rattle.std.specs.Str.{IsCharBoundary};
 ghost use Rattle.html_entities.specs.Entities.{html_entity};
 ghost use Rattle.markdown_values.specs.strings.Text.{cow_text};
-ghost use Rattle.markdown_values.specs.values.Tags.{TagView, tag_view, emphasis, strong};
-ghost use Rattle.markdown_values.specs.values.Events.{text};
+ghost use Rattle.markdown_values.specs.values.Tags.{TagView, emphasis, strikethrough, strong};
+ghost use Rattle.markdown_values.specs.values.Events.{code, inline_html, text};
 ghost use Rattle.markdown_scanners_tree.specs.scanners.entities.CharacterReference.{StartsWithReference};
 ghost use Rattle.markdown_events.specs.Found.{HasParts};
 ghost use Rattle.markdown_scanners_tree.specs.scanners.reference_definitions.ReferenceDefinition.{IsCutAt};
 ghost use Rattle.markdown_inlines.specs.CodeContent.{code_text};
 ghost use Rattle.markdown_inlines.specs.declared.links.LinkTarget.TheVariants.{Wiki};
+ghost use Rattle.markdown_inlines.specs.declared.pieces.PieceKind.TheVariants.{Code};
 ghost use Rattle.markdown_inlines.specs.Sources.{IsLinkSource, IsSource};
 ghost use Rattle.markdown_events.specs.EventLaws.{AreAtBoundaries, AreBalanced, AreWithin};
 ghost use Rattle.markdown_events.specs.InlineEvents.{AreEvents, AreInlineEvents, ArePieceEvents, RangedEvent, ranged, seen_event, autolink, shown_target};
@@ -138,6 +139,10 @@ fn push_inlines<'a, D: Definitions<'a>>(
 }
 
 // Adds the events of an inline of a text with these links.
+//
+// What makes a value of many bytes is a function of its own, and is not inlined: a function clears the
+// memory of all its values where it begins, and most inlines are texts.
+#[inline(always)]
 fn push_inline<'a, D: Definitions<'a>>(
     alloc: Global,
     source: &Source<'a, '_>,
@@ -153,8 +158,8 @@ fn push_inline<'a, D: Definitions<'a>>(
 {
     match inline {
         Inline::Leaf(piece) => push_piece(alloc, source, writer, piece),
-        Inline::StartEmphasis(place, count) => writer.begin(emphasis_tag(count), place),
-        Inline::StartStrikethrough(place, _) => writer.begin(Tag::Strikethrough, place),
+        Inline::StartEmphasis(place, count) => begin_emphasis(writer, place, count),
+        Inline::StartStrikethrough(place, _) => begin_strikethrough(writer, place),
         Inline::StartLink(number) => match links.get(number) {
             Some(Some(link)) => begin_link(alloc, source, definitions, writer, link),
             _ => Ok(()),
@@ -166,7 +171,28 @@ fn push_inline<'a, D: Definitions<'a>>(
     }
 }
 
+// Begins emphasis with so many delimiters on each side.
+#[inline(never)]
+fn begin_emphasis(writer: &mut Writer, place: usize, count: usize) -> Result<(), AllocError>
+    ensures { OnOk result (writer.new
+        ≡ begun (if count == 2 then strong else emphasis) place writer.old) }
+{
+    if count == 2 {
+        return writer.begin(Tag::Strong, place);
+    }
+    writer.begin(Tag::Emphasis, place)
+}
+
+// Begins strikethrough.
+#[inline(never)]
+fn begin_strikethrough(writer: &mut Writer, place: usize) -> Result<(), AllocError>
+    ensures { OnOk result (writer.new ≡ begun strikethrough place writer.old) }
+{
+    writer.begin(Tag::Strikethrough, place)
+}
+
 // Begins a link or an image; a wikilink without a pipe shows its target.
+#[inline(never)]
 fn begin_link<'a, D: Definitions<'a>>(
     alloc: Global,
     source: &Source<'a, '_>,
@@ -208,18 +234,8 @@ fn show_target<'a>(
     writer.push(Event::Text(shown), target.start, target.end)
 }
 
-// The tag of emphasis with so many delimiters on each side.
-fn emphasis_tag<'a>(count: usize) -> Tag<'a>
-    ensures { tag_view cow_text result ≡ (if count == 2 then strong else emphasis) }
-{
-    if count == 2 {
-        Tag::Strong
-    } else {
-        Tag::Emphasis
-    }
-}
-
 // Adds the events of a piece that holds no others.
+#[inline(always)]
 fn push_piece<'a>(
     alloc: Global,
     source: &Source<'a, '_>,
@@ -236,24 +252,12 @@ fn push_piece<'a>(
     match piece.kind {
         PieceKind::Uri => push_autolink(alloc, source, writer, LinkType::Autolink, piece),
         PieceKind::Email => push_autolink(alloc, source, writer, LinkType::Email, piece),
-        PieceKind::HardBreak => writer.push(Event::HardBreak, start, end),
-        PieceKind::SoftBreak => writer.push(Event::SoftBreak, start, end),
-        PieceKind::Escape => {
-            let escaped = source.part(alloc, start + 1, end)?;
-            writer.push(Event::Text(escaped), start, end)
-        }
-        PieceKind::Reference => {
-            let meaning = meaning_at(source.text(), start);
-            writer.push(Event::Text(meaning), start, end)
-        }
-        PieceKind::Code(backticks) => {
-            let code = code_of(alloc, source, start + backticks, end - backticks)?;
-            writer.push(Event::Code(code), start, end)
-        }
-        PieceKind::Html => {
-            let html = source.part(alloc, start, end)?;
-            writer.push(Event::InlineHtml(html), start, end)
-        }
+        PieceKind::HardBreak => writer.push_break(true, start, end),
+        PieceKind::SoftBreak => writer.push_break(false, start, end),
+        PieceKind::Escape => push_part(alloc, source, writer, start + 1, start, end),
+        PieceKind::Reference => push_meaning(source, writer, start, end),
+        PieceKind::Code(backticks) => push_code(alloc, source, writer, backticks, piece),
+        PieceKind::Html => push_html(alloc, source, writer, start, end),
         _ => push_words(alloc, source, writer, start, end),
     }
 }
@@ -272,11 +276,88 @@ fn push_words<'a>(
     ensures { OnOk result (writer.new
         ≡ with_event (ranged (text (slice_range source.now start end)) start end) writer.old) }
 {
-    if let Some(run) = source.run() {
-        return writer.push_text(part(run, start, end), start, end);
+    match source.run() {
+        Some(run) => writer.push_text(part(run, start, end), start, end),
+        None => push_part(alloc, source, writer, start, start, end),
     }
-    let words = source.part(alloc, start, end)?;
+}
+
+// Adds what stands from `from` on as a text, of which the source stands from one place up to another.
+#[inline(never)]
+fn push_part<'a>(
+    alloc: Global,
+    source: &Source<'a, '_>,
+    writer: &mut Writer<'a>,
+    from: usize,
+    start: usize,
+    end: usize,
+) -> Result<(), AllocError>
+    requires begins { IsCharBoundary source.now from }
+    requires ends { IsCharBoundary source.now end }
+    ensures { OnOk result (writer.new
+        ≡ with_event (ranged (text (slice_range source.now from end)) start end) writer.old) }
+{
+    let words = source.part(alloc, from, end)?;
     writer.push(Event::Text(words), start, end)
+}
+
+// Adds the text of the character reference that stands from one place up to another.
+#[inline(never)]
+fn push_meaning<'a>(
+    source: &Source<'a, '_>,
+    writer: &mut Writer<'a>,
+    start: usize,
+    end: usize,
+) -> Result<(), AllocError>
+    requires within { start < length source.now }
+    ensures { OnOk result ((len : ℕ) (meaning : List ℕ)
+        → StartsWithReference html_entity (drop start source.now) len meaning
+        → writer.new ≡ with_event (ranged (text meaning) start end) writer.old) }
+{
+    let meaning = meaning_at(source.text(), start);
+    writer.push(Event::Text(meaning), start, end)
+}
+
+// Adds a code span, which is this piece and has so many backticks on each side of its content.
+#[inline(never)]
+fn push_code<'a>(
+    alloc: Global,
+    source: &Source<'a, '_>,
+    writer: &mut Writer<'a>,
+    backticks: usize,
+    piece: Piece,
+) -> Result<(), AllocError>
+    requires parts { HasParts (Code backticks) source.now piece }
+    requires within { piece.end ≤ length source.now }
+    ensures { OnOk result (writer.new ≡ with_event (ranged (code (code_text
+        (slice_range source.now (piece.start + backticks) (piece.end - backticks))))
+        piece.start piece.end) writer.old) }
+{
+    let code = code_of(
+        alloc,
+        source,
+        piece.start + backticks,
+        piece.end - backticks,
+    )?;
+    writer.push(Event::Code(code), piece.start, piece.end)
+}
+
+// Adds the raw HTML that stands from one place up to another.
+#[inline(never)]
+fn push_html<'a>(
+    alloc: Global,
+    source: &Source<'a, '_>,
+    writer: &mut Writer<'a>,
+    start: usize,
+    end: usize,
+) -> Result<(), AllocError>
+    requires begins { IsCharBoundary source.now start }
+    requires ends { IsCharBoundary source.now end }
+    ensures { OnOk result (writer.new
+        ≡ with_event (ranged (inline_html (slice_range source.now start end)) start end) writer.old) }
+{
+    let html = source.part(alloc, start, end)?;
+    writer.push(Event::InlineHtml(html), start, end)
 }
 
 // The text of the character reference that stands at a place.
@@ -315,6 +396,7 @@ fn code_of<'a>(
 }
 
 // Adds the events of an autolink.
+#[inline(never)]
 fn push_autolink<'a>(
     alloc: Global,
     source: &Source<'a, '_>,

@@ -142,14 +142,7 @@ impl<'a> Parser<'a> {
         ensures next { GivesNextEventWith (B.targets broken.now) self.old result self.new }
         ensures fewer { IfSome result (λ _. items_left self.new < items_left self.old) }
     {
-        if self.events.is_stopped {
-            return None;
-        }
-        // Most events are those of a leaf block.
-        match self.events.reader.take_leaf_event() {
-            Some((event, _)) => Some(Ok(event)),
-            None => without_range(self.events.read_next(broken)),
-        }
+        without_range(self.events.next_with(broken))
     }
 }
 
@@ -187,25 +180,6 @@ impl<'a> OffsetIter<'a> {
         if self.is_stopped {
             return None;
         }
-        // Most events are those of a leaf block.
-        match self.reader.take_leaf_event() {
-            Some(event) => Some(Ok(event)),
-            None => self.read_next(broken),
-        }
-    }
-
-    // The next event with its range, where none of a leaf block is ready.
-    //
-    // It is not inlined, so that an event that is ready costs no more than to be moved.
-    #[inline(never)]
-    fn read_next<B: Definitions<'a>>(
-        &mut self,
-        broken: &B,
-    ) -> Option<Result<(Event<'a>, Range<usize>), AllocError>>
-        requires goes { self.old.is_stopped ≡ false }
-        ensures next { GivesNextWith (B.targets broken.now) self.old result self.new }
-        ensures fewer { IfSome result (λ _. items_left self.new < items_left self.old) }
-    {
         if let Err(refused) = self.reader.read_until_ready(broken) {
             self.is_stopped = true;
             return Some(Err(refused));

@@ -3,11 +3,49 @@ ghost use Rattle.std.specs.Prelude.{◌≡◌};
 ghost use Rattle.std.specs.Prelude.{IfErr, IfOk};
 ghost use Rattle.markdown_events.specs.page.Settings.{Explains, asked_by, not_built};
 
-use crate::event_reader::PageSetting;
 use bitflags::Flags;
+use markdown_blocks::containers::BlockExtensions;
 use markdown_inlines::extensions::InlineExtensions;
 use markdown_values::values::Options;
 use std::alloc::AllocError;
+
+/// What a page is read with: whether tables and task list markers are read, and the extensions of
+/// inlines.
+#[derive(Clone, Copy)]
+pub struct PageSetting {
+    /// Tables of rows and cells. (GFM, section 4.10)
+    pub tables: bool,
+    /// The markers of task list items. (GFM, section 5.3)
+    pub tasks: bool,
+    /// The extensions of inlines.
+    pub inlines: InlineExtensions,
+}
+
+impl PageSetting {
+    ghost use Rattle.std.specs.Prelude.{◌≡◌};
+    ghost use Rattle.markdown_events.specs.page.PageEvents.{blocks_of, commonmark};
+
+    /// CommonMark, without extensions.
+    pub fn commonmark() -> PageSetting
+        ensures { result ≡ commonmark }
+    {
+        PageSetting {
+            tables: false,
+            tasks: false,
+            inlines: InlineExtensions::none(),
+        }
+    }
+
+    /// The extensions of blocks that it asks for.
+    pub(crate) fn blocks(self) -> BlockExtensions
+        ensures { result ≡ blocks_of self }
+    {
+        BlockExtensions {
+            no_tables: !self.tables,
+            ..BlockExtensions::none()
+        }
+    }
+}
 
 /// Why the events of a page can't be given.
 #[derive(Clone, Copy, Debug)]

@@ -1,7 +1,7 @@
 //! The events of a text that are written one after another.
-ghost use Rattle.std.specs.Prelude.{◌≡◌, [], reverse, map, OnOk};
+ghost use Rattle.std.specs.Prelude.{◌≡◌, [], if◌then◌else◌, reverse, map, OnOk};
 ghost use Rattle.markdown_values.specs.strings.Text.{cow_text};
-ghost use Rattle.markdown_values.specs.values.Events.{event_view, text};
+ghost use Rattle.markdown_values.specs.values.Events.{event_view, hard_break, soft_break, text};
 ghost use Rattle.markdown_values.specs.values.Tags.{tag_view};
 ghost use Rattle.markdown_events.specs.InlineEvents.{seen_event, ranged};
 ghost use Rattle.markdown_events.specs.Passes.{with_event, with_end, begun, ended};
@@ -54,6 +54,7 @@ impl<'a> Writer<'a> {
     }
 
     /// Adds an event from one place of the text up to another.
+    #[inline(always)]
     pub(crate) fn push(
         &mut self,
         event: Event<'a>,
@@ -86,7 +87,25 @@ impl<'a> Writer<'a> {
         Ok(())
     }
 
+    /// Adds a line break, which is a hard one or not.
+    #[inline(never)]
+    pub(crate) fn push_break(
+        &mut self,
+        is_hard: bool,
+        from: usize,
+        to: usize,
+    ) -> Result<(), AllocError>
+        ensures { OnOk result (self.new
+            ≡ with_event (ranged (if is_hard then hard_break else soft_break) from to) self.old) }
+    {
+        if is_hard {
+            return self.push(Event::HardBreak, from, to);
+        }
+        self.push(Event::SoftBreak, from, to)
+    }
+
     /// Begins an element with this tag at a place of the text. Where it ends is written when it does.
+    #[inline(always)]
     pub(crate) fn begin(&mut self, tag: Tag<'a>, from: usize) -> Result<(), AllocError>
         ensures { OnOk result (self.new ≡ begun (tag_view cow_text tag.entry) from self.old) }
     {
@@ -102,6 +121,7 @@ impl<'a> Writer<'a> {
     }
 
     /// Ends the innermost element at this offset of the text.
+    #[inline(never)]
     pub(crate) fn end(&mut self, to: usize) -> Result<(), AllocError>
         ensures { OnOk result (self.new ≡ ended to self.old) }
     {

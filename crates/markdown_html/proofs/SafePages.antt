@@ -3,7 +3,7 @@ use Rattle.std.proofs.Common.{ℕ, List, ◌≡◌, sym, subst}
 use Rattle.markdown_values.specs.values.Events.{EventView}
 use Rattle.markdown_events.specs.InsecureCharacters.{with_replacements}
 use Rattle.markdown_events.specs.Nesting.{AreNested, without_ranges}
-use Rattle.markdown_events.specs.declared.event_reader.PageSetting.{PageSetting}
+use Rattle.markdown_events.specs.declared.settings.PageSetting.{PageSetting}
 use Rattle.markdown_events.proofs.ForCallers.{page_events_nest}
 use Rattle.markdown_html.specs.Html.{html_of}
 use Rattle.markdown_html.specs.PageHtml.{IsHtmlOf}

@@ -3,7 +3,7 @@ use Rattle.std.proofs.Common.{ℕ, List, ◌≡◌, subst, sym}
 use Rattle.markdown_events.specs.InlineEvents.{RangedEvent}
 use Rattle.markdown_events.specs.InsecureCharacters.{with_replacements}
 use Rattle.markdown_events.specs.Nesting.{without_ranges}
-use Rattle.markdown_events.specs.declared.event_reader.PageSetting.{PageSetting}
+use Rattle.markdown_events.specs.declared.settings.PageSetting.{PageSetting}
 use Rattle.markdown_events.specs.page.Given.{PageLeft, Gives}
 use Rattle.markdown_events.specs.page.PageEvents.{ArePageEvents}
 use Rattle.markdown_events.proofs.ForCallers.{page_events_nest}

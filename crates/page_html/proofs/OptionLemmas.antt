@@ -2,7 +2,7 @@
 use Rattle.std.proofs.Common.{ℕ, Bool, true, false, ◌≡◌, if◌then◌else◌, bit_or, refl}
 use Rattle.markdown_values.specs.declared.values.extensions.Options.{Options}
 use Rattle.markdown_values.specs.values.Extensions.{bits_of}
-use Rattle.markdown_events.specs.declared.event_reader.PageSetting.{PageSetting}
+use Rattle.markdown_events.specs.declared.settings.PageSetting.{PageSetting}
 use Rattle.markdown_events.specs.page.Settings.{asked_by, not_built}
 
 -- the bits of the options that are asked for

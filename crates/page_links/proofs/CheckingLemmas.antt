@@ -4,7 +4,7 @@ use Rattle.std.proofs.Common.{arith, inl, inr, refl}
 use Rattle.std.specs.Prelude.{IfSome}
 use Rattle.std.specs.Io.KnownBytes.{IsAtEnd}
 use Rattle.std.proofs.lemmas.Option.{IfSome_then}
-use Rattle.markdown_events.specs.declared.event_reader.PageSetting.{PageSetting}
+use Rattle.markdown_events.specs.declared.settings.PageSetting.{PageSetting}
 use Rattle.program_faults.specs.Steps.{AreReads, HasEnded, HasFailed}
 use Rattle.program_faults.specs.declared.reasons.Reason.{Reason}
 use Rattle.page_programs.specs.Runs.{Prints}

@@ -10,7 +10,7 @@ use Rattle.markdown_values.specs.values.Tags.{definition_list, definition_list_t
 use Rattle.markdown_values.specs.values.Tags.{table_cell, emphasis, strong, strikethrough, superscript, subscript, link, image, metadata_block}
 use Rattle.markdown_events.specs.EventLaws.{LiesIn, RiseIn}
 use Rattle.markdown_events.specs.InlineEvents.{RangedEvent}
-use Rattle.markdown_events.specs.declared.event_reader.PageSetting.{PageSetting}
+use Rattle.markdown_events.specs.declared.settings.PageSetting.{PageSetting}
 use Rattle.markdown_events.proofs.ForCallers.{page_events_within}
 use Rattle.page_links.specs.links.Laws.{AreStarted, RiseFrom, starts_link}
 use Rattle.page_links.specs.links.Links.{AreLinksOf, Seen, link_of}

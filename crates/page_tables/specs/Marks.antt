@@ -7,7 +7,7 @@ use Rattle.markdown_values.specs.declared.values.tags.TagEnd.TheVariants as End
 use Rattle.markdown_values.specs.values.Events.{start, end}
 use Rattle.markdown_values.specs.values.Tags.{table, table_head, table_row}
 use Rattle.markdown_events.specs.InlineEvents.{RangedEvent}
-use Rattle.markdown_events.specs.declared.event_reader.PageSetting.{PageSetting}
+use Rattle.markdown_events.specs.declared.settings.PageSetting.{PageSetting}
 use Rattle.markdown_events.specs.page.PageEvents.{ArePageEvents}
 use Rattle.page_tables.specs.declared.marks.Mark.{Mark}
 use Rattle.page_tables.specs.declared.marks.Mark.TheVariants as Marks

@@ -12,7 +12,7 @@ use Rattle.markdown_inlines.specs.declared.inlines.Inline.{Inline}
 use Rattle.markdown_inlines.specs.declared.inlines.Inline.TheVariants as I
 use Rattle.markdown_inlines.specs.declared.links.Link.{Link}
 use Rattle.markdown_events.specs.InlineEvents.{RangedEvent, ranged, seen_event, AreEvents, Begins, closing, end_in, open_ends}
-use Rattle.markdown_events.specs.Passes.{Written, IsWritten, begun, closed, ended, ending_at, with_end, with_events}
+use Rattle.markdown_events.specs.Passes.{Written, IsWritten, begun, closed, ending_at, with_end, with_events}
 use Rattle.markdown_events.specs.TagEnds.{tag_end}
 use Rattle.markdown_events.specs.Targets.{Targets}
 use Rattle.markdown_events.specs.declared.elements.Begun.{Begun}

@@ -9,7 +9,7 @@ use Rattle.markdown_blocks.specs.first_blocks.Waiting.{waiting_behind}
 use Rattle.markdown_blocks.specs.link_definitions.LinkDefinitions.{Named, first_of}
 use Rattle.markdown_blocks.specs.lists.Lists.{Nodes, nothing, leaf_then, container_then, flatten}
 use Rattle.markdown_events.specs.InlineEvents.{RangedEvent}
-use Rattle.markdown_events.specs.declared.event_reader.PageSetting.{PageSetting}
+use Rattle.markdown_events.specs.declared.settings.PageSetting.{PageSetting}
 use Rattle.markdown_events.specs.page.LeafEvents.{Place}
 use Rattle.markdown_events.specs.page.PageEvents.{ArePageEvents, AreNodeEvents, OpenList, after_block, block_setting, blocks_of, container_tag, element_of}
 use Rattle.markdown_events.specs.page.PageEvents.{ending, inside, list_after, list_end, list_in, list_start, outermost, starting}

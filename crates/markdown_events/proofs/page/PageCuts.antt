@@ -14,7 +14,7 @@ use Rattle.markdown_blocks.proofs.ForCallers.{page_contents_stand, page_cut_out,
 use Rattle.markdown_events.specs.EventLaws.{AreAtBoundaries}
 use Rattle.markdown_events.specs.InlineEvents.{RangedEvent}
 use Rattle.markdown_events.specs.Targets.{Targets, or_else}
-use Rattle.markdown_events.specs.declared.event_reader.PageSetting.{PageSetting}
+use Rattle.markdown_events.specs.declared.settings.PageSetting.{PageSetting}
 use Rattle.markdown_events.specs.page.PageEvents.{AreNodeEvents, ArePageEvents, ArePageEventsWith, block_setting, blocks_of, outermost}
 use Rattle.markdown_events.specs.page.TaskEvents.{BlockSetting}
 use Rattle.markdown_events.proofs.page.NodeCuts.{NodesAt, nodes_at}

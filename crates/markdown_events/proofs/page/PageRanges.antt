@@ -12,7 +12,7 @@ use Rattle.markdown_blocks.proofs.ForCallers.{HasInlines, containers_hold_some, 
 use Rattle.markdown_events.specs.EventLaws.{AreWithin}
 use Rattle.markdown_events.specs.InlineEvents.{RangedEvent}
 use Rattle.markdown_events.specs.Targets.{Targets, or_else}
-use Rattle.markdown_events.specs.declared.event_reader.PageSetting.{PageSetting}
+use Rattle.markdown_events.specs.declared.settings.PageSetting.{PageSetting}
 use Rattle.markdown_events.specs.page.LeafEvents.{Place}
 use Rattle.markdown_events.specs.page.PageEvents.{AreNodeEvents, ArePageEvents, ArePageEventsWith, block_setting, blocks_of, outermost}
 use Rattle.markdown_events.specs.page.Places.{lines_in_page}

@@ -1,6 +1,6 @@
 -- The events that a parser gives are those of its page.
 use mathlib.Core.Path.{fun_ext}
-use Rattle.std.proofs.Common.{ℕ, List, [], ◌∷◌, ◌++◌, Option, Some, None, Result, Ok, Err, IfOk, IfErr, IfSome, IfNone, ◌≡◌, refl, sym, ap, subst, ◌∙◌}
+use Rattle.std.proofs.Common.{ℕ, List, [], ◌∷◌, ◌++◌, Option, Some, None, Result, Ok, Err, IfOk, IfErr, IfSome, IfNone, ◌≡◌, refl, sym, ap, subst}
 use Rattle.markdown_blocks.proofs.ForCallers.{events_of_nodes}
 use Rattle.markdown_blocks.specs.declared.containers.Container.{Container}
 use Rattle.markdown_blocks.specs.events.Events.{Event, IsEventsOf, LeafBlock, starts, leaf, ends}
@@ -9,7 +9,7 @@ use Rattle.markdown_blocks.specs.lists.Lists.{Nodes, flatten}
 use Rattle.markdown_events.specs.InlineEvents.{RangedEvent}
 use Rattle.markdown_events.specs.Targets.{Targets, nowhere, or_else}
 use Rattle.markdown_events.specs.declared.page.spans.Span.{Span}
-use Rattle.markdown_events.specs.declared.event_reader.PageSetting.{PageSetting}
+use Rattle.markdown_events.specs.declared.settings.PageSetting.{PageSetting}
 use Rattle.markdown_events.specs.page.Given.{AreEventsFrom, Gives, GivesWith, PageLeft, left_with, setting_with}
 use Rattle.markdown_events.specs.page.OpenElements.{begun, end_events, ended, next_span, none_open, passed, place_in, start_events}
 use Rattle.markdown_events.specs.page.PageEvents.{block_setting, blocks_of, ArePageEvents, ArePageEventsWith, AreNodeEvents, outermost}

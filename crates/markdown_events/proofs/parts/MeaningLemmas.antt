@@ -1,10 +1,9 @@
 -- A text in which no byte begins an escape, a character reference or a CR means itself.
-use Rattle.std.proofs.Common.{◌≡◌, ◌≢◌, ◌==◌, ◌||◌, not, ℕ, Bool, true, false, List, [], ◌∷◌, ◌++◌, get_or, length, one-add, arith, suc, refl, sym, ap, ◌∙◌, inl, inr, true≢false}
+use Rattle.std.proofs.Common.{◌≡◌, not, ℕ, Bool, true, false, List, [], ◌∷◌, ◌++◌, get_or, length, one-add, arith, suc, refl, sym, ap, ◌∙◌, inl, inr, true≢false}
 use Rattle.std.specs.List.{list_all, prefix_len}
 use Rattle.std.specs.Prelude.{nat_eq}
 use Rattle.std.proofs.lemmas.Bool.{and_parts, cases_Bool, eq-eqb, eqb-true, ne_eqb}
 use Rattle.html_entities.specs.Entities.{html_entity}
-use Rattle.markdown_scanners_tree.specs.scanners.entities.CharacterReference.{Lookup}
 use Rattle.markdown_scanners_tree.specs.scanners.unescaping.Unescaping.{ArePieces, Fits, IsAmpersandReference, IsBackslashEscape, IsDroppedReturn}
 use Rattle.markdown_scanners_tree.specs.scanners.unescaping.Unescaping.{IsFirstFit, IsTablePipe, Piece, joined_meanings}
 use Rattle.markdown_scanners_tree.specs.scanners.unescaping.private.FirstPiece.{begins_change}

@@ -15,7 +15,7 @@ use Rattle.markdown_blocks.specs.lists.Lists.{Nodes, nothing, leaf_then, contain
 use Rattle.markdown_events.specs.InlineEvents.{RangedEvent, ranged}
 use Rattle.markdown_events.specs.TagEnds.{tag_end}
 use Rattle.markdown_events.specs.Targets.{Targets, or_else}
-use Rattle.markdown_events.specs.declared.event_reader.PageSetting.{PageSetting}
+use Rattle.markdown_events.specs.declared.settings.PageSetting.{PageSetting}
 use Rattle.markdown_events.specs.page.LeafEvents.{Place}
 use Rattle.markdown_events.specs.declared.elements.Element.{Element}
 use Rattle.markdown_events.specs.declared.page.spans.Span.{Span}

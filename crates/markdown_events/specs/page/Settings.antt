@@ -3,7 +3,7 @@ use Rattle.std.specs.Prelude.{ℕ, Bool, ◌==◌, ◌≡◌, ⊤}
 use Rattle.std.specs.Int.RustNames.{bit_and}
 use Rattle.markdown_values.specs.declared.values.extensions.Options.{Options}
 use Rattle.markdown_values.specs.values.Extensions.{bits_of}
-use Rattle.markdown_events.specs.declared.event_reader.PageSetting.{PageSetting}
+use Rattle.markdown_events.specs.declared.settings.PageSetting.{PageSetting}
 use Rattle.markdown_events.specs.declared.settings.NewError.{NewError}
 use Rattle.markdown_events.specs.declared.settings.NewError.TheVariants.{NotBuilt, Refused}
 

@@ -29,6 +29,7 @@ pub(crate) fn element<'a>(
 }
 
 /// The same of a leaf block. What it holds is not moved where its start is put before it.
+#[inline(always)]
 pub(crate) fn block_element<'a>(
     tag: Tag<'a>,
     from: usize,

@@ -1,5 +1,5 @@
 //! The events of a leaf block. (CommonMark 0.31.2, chapter 4)
-ghost use Rattle.std.specs.Prelude.{◌≡◌, ◌<◌, [], ◌∷◌, map, IfOk, IsTrue};
+ghost use Rattle.std.specs.Prelude.{◌≡◌, ◌<◌, [], ◌∷◌, ℕ, Bool, map, IfOk, IsTrue};
 ghost use Rattle.std.specs.Str.{IsUtf8};
 ghost use Rattle.markdown_values.specs.strings.Text.{cow_text};
 ghost use Rattle.markdown_values.specs.values.Events.{rule};
@@ -8,11 +8,13 @@ ghost use Rattle.markdown_blocks.specs.events.Events.{seen_leaf};
 ghost use Rattle.markdown_blocks.specs.info.Info.{info_of};
 ghost use Rattle.markdown_blocks.specs.laws.Characters.{IsCutOut};
 ghost use Rattle.markdown_blocks.specs.laws.Order.{HoldsText};
-ghost use Rattle.markdown_events.specs.InlineEvents.{ranged, seen_event};
+ghost use Rattle.markdown_scanners_tree.specs.declared.scanners.html_kinds.HtmlBlockKind.{HtmlBlockKind};
+ghost use Rattle.markdown_blocks.specs.declared.blocks.BlockKind.TheVariants.{Fenced, Heading, Html, Indented};
+ghost use Rattle.markdown_events.specs.InlineEvents.{EventSetting, ranged, seen_event};
 ghost use Rattle.markdown_events.specs.Meanings.{IsMeaning};
 ghost use Rattle.markdown_events.specs.page.InPage.{HasAsciiFence};
 ghost use Rattle.markdown_events.specs.page.LeafContent.{HasPlace, LieInBlock};
-ghost use Rattle.markdown_events.specs.page.LeafEvents.{AreLeafEvents, HasNoEvents, enclosed, enclosed_lines, in_paragraph, lines_place, plain_heading};
+ghost use Rattle.markdown_events.specs.page.LeafEvents.{AreLeafEvents, AreLeafEventsOf, HasNoEvents, enclosed, enclosed_lines, in_paragraph, lines_place, plain_heading};
 ghost use Rattle.markdown_events.specs.page.Spans.{block_end};
 
 use crate::definitions::Definitions;
@@ -35,6 +37,9 @@ use std::ops::Range;
 /// The events of a leaf block of a page, each with its range in the page. The block stands in these
 /// containers, of which its first line goes on with `kept`, directly in an item of a tight list or
 /// not.
+//
+// What isn't a paragraph has a function of its own that is not inlined: a function clears the memory of all its
+// values where it begins, and most blocks are paragraphs.
 pub(crate) fn leaf_events<'a, D: Definitions<'a>>(
     alloc: Global,
     memory: &mut InlineMemory<'a>,
@@ -61,19 +66,17 @@ pub(crate) fn leaf_events<'a, D: Definitions<'a>>(
     match leaf.kind {
         BlockKind::Blank | BlockKind::Definition => Ok(VecDeque::new(alloc)),
         BlockKind::Break => rule(alloc, leaf),
-        BlockKind::Heading(level) | BlockKind::Setext(level) => {
-            let inner = text_events(
-                alloc,
-                memory,
-                page,
-                extensions,
-                definitions,
-                containers,
-                kept,
-                leaf,
-            )?;
-            enclosed(heading(alloc, level), leaf, inner)
-        }
+        BlockKind::Heading(level) | BlockKind::Setext(level) => heading_events(
+            alloc,
+            memory,
+            page,
+            extensions,
+            definitions,
+            containers,
+            kept,
+            leaf,
+            level,
+        ),
         BlockKind::Paragraph => {
             let inner = text_events(
                 alloc,
@@ -87,19 +90,11 @@ pub(crate) fn leaf_events<'a, D: Definitions<'a>>(
             )?;
             in_paragraph(is_tight, leaf, inner)
         }
-        BlockKind::Indented => {
-            let inner = code_events(alloc, memory, page, containers, kept, leaf, false)?;
-            enclosed_lines(Tag::CodeBlock(CodeBlockKind::Indented), leaf, inner)
-        }
+        BlockKind::Indented => indented_events(alloc, memory, page, containers, kept, leaf),
         BlockKind::Fenced(_, byte) => {
-            let inner = code_events(alloc, memory, page, containers, kept, leaf, false)?;
-            let info = info_meaning(alloc, leaf.text, byte)?;
-            enclosed_lines(Tag::CodeBlock(CodeBlockKind::Fenced(info)), leaf, inner)
+            fenced_events(alloc, memory, page, containers, kept, leaf, byte)
         }
-        BlockKind::Html(_) => {
-            let inner = code_events(alloc, memory, page, containers, kept, leaf, true)?;
-            enclosed_lines(Tag::HtmlBlock, leaf, inner)
-        }
+        BlockKind::Html(_) => html_events(alloc, memory, page, containers, kept, leaf),
         BlockKind::Table(columns) => table_events(
             alloc,
             memory,
@@ -121,7 +116,116 @@ pub(crate) fn has_no_events(kind: BlockKind) -> bool
     matches!(kind, BlockKind::Blank | BlockKind::Definition)
 }
 
+// A heading of this level. (4.2, 4.3)
+#[inline(never)]
+fn heading_events<'a, D: Definitions<'a>>(
+    alloc: Global,
+    memory: &mut InlineMemory<'a>,
+    page: &'a str,
+    extensions: InlineExtensions,
+    definitions: &D,
+    containers: &[Container],
+    kept: usize,
+    leaf: Leaf<'a>,
+    level: HeadingLevel,
+) -> Result<VecDeque<(Event<'a>, Range<usize>)>, AllocError>
+    requires cut_out { IsCutOut page.now (seen_leaf leaf) }
+    requires text { HoldsText page.now containers.now kept (seen_leaf leaf) }
+    ensures events { IfOk result (λ events. (is_tight : Bool)
+        → AreLeafEventsOf (Heading level) page.now
+        (record { asked = extensions; targets = D.targets definitions.now })
+        (record { containers = containers.now; kept = kept; is_tight = is_tight })
+        (seen_leaf leaf.entry) (map seen_event events.items)) }
+    ensures within { IfOk result (λ events. HasPlace (seen_leaf leaf.entry)
+        → LieInBlock (seen_leaf leaf.entry) (map seen_event events.items)) }
+{
+    let inner = text_events(
+        alloc,
+        memory,
+        page,
+        extensions,
+        definitions,
+        containers,
+        kept,
+        leaf,
+    )?;
+    enclosed(heading(alloc, level), leaf, inner)
+}
+
+// An indented code block. (4.4)
+#[inline(never)]
+fn indented_events<'a>(
+    alloc: Global,
+    memory: &mut InlineMemory<'a>,
+    page: &'a str,
+    containers: &[Container],
+    kept: usize,
+    leaf: Leaf<'a>,
+) -> Result<VecDeque<(Event<'a>, Range<usize>)>, AllocError>
+    requires cut_out { IsCutOut page.now (seen_leaf leaf) }
+    requires text { HoldsText page.now containers.now kept (seen_leaf leaf) }
+    ensures events { IfOk result (λ events. (setting : EventSetting) (is_tight : Bool)
+        → AreLeafEventsOf Indented page.now setting
+        (record { containers = containers.now; kept = kept; is_tight = is_tight })
+        (seen_leaf leaf.entry) (map seen_event events.items)) }
+    ensures within { IfOk result (λ events. HasPlace (seen_leaf leaf.entry)
+        → LieInBlock (seen_leaf leaf.entry) (map seen_event events.items)) }
+{
+    let inner = code_events(alloc, memory, page, containers, kept, leaf, false)?;
+    enclosed_lines(Tag::CodeBlock(CodeBlockKind::Indented), leaf, inner)
+}
+
+// A fenced code block, whose fence is of this byte. (4.5)
+#[inline(never)]
+fn fenced_events<'a>(
+    alloc: Global,
+    memory: &mut InlineMemory<'a>,
+    page: &'a str,
+    containers: &[Container],
+    kept: usize,
+    leaf: Leaf<'a>,
+    byte: u8,
+) -> Result<VecDeque<(Event<'a>, Range<usize>)>, AllocError>
+    requires cut_out { IsCutOut page.now (seen_leaf leaf) }
+    requires ascii { byte < 128 }
+    requires text { HoldsText page.now containers.now kept (seen_leaf leaf) }
+    ensures events { IfOk result (λ events. (count : ℕ) (setting : EventSetting) (is_tight : Bool)
+        → AreLeafEventsOf (Fenced count byte) page.now setting
+        (record { containers = containers.now; kept = kept; is_tight = is_tight })
+        (seen_leaf leaf.entry) (map seen_event events.items)) }
+    ensures within { IfOk result (λ events. HasPlace (seen_leaf leaf.entry)
+        → LieInBlock (seen_leaf leaf.entry) (map seen_event events.items)) }
+{
+    let inner = code_events(alloc, memory, page, containers, kept, leaf, false)?;
+    let info = info_meaning(alloc, leaf.text, byte)?;
+    enclosed_lines(Tag::CodeBlock(CodeBlockKind::Fenced(info)), leaf, inner)
+}
+
+// An HTML block. (4.6)
+#[inline(never)]
+fn html_events<'a>(
+    alloc: Global,
+    memory: &mut InlineMemory<'a>,
+    page: &'a str,
+    containers: &[Container],
+    kept: usize,
+    leaf: Leaf<'a>,
+) -> Result<VecDeque<(Event<'a>, Range<usize>)>, AllocError>
+    requires cut_out { IsCutOut page.now (seen_leaf leaf) }
+    requires text { HoldsText page.now containers.now kept (seen_leaf leaf) }
+    ensures events { IfOk result (λ events. (kind : HtmlBlockKind) (setting : EventSetting) (is_tight : Bool)
+        → AreLeafEventsOf (Html kind) page.now setting
+        (record { containers = containers.now; kept = kept; is_tight = is_tight })
+        (seen_leaf leaf.entry) (map seen_event events.items)) }
+    ensures within { IfOk result (λ events. HasPlace (seen_leaf leaf.entry)
+        → LieInBlock (seen_leaf leaf.entry) (map seen_event events.items)) }
+{
+    let inner = code_events(alloc, memory, page, containers, kept, leaf, true)?;
+    enclosed_lines(Tag::HtmlBlock, leaf, inner)
+}
+
 // A thematic break. (4.1)
+#[inline(never)]
 fn rule<'a>(alloc: Global, leaf: Leaf) -> Result<VecDeque<(Event<'a>, Range<usize>)>, AllocError>
     ensures rule { IfOk result (λ events. map seen_event events.items
         ≡ ranged rule leaf.entry.place (block_end (seen_leaf leaf.entry)) ∷ []) }
@@ -134,6 +238,7 @@ fn rule<'a>(alloc: Global, leaf: Leaf) -> Result<VecDeque<(Event<'a>, Range<usiz
 }
 
 // What a block holds, between its start and its end.
+#[inline(always)]
 fn enclosed<'a>(
     tag: Tag<'a>,
     leaf: Leaf,

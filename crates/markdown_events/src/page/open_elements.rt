@@ -313,8 +313,8 @@ fn is_ordered(item: ListItem) -> bool
     matches!(item.delimiter, b'.' | b')')
 }
 
-// The tag of the list that begins with an item.
-fn list_tag<'a>(first: ListItem) -> Tag<'a>
+/// The tag of the list that begins with an item.
+pub(crate) fn list_tag<'a>(first: ListItem) -> Tag<'a>
     ensures { tag_view cow_text result ≡ list_tag first }
 {
     Tag::List(if is_ordered(first) {
@@ -363,20 +363,8 @@ fn end_of(innermost: OpenElement) -> Edge
     }
 }
 
-/// The event of an edge.
-pub(crate) fn event_of<'a>(edge: Edge) -> Ranged<'a>
-    ensures { seen_event result ≡ edge_event edge }
-{
-    let event = match edge.kind {
-        EdgeKind::List(first) => Event::Start(list_tag(first)),
-        EdgeKind::Container(container) => Event::Start(container_tag(container)),
-        EdgeKind::End(tag) => Event::End(tag),
-    };
-    (event, edge.from..edge.to)
-}
-
-// The tag of a container.
-fn container_tag<'a>(container: Container) -> Tag<'a>
+/// The tag of a container.
+pub(crate) fn container_tag<'a>(container: Container) -> Tag<'a>
     ensures { tag_view cow_text result ≡ container_tag container }
 {
     match container {

@@ -36,6 +36,7 @@ use std::ops::Range;
 ///
 /// The time is linear in the lines and in the events: each row has as many cells as there are
 /// columns, however few its line has.
+#[inline(never)]
 pub(crate) fn table_events<'a, D: Definitions<'a>>(
     alloc: Global,
     memory: &mut InlineMemory<'a>,

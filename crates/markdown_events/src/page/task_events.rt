@@ -32,6 +32,7 @@ use std::ops::Range;
 /// The events of a paragraph of a page with this task list marker: the marker, and the inlines of
 /// what stands after it, each with its range in the page. The paragraph stands in these containers,
 /// of which its first line goes on with `kept`, directly in an item of a tight list or not.
+#[inline(never)]
 pub(crate) fn task_events<'a, D: Definitions<'a>>(
     alloc: Global,
     memory: &mut InlineMemory<'a>,

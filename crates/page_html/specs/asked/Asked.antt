@@ -2,7 +2,7 @@
 use Rattle.std.specs.Prelude.{ℕ, Bool, ◌||◌, List, [], ◌∷◌, codes, if◌then◌else◌}
 use Rattle.std.specs.Borrow.{Bor}
 use Rattle.markdown_inlines.specs.declared.extensions.InlineExtensions.{InlineExtensions}
-use Rattle.markdown_events.specs.declared.event_reader.PageSetting.{PageSetting}
+use Rattle.markdown_events.specs.declared.settings.PageSetting.{PageSetting}
 use Rattle.page_programs.specs.Words.{asks}
 use Rattle.page_html.specs.declared.asked.Asked.{Asked}
 use Rattle.page_html.specs.declared.asked.Form.{Form}

@@ -1,6 +1,6 @@
 -- What checking pages comes to.
 use Rattle.std.specs.Prelude.{ℕ, Bool, true, false, List, [], ◌∷◌, Option, Some, Result}
-use Rattle.markdown_events.specs.declared.event_reader.PageSetting.{PageSetting}
+use Rattle.markdown_events.specs.declared.settings.PageSetting.{PageSetting}
 use Rattle.program_faults.specs.declared.reasons.Reason.{Reason}
 use Rattle.page_programs.specs.Runs.{PrintsAll, PrintsNamed}
 use Rattle.page_programs.specs.declared.stops.Stop.{Stop}

@@ -9,7 +9,7 @@ use Rattle.markdown_blocks.specs.declared.blocks.BlockKind.TheVariants.{Definiti
 use Rattle.markdown_blocks.specs.declared.containers.Container.{Container}
 use Rattle.markdown_blocks.specs.definitions.Content.{content_in}
 use Rattle.markdown_blocks.specs.events.Events.{Event, LeafBlock, IsEventsOf, starts, leaf, ends}
-use Rattle.markdown_events.specs.declared.event_reader.PageSetting.{PageSetting}
+use Rattle.markdown_events.specs.declared.settings.PageSetting.{PageSetting}
 use Rattle.markdown_events.specs.page.PageEvents.{blocks_of}
 use Rattle.page_links.specs.declared.definitions.PageDefinition.{PageDefinition}
 

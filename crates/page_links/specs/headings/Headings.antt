@@ -12,7 +12,7 @@ use Rattle.markdown_values.specs.declared.values.tags.TagEnd.TheVariants as End
 use Rattle.markdown_values.specs.values.Events.{start, end, text, code}
 use Rattle.markdown_values.specs.values.Tags.{heading, image}
 use Rattle.markdown_events.specs.InlineEvents.{RangedEvent}
-use Rattle.markdown_events.specs.declared.event_reader.PageSetting.{PageSetting}
+use Rattle.markdown_events.specs.declared.settings.PageSetting.{PageSetting}
 use Rattle.markdown_events.specs.page.PageEvents.{ArePageEvents}
 use Rattle.page_links.specs.declared.headings.Headings.{Headings}
 

@@ -8,7 +8,7 @@ use Rattle.markdown_scanners_tree.specs.linklabel.Key.{label_key}
 use Rattle.markdown_blocks.specs.link_definitions.LinkDefinitions.{Target}
 use Rattle.markdown_events.specs.Targets.{Targets}
 use Rattle.markdown_events.specs.InlineEvents.{RangedEvent}
-use Rattle.markdown_events.specs.declared.event_reader.PageSetting.{PageSetting}
+use Rattle.markdown_events.specs.declared.settings.PageSetting.{PageSetting}
 use Rattle.markdown_events.specs.page.PageEvents.{ArePageEventsWith}
 use Rattle.page_links.specs.declared.reports.Fault.{Fault}
 use Rattle.page_links.specs.declared.reports.Fault.TheVariants.{NotDefined, NotUsed, DefinedBefore}

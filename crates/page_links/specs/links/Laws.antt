@@ -6,7 +6,7 @@ use Rattle.markdown_values.specs.values.Events.{start}
 use Rattle.markdown_events.specs.EventLaws.{LiesIn}
 use Rattle.markdown_events.specs.InlineEvents.{RangedEvent}
 use Rattle.markdown_events.specs.TagEnds.{tag_end}
-use Rattle.markdown_events.specs.declared.event_reader.PageSetting.{PageSetting}
+use Rattle.markdown_events.specs.declared.settings.PageSetting.{PageSetting}
 use Rattle.markdown_events.specs.page.PageEvents.{ArePageEvents}
 use Rattle.page_links.specs.links.Links.{Seen}
 

@@ -2,7 +2,7 @@
 use Rattle.std.specs.Prelude.{ℕ, Bool, true, false, ◌&&◌, List, [], ◌∷◌, codes, is_none, if◌then◌else◌}
 use Rattle.std.specs.Borrow.{Bor}
 use Rattle.markdown_inlines.specs.declared.extensions.InlineExtensions.{InlineExtensions}
-use Rattle.markdown_events.specs.declared.event_reader.PageSetting.{PageSetting}
+use Rattle.markdown_events.specs.declared.settings.PageSetting.{PageSetting}
 use Rattle.page_programs.specs.Words.{asks, request_of, unknown_of}
 use Rattle.page_programs.specs.declared.words.Request.{Request}
 use Rattle.page_programs.specs.declared.words.Request.TheVariants.{Pages}

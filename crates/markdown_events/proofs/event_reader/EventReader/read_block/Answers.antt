@@ -14,8 +14,9 @@ returns-in-Some-Block-clause-same g c =
     on_ok_weaker c.read_leaf.result (λ read events h. given_leaf _ _ _ read.0 _ events c.requires.waiting next read.1 (rw read.2 at h)) c.read_leaf.ensures.read
 
 pub returns-in-Some-End-clause-same : goal.returns-in-Some-End-clause-same
-returns-in-Some-End-clause-same g c = λ events h.
-    given_end _ _ _ events c.requires.waiting (rw (c.in-Some-End.is, c.in-Some-End.field-0-is) at c.next_block.ensures.next) (rw c.read_end.ensures.read at h)
+returns-in-Some-End-clause-same g c =
+    let next = rw (c.in-Some-End.is, c.in-Some-End.field-0-is) at c.next_block.ensures.next in
+    on_ok_weaker c.read_end.result (λ read events h. given_end _ _ _ events c.requires.waiting next (rw read at h)) c.read_end.ensures.read
 
 pub read_start-requires-clause-next : goal.read_start-requires-clause-next
 read_start-requires-clause-next g c = rw (c.in-Some-Start.is, c.in-Some-Start.field-0-is) at c.next_block.ensures.next

@@ -1,4 +1,4 @@
-use Rattle.std.proofs.Common.{[], ◌∷◌, ◌++◌, ◌<◌, ◌≡◌, ◌∙◌, drop, length, map, sym, ap, subst, arith}
+use Rattle.std.proofs.Common.{[], ◌∷◌, ◌<◌, ◌≡◌, ◌∙◌, drop, length, map, sym, ap, subst, arith}
 use Rattle.std.proofs.lemmas.Bool.{eqb-true}
 use Rattle.std.proofs.lemmas.List.{length-drop, map-append}
 use Rattle.markdown_blocks.specs.events.Events.{leaf, seen_event, seen_leaf}

@@ -1,4 +1,4 @@
-use Rattle.std.proofs.Common.{◌≡◌, ◌+◌, ◌-◌, ◌^◌, ◌<◌, ◌∙◌, ap, arith, drop, length, refl, subst, sym, take}
+use Rattle.std.proofs.Common.{◌∙◌, ap, arith, drop, refl, sym, take}
 use Rattle.markdown_scanners_tree.specs.scanners.TextLines.{lines_of}
 use Rattle.markdown_blocks.specs.content.Content.{IsContent, content_with}
 use Rattle.markdown_blocks.specs.content.Parts.{one_part}

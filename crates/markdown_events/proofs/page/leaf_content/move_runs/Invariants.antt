@@ -1,5 +1,4 @@
 -- The events before the index are moved, and those from it on stand as they did.
-use Rattle.std.proofs.Common.{◌≡◌}
 use Rattle.markdown_blocks.specs.content.Content.{IsRunOf}
 use Rattle.markdown_events.proofs.page.leaf_content.RangeLemmas.{AreMovedTo}
 use Rattle.markdown_events.proofs.page.leaf_content.move_runs.Given as goal

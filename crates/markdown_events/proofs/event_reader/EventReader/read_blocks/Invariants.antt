@@ -1,7 +1,7 @@
 use Rattle.std.proofs.Common.{List, length, ◌≤◌, ◌≡◌}
 use Rattle.markdown_events.specs.InlineEvents.{RangedEvent}
 use Rattle.markdown_events.specs.page.Given.{GivesWith, events_left}
-use Rattle.markdown_events.proofs.event_reader.EventReader.read_until_ready.Given as goal
+use Rattle.markdown_events.proofs.event_reader.EventReader.read_blocks.Given as goal
 
 abbrev pub invariant-loop-self : goal.invariant-loop-self
 invariant-loop-self g l =
