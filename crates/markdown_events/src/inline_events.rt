@@ -173,22 +173,22 @@ fn push_inline<'a, D: Definitions<'a>>(
 
 // Begins emphasis with so many delimiters on each side.
 #[inline(never)]
-fn begin_emphasis(writer: &mut Writer, place: usize, count: usize) -> Result<(), AllocError>
+fn begin_emphasis(writer: &mut Writer, from: usize, count: usize) -> Result<(), AllocError>
     ensures { OnOk result (writer.new
-        ≡ begun (if count == 2 then strong else emphasis) place writer.old) }
+        ≡ begun (if count == 2 then strong else emphasis) from writer.old) }
 {
     if count == 2 {
-        return writer.begin(Tag::Strong, place);
+        return writer.begin(Tag::Strong, from);
     }
-    writer.begin(Tag::Emphasis, place)
+    writer.begin(Tag::Emphasis, from)
 }
 
 // Begins strikethrough.
 #[inline(never)]
-fn begin_strikethrough(writer: &mut Writer, place: usize) -> Result<(), AllocError>
-    ensures { OnOk result (writer.new ≡ begun strikethrough place writer.old) }
+fn begin_strikethrough(writer: &mut Writer, from: usize) -> Result<(), AllocError>
+    ensures { OnOk result (writer.new ≡ begun strikethrough from writer.old) }
 {
-    writer.begin(Tag::Strikethrough, place)
+    writer.begin(Tag::Strikethrough, from)
 }
 
 // Begins a link or an image; a wikilink without a pipe shows its target.
@@ -282,7 +282,7 @@ fn push_words<'a>(
     }
 }
 
-// Adds what stands from `from` on as a text, of which the source stands from one place up to another.
+// Adds what stands from `from` up to `end` as a text, whose source begins at `start`.
 #[inline(never)]
 fn push_part<'a>(
     alloc: Global,
@@ -301,7 +301,7 @@ fn push_part<'a>(
     writer.push(Event::Text(words), start, end)
 }
 
-// Adds the text of the character reference that stands from one place up to another.
+// Adds the text of the character reference that stands from `start` up to `end`.
 #[inline(never)]
 fn push_meaning<'a>(
     source: &Source<'a, '_>,
@@ -342,7 +342,7 @@ fn push_code<'a>(
     writer.push(Event::Code(code), piece.start, piece.end)
 }
 
-// Adds the raw HTML that stands from one place up to another.
+// Adds the raw HTML that stands from `start` up to `end`.
 #[inline(never)]
 fn push_html<'a>(
     alloc: Global,
