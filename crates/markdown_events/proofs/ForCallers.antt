@@ -10,5 +10,6 @@ pub use Rattle.markdown_events.proofs.page.OnePage.{one_list_of_page_events}
 pub use Rattle.markdown_events.proofs.page.PageBalance.{page_events_balance, page_events_nest, page_events_with_balance, page_events_with_nest}
 pub use Rattle.markdown_events.proofs.page.PageCuts.{page_events_at_boundaries, page_events_with_at_boundaries}
 pub use Rattle.markdown_events.proofs.page.PageRanges.{page_events_with_within, page_events_within}
+pub use Rattle.markdown_events.proofs.page.ParserLemmas.{given_first, given_none}
 pub use Rattle.markdown_events.proofs.page.task_events.TaskLaws.{block_events_balance, one_list_of_block_events}
 pub use Rattle.markdown_events.proofs.text_merge.KeptLaws.{merged_at_boundaries, merged_balance, merged_nest, merged_within}

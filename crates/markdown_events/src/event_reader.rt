@@ -231,12 +231,8 @@ impl<'a> EventReader<'a> {
         Ok(self.take_ready())
     }
 
-    /// Reads block events until `take_ready` has the next event of the page, or none is left. After a
-    /// refusal the same event may be asked for again.
-    ///
-    /// # Errors
-    ///
-    /// `AllocError` where memory is refused, which is asked for as by `next_with`.
+    /// Reads block events until `take_ready` has the next event of the page, or none is left. Memory is
+    /// asked for as by `next_with`.
     #[inline(always)]
     pub(crate) fn read_until_ready<B: Definitions<'a>>(
         &mut self,
@@ -249,15 +245,13 @@ impl<'a> EventReader<'a> {
         ensures done { OnOk result (self.new.ready ≡ [] → IsDone self.new) }
         ensures definitions { self.new.known ≡ self.old.known }
     {
-        // Most events are ready.
         if self.ready.is_empty() {
             return self.read_blocks(broken);
         }
         Ok(())
     }
 
-    // The same. It isn't inlined: events that are ready are taken faster so.
-    #[inline(never)]
+    #[inline(never)] // Events that are ready are taken faster so.
     fn read_blocks<B: Definitions<'a>>(&mut self, broken: &B) -> Result<(), AllocError>
         ensures same { (events : List RangedEvent)
             → GivesWith (B.targets broken.now) self.new events
@@ -456,6 +450,40 @@ impl<'a> EventReader<'a> {
         self.ready.put_edges(end, list);
         self.blocks.pass();
         Ok(())
+    }
+
+    /// Makes the next event ready, if one is left: `first` lends it, and `pass_first` passes it, so that
+    /// it need not be moved. Memory is asked for as by `next`; a refused call may be made again.
+    ///
+    /// # Errors
+    ///
+    /// `AllocError` where memory is refused.
+    #[inline(always)]
+    pub fn fill(&mut self) -> Result<(), AllocError>
+        ensures same { (events : List RangedEvent) → Gives self.new events → Gives self.old events }
+        ensures no_more { events_left self.new ≤ events_left self.old }
+        ensures done { OnOk result (self.new.ready ≡ [] → IsDone self.new) }
+        ensures definitions { self.new.known ≡ self.old.known }
+    {
+        self.read_until_ready(&NoBrokenLinks)
+    }
+
+    /// The first of the events that are ready.
+    #[inline(always)]
+    pub fn first(&self) -> Option<&(Event<'a>, Range<usize>)>
+        ensures event { IfSome result (λ event.
+            self.now.ready ≡ seen_event event.now ∷ drop 1 self.now.ready) }
+        ensures none { IfNone result (self.now.ready ≡ []) }
+    {
+        self.ready.first()
+    }
+
+    /// Passes the first of the events that are ready.
+    #[inline(always)]
+    pub fn pass_first(&mut self)
+        ensures { self.new ≡ record self.old { ready = drop 1 self.old.ready } }
+    {
+        self.ready.pass();
     }
 
     /// The first of the events that are ready.

@@ -142,7 +142,8 @@ impl<'a> Parser<'a> {
         ensures next { GivesNextEventWith (B.targets broken.now) self.old result self.new }
         ensures fewer { IfSome result (λ _. items_left self.new < items_left self.old) }
     {
-        without_range(self.events.next_with(broken))
+        let item = self.events.next_with(broken);
+        without_range(item)
     }
 }
 

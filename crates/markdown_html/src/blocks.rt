@@ -135,11 +135,12 @@ impl<'a> HtmlWriter<'a> {
     }
 
     /// Begins a table.
-    pub(crate) fn start_table(&mut self, columns: Vec<Alignment>) -> Result<(), AllocError>
-        ensures { OnOk result (self.new ≡ table_started columns.items self.old) }
+    pub(crate) fn start_table(&mut self, columns: &[Alignment]) -> Result<(), AllocError>
+        ensures { OnOk result (self.new ≡ table_started columns.now self.old) }
     {
         self.write_on_line("<table>\n")?;
-        self.columns = columns;
+        self.columns.clear();
+        self.columns.extend_from_slice(columns)?;
         self.cell = 0;
         self.has_body = false;
         Ok(())

@@ -75,10 +75,10 @@ impl<'a> HtmlWriter<'a> {
         setting: &HtmlSetting<A>,
         kind: LinkType,
         destination: &str,
-        title: CowStr<'a>,
+        title: &CowStr<'a>,
     ) -> Result<(), AllocError>
         ensures { OnOk result (self.new ≡ image_started (seen_setting A.allows setting.now)
-            (target kind destination.now) (cow_text title.entry) self.old) }
+            (target kind destination.now) (cow_text title.now) self.old) }
     {
         self.write_before_image(setting, kind, destination, title.as_str())?;
         self.open_image(title)
@@ -108,10 +108,11 @@ impl<'a> HtmlWriter<'a> {
     }
 
     /// Begins an image with this title, of which nothing is written.
-    pub(crate) fn open_image(&mut self, title: CowStr<'a>) -> Result<(), AllocError>
+    pub(crate) fn open_image(&mut self, title: &CowStr<'a>) -> Result<(), AllocError>
         ensures { OnOk result
-            (self.new ≡ record self.old { links = Some (cow_text title.entry) ∷ self.old.links }) }
+            (self.new ≡ record self.old { links = Some (cow_text title.now) ∷ self.old.links }) }
     {
+        let title = title.clone(self.alloc)?;
         self.links.push(Some(title))?;
         Ok(())
     }

@@ -75,8 +75,12 @@ fn html_of_reader<A: AllowedAddresses>(
         (seen_setting A.allows setting.now) (string_bytes html)) }
 {
     let mut writer = HtmlWriter::new(alloc);
-    while let Some((event, _)) = reader.next()? {
-        writer.push(setting, event)?;
+    loop {
+        reader.fill()?;
+        let Some((event, _)) = reader.first() else {
+            return Ok(writer.into_string());
+        };
+        writer.push_lent(setting, event)?;
+        reader.pass_first();
     }
-    Ok(writer.into_string())
 }

@@ -81,7 +81,6 @@ impl<'a> HtmlWriter<'a> {
     ///
     /// `AllocError` where memory is refused. The writer is spent then: what it had written is given
     /// back, and it refuses each later event. Another one writes the events again, from the first on.
-    #[inline(always)]
     pub fn push<A: AllowedAddresses>(
         &mut self,
         setting: &HtmlSetting<A>,
@@ -89,6 +88,25 @@ impl<'a> HtmlWriter<'a> {
     ) -> Result<(), AllocError>
         ensures html { OnOk result (self.new ≡ after_event (seen_setting A.allows setting.now)
             (event_view cow_text event.entry) self.old) }
+        ensures unspent { OnOk result (self.old.is_spent ≡ false) }
+        ensures refused { OnErr result (self.new ≡ spent) }
+    {
+        self.push_lent(setting, &event)
+    }
+
+    /// The same of an event that is lent: of an image its title is copied, of a table how its columns
+    /// are aligned.
+    ///
+    /// # Errors
+    ///
+    /// `AllocError` as for `push`.
+    pub fn push_lent<A: AllowedAddresses>(
+        &mut self,
+        setting: &HtmlSetting<A>,
+        event: &Event<'a>,
+    ) -> Result<(), AllocError>
+        ensures html { OnOk result (self.new ≡ after_event (seen_setting A.allows setting.now)
+            (event_view cow_text event.now) self.old) }
         ensures unspent { OnOk result (self.old.is_spent ≡ false) }
         ensures refused { OnErr result (self.new ≡ spent) }
     {
@@ -102,14 +120,13 @@ impl<'a> HtmlWriter<'a> {
     }
 
     // Adds an event, and leaves a part of it where memory is refused.
-    #[inline(always)]
     fn push_unless_spent<A: AllowedAddresses>(
         &mut self,
         setting: &HtmlSetting<A>,
-        event: Event<'a>,
+        event: &Event<'a>,
     ) -> Result<(), AllocError>
         ensures html { OnOk result (self.new ≡ after_event (seen_setting A.allows setting.now)
-            (event_view cow_text event.entry) self.old) }
+            (event_view cow_text event.now) self.old) }
         ensures unspent { OnOk result (self.old.is_spent ≡ false) }
     {
         if self.is_spent {
@@ -137,18 +154,17 @@ impl<'a> HtmlWriter<'a> {
     }
 
     // Adds an event outside of images.
-    #[inline(always)]
     fn push_outside_images<A: AllowedAddresses>(
         &mut self,
         setting: &HtmlSetting<A>,
-        event: Event<'a>,
+        event: &Event<'a>,
     ) -> Result<(), AllocError>
         ensures { OnOk result (self.new ≡ with_event (seen_setting A.allows setting.now)
-            (event_view cow_text event.entry) self.old) }
+            (event_view cow_text event.now) self.old) }
     {
         match event {
             Event::Start(tag) => self.start(setting, tag),
-            Event::End(tag) => self.end(tag),
+            Event::End(tag) => self.end(*tag),
             Event::Text(words)
             | Event::InlineMath(words)
             | Event::DisplayMath(words)
@@ -160,19 +176,18 @@ impl<'a> HtmlWriter<'a> {
             Event::SoftBreak => self.write("\n"),
             Event::HardBreak => self.write("<br />\n"),
             Event::Rule => self.write_on_line("<hr />\n"),
-            Event::TaskListMarker(is_checked) => self.write_task_box(is_checked),
+            Event::TaskListMarker(is_checked) => self.write_task_box(*is_checked),
         }
     }
 
     // Adds an event in an image.
-    #[inline(never)]
     fn push_in_image<A: AllowedAddresses>(
         &mut self,
         setting: &HtmlSetting<A>,
-        event: Event<'a>,
+        event: &Event<'a>,
     ) -> Result<(), AllocError>
         ensures { OnOk result (self.new ≡ with_text_of (seen_setting A.allows setting.now)
-            (event_view cow_text event.entry) self.old) }
+            (event_view cow_text event.now) self.old) }
     {
         match event {
             Event::Start(Tag::Image { title, .. }) => self.open_image(title),
@@ -194,24 +209,21 @@ impl<'a> HtmlWriter<'a> {
     }
 
     // Begins an element.
-    //
-    // It isn't inlined: a function clears the memory of all its values where it begins, and most events are no start.
-    #[inline(never)]
     fn start<A: AllowedAddresses>(
         &mut self,
         setting: &HtmlSetting<A>,
-        tag: Tag<'a>,
+        tag: &Tag<'a>,
     ) -> Result<(), AllocError>
         ensures { OnOk result (self.new ≡ started (seen_setting A.allows setting.now)
-            (tag_view cow_text tag.entry) self.old) }
+            (tag_view cow_text tag.now) self.old) }
     {
         match tag {
             Tag::Paragraph => self.write_on_line("<p>"),
-            Tag::Heading { level, .. } => self.start_heading(level),
+            Tag::Heading { level, .. } => self.start_heading(*level),
             Tag::BlockQuote(_) => self.write_on_line("<blockquote>\n"),
-            Tag::CodeBlock(kind) => self.start_code(&kind),
+            Tag::CodeBlock(kind) => self.start_code(kind),
             Tag::HtmlBlock => self.write_on_line(""),
-            Tag::List(first) => self.start_list(first),
+            Tag::List(first) => self.start_list(*first),
             Tag::Item => self.write_on_line("<li>"),
             Tag::Table(columns) => self.start_table(columns),
             Tag::TableHead => self.start_head(),
@@ -227,13 +239,13 @@ impl<'a> HtmlWriter<'a> {
                 dest_url,
                 title,
                 ..
-            } => self.start_link(setting, link_type, dest_url.as_str(), title.as_str()),
+            } => self.start_link(setting, *link_type, dest_url.as_str(), title.as_str()),
             Tag::Image {
                 link_type,
                 dest_url,
                 title,
                 ..
-            } => self.start_image(setting, link_type, dest_url.as_str(), title),
+            } => self.start_image(setting, *link_type, dest_url.as_str(), title),
             Tag::FootnoteDefinition(_)
             | Tag::DefinitionList
             | Tag::DefinitionListTitle
@@ -243,7 +255,6 @@ impl<'a> HtmlWriter<'a> {
     }
 
     // Ends an element.
-    #[inline(never)]
     fn end(&mut self, tag: TagEnd) -> Result<(), AllocError>
         ensures { OnOk result (self.new ≡ ended tag self.old) }
     {

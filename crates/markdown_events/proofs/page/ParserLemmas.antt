@@ -1,6 +1,6 @@
 -- The events that a parser gives are those of its page.
 use mathlib.Core.Path.{fun_ext}
-use Rattle.std.proofs.Common.{ℕ, List, [], ◌∷◌, ◌++◌, Option, Some, None, Result, Ok, Err, IfOk, IfErr, IfSome, IfNone, ◌≡◌, refl, sym, ap, subst}
+use Rattle.std.proofs.Common.{ℕ, List, [], ◌∷◌, ◌++◌, Option, Some, None, Result, Ok, Err, IfOk, IfErr, IfSome, IfNone, ◌≡◌, ◌∙◌, drop, refl, sym, ap, subst}
 use Rattle.markdown_blocks.proofs.ForCallers.{events_of_nodes}
 use Rattle.markdown_blocks.specs.declared.containers.Container.{Container}
 use Rattle.markdown_blocks.specs.events.Events.{Event, IsEventsOf, LeafBlock, starts, leaf, ends}
@@ -10,7 +10,7 @@ use Rattle.markdown_events.specs.InlineEvents.{RangedEvent}
 use Rattle.markdown_events.specs.Targets.{Targets, nowhere, or_else}
 use Rattle.markdown_events.specs.declared.page.spans.Span.{Span}
 use Rattle.markdown_events.specs.declared.settings.PageSetting.{PageSetting}
-use Rattle.markdown_events.specs.page.Given.{AreEventsFrom, Gives, GivesWith, PageLeft, left_with, setting_with}
+use Rattle.markdown_events.specs.page.Given.{AreEventsFrom, Gives, GivesWith, IsDone, PageLeft, left_with, setting_of, setting_with}
 use Rattle.markdown_events.specs.page.OpenElements.{begun, end_events, ended, next_span, none_open, passed, place_in, start_events}
 use Rattle.markdown_events.specs.page.PageEvents.{block_setting, blocks_of, ArePageEvents, ArePageEventsWith, AreNodeEvents, outermost}
 use Rattle.markdown_events.specs.page.Spans.{spans}
@@ -120,3 +120,20 @@ in_none (Err e) f h = h
 pub in_err : {X E : Type 0} (r : Result X E) (P Q : E → Type 0) → ((e : E) → P e → Q e) → IfErr r P → IfErr r Q
 in_err (Ok x) P Q f h = h
 in_err (Err e) P Q f h = f e h
+
+-- the event that is ready, and what is given after it
+pub given_first : (left : PageLeft) (event : RangedEvent) (events : List RangedEvent) → left.ready ≡ event ∷ drop 1 left.ready
+    → Gives (record left { ready = drop 1 left.ready }) events → Gives left (event ∷ events)
+given_first left event events first g = record {
+  rest = g.rest;
+  are_later = g.are_later;
+  given = ap (λ (es : List RangedEvent). event ∷ es) g.given ∙ ap (λ (es : List RangedEvent). es ++ g.rest) (sym first);
+}
+
+-- nothing, where no event is left
+pub given_none : (left : PageLeft) → IsDone left → Gives left []
+given_none left done = record {
+  rest = [];
+  are_later = subst (λ (blocks : List Event). AreEventsFrom left.page (setting_of left) left.elements blocks []) (sym done.no_blocks) refl;
+  given = ap (λ (es : List RangedEvent). es ++ []) (sym done.none_ready);
+}

@@ -1,5 +1,5 @@
 //! The events of a page that are ready to be given.
-ghost use Rattle.std.specs.Prelude.{◌≡◌, ◌∷◌, ◌++◌, ◌==◌, ◌^◌, ◌≤◌, ◌<◌, ◌+◌, [], length, map, IfNone, IfSome, OnOk};
+ghost use Rattle.std.specs.Prelude.{◌≡◌, ◌∷◌, ◌++◌, ◌==◌, ◌^◌, ◌≤◌, ◌<◌, ◌+◌, [], drop, length, map, IfNone, IfSome, OnOk};
 ghost use Rattle.std.specs.Option.{option_to_list};
 ghost use Rattle.markdown_events.specs.InlineEvents.{seen_event};
 ghost use Rattle.markdown_events.specs.page.OpenElements.{edge_event};
@@ -102,6 +102,24 @@ impl<'a> ReadyEvents<'a> {
         ensures few { length self.new.events < 2 ^ 64 }
     {
         Vec::from(mem::replace(&mut self.events, events))
+    }
+
+    /// The first.
+    #[inline(always)]
+    pub(crate) fn first(&self) -> Option<&Ranged<'a>>
+        ensures event { IfSome result (λ event.
+            self.now.events ≡ seen_event event.now ∷ drop 1 self.now.events) }
+        ensures none { IfNone result (self.now.events ≡ []) }
+    {
+        self.events.front()
+    }
+
+    /// Passes the first.
+    #[inline(always)]
+    pub(crate) fn pass(&mut self)
+        ensures { self.new.events ≡ drop 1 self.old.events }
+    {
+        self.events.pop_front();
     }
 
     /// Takes the first.
