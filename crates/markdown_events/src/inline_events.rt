@@ -1,5 +1,5 @@
 //! The events of a text's inlines. (CommonMark 0.31.2, chapter 6)
-ghost use Rattle.std.specs.Prelude.{◌≡◌, ◌<◌, ◌≤◌, ◌+◌, ◌-◌, ◌==◌, ◌^◌, ℕ, List, [], length, drop, map, IfOk, OnOk, slice_range, if◌then◌else◌};
+ghost use Rattle.std.specs.Prelude.{◌≡◌, ◌<◌, ◌≤◌, ◌+◌, ◌-◌, ◌==◌, ◌^◌, ℕ, List, [], length, drop, map, IfOk, IfSome, OnOk, slice_range, if◌then◌else◌};
 ghost use Rattle.std.specs.List.{All};
 ghost use Rattle.std.specs.Str.{IsCharBoundary};
 ghost use Rattle.html_entities.specs.Entities.{html_entity};
@@ -25,7 +25,7 @@ use crate::page::source::Source;
 use crate::parts::part;
 use crate::writer::Writer;
 use html_entities::HtmlEntities;
-use markdown_inlines::code_content::code_text;
+use markdown_inlines::code_content::{code_text, lent_code_text};
 use markdown_inlines::extensions::InlineExtensions;
 use markdown_inlines::inlines::Inline;
 use markdown_inlines::links::{Link, LinkTarget};
@@ -297,7 +297,28 @@ fn push_part<'a>(
     ensures { OnOk result (writer.new
         ≡ with_event (ranged (text (slice_range source.now from end)) start end) writer.old) }
 {
-    let words = source.part(alloc, from, end)?;
+    match source.lent_part(from, end) {
+        Some(words) => writer.push_text(words, start, end),
+        None => push_copy(alloc, source, writer, from, start, end),
+    }
+}
+
+// The same of a text that is copied.
+#[inline(never)]
+fn push_copy<'a>(
+    alloc: Global,
+    source: &Source<'a, '_>,
+    writer: &mut Writer<'a>,
+    from: usize,
+    start: usize,
+    end: usize,
+) -> Result<(), AllocError>
+    requires begins { IsCharBoundary source.now from }
+    requires ends { IsCharBoundary source.now end }
+    ensures { OnOk result (writer.new
+        ≡ with_event (ranged (text (slice_range source.now from end)) start end) writer.old) }
+{
+    let words = source.copied(alloc, from, end)?;
     writer.push(Event::Text(words), start, end)
 }
 
@@ -321,6 +342,28 @@ fn push_meaning<'a>(
 // Adds a code span, which is this piece and has so many backticks on each side of its content.
 #[inline(never)]
 fn push_code<'a>(
+    alloc: Global,
+    source: &Source<'a, '_>,
+    writer: &mut Writer<'a>,
+    backticks: usize,
+    piece: Piece,
+) -> Result<(), AllocError>
+    requires parts { HasParts (Code backticks) source.now piece }
+    requires within { piece.end ≤ length source.now }
+    ensures { OnOk result (writer.new ≡ with_event (ranged (code (code_text
+        (slice_range source.now (piece.start + backticks) (piece.end - backticks))))
+        piece.start piece.end) writer.old) }
+{
+    let (from, to) = (piece.start + backticks, piece.end - backticks);
+    match lent_code(source, from, to) {
+        Some(code) => writer.push_code(code, piece.start, piece.end),
+        None => push_built_code(alloc, source, writer, backticks, piece),
+    }
+}
+
+// The same of a code span whose text is built.
+#[inline(never)]
+fn push_built_code<'a>(
     alloc: Global,
     source: &Source<'a, '_>,
     writer: &mut Writer<'a>,
@@ -374,7 +417,24 @@ fn meaning_at(text: &str, place: usize) -> CowStr<'static>
     }
 }
 
-// The text of the code span whose content stands from one place up to another.
+// The text of the code span whose content stands from one place up to another, where it is lent.
+#[inline(always)]
+fn lent_code<'a>(source: &Source<'a, '_>, start: usize, end: usize) -> Option<&'a str>
+    requires begins { IsCharBoundary source.now start }
+    requires ends { IsCharBoundary source.now end }
+    ensures { IfSome result (λ code. code.now ≡ code_text (slice_range source.now start end)) }
+{
+    if let Some(run) = source.run() {
+        return lent_code_text(part(run, start, end));
+    }
+    let content = part(source.text(), start, end);
+    let code = lent_code_text(content)?;
+    // What is lent is the content, or the content without a byte at each end.
+    let padding = content.len().saturating_sub(code.len()) / 2;
+    source.find(code, start.saturating_add(padding))
+}
+
+// The same text, in memory of its own.
 fn code_of<'a>(
     alloc: Global,
     source: &Source<'a, '_>,
@@ -385,14 +445,8 @@ fn code_of<'a>(
     requires ends { IsCharBoundary source.now end }
     ensures { IfOk result (λ code. cow_text code ≡ code_text (slice_range source.now start end)) }
 {
-    if let Some(run) = source.run() {
-        return code_text(alloc, part(run, start, end));
-    }
-    let content = part(source.text(), start, end);
-    let code = code_text(alloc, content)?;
-    // What is lent is the content, or the content without a byte at each end.
-    let padding = content.len().saturating_sub(code.as_str().len()) / 2;
-    source.lend(alloc, code, start.saturating_add(padding))
+    let code = code_text(alloc, part(source.text(), start, end))?;
+    code.into_static(alloc)
 }
 
 // Adds the events of an autolink.

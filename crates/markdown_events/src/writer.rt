@@ -1,7 +1,7 @@
 //! The events of a text that are written one after another.
 ghost use Rattle.std.specs.Prelude.{◌≡◌, [], if◌then◌else◌, reverse, map, OnOk};
 ghost use Rattle.markdown_values.specs.strings.Text.{cow_text};
-ghost use Rattle.markdown_values.specs.values.Events.{event_view, hard_break, soft_break, text};
+ghost use Rattle.markdown_values.specs.values.Events.{code, event_view, hard_break, soft_break, text};
 ghost use Rattle.markdown_values.specs.values.Tags.{tag_view};
 ghost use Rattle.markdown_events.specs.InlineEvents.{seen_event, ranged};
 ghost use Rattle.markdown_events.specs.Passes.{with_event, with_end, begun, ended};
@@ -84,6 +84,23 @@ impl<'a> Writer<'a> {
         self.events.reserve(1)?;
         self.events
             .push_reserved((Event::Text(CowStr::from(words)), from..to));
+        Ok(())
+    }
+
+    /// The same of the text of a code span.
+    #[inline(always)]
+    pub(crate) fn push_code(
+        &mut self,
+        words: &'a str,
+        from: usize,
+        to: usize,
+    ) -> Result<(), AllocError>
+        ensures { OnOk result
+            (self.new ≡ with_event (ranged (code words.now) from to) self.old) }
+    {
+        self.events.reserve(1)?;
+        self.events
+            .push_reserved((Event::Code(CowStr::from(words)), from..to));
         Ok(())
     }
 

@@ -1,6 +1,6 @@
 //! What the content of a code span means. (CommonMark 0.31.2, section 6.1)
 ghost use Rattle.std.specs.Prelude.{◌≡◌, ◌==◌, ◌&&◌, ◌+◌, ◌-◌, ◌<◌, ◌≤◌, ◌∷◌, ◌++◌, [], true, false};
-ghost use Rattle.std.specs.Prelude.{not, nat_lt, length, take, drop, slice_index, slice_range, IfOk, IsOkAnd, OnOk};
+ghost use Rattle.std.specs.Prelude.{not, nat_lt, length, take, drop, slice_index, slice_range, IfNone, IfOk, IfSome, IsOkAnd, OnOk};
 ghost use Rattle.std.specs.List.{list_all, list_any};
 ghost use Rattle.std.specs.Str.{IsUtf8, IsCharBoundary};
 ghost use Rattle.std.specs.String.{string_bytes};
@@ -44,17 +44,39 @@ pub fn code_text<'a>(alloc: Global, content: &'a str) -> Result<CowStr<'a>, Allo
     ensures lent { list_any is_line_ending content.now ≡ false → IsOkAnd result IsBorrowed }
     ensures boxed { list_any is_line_ending content.now ≡ true → IfOk result IsBoxed }
 {
+    match lent_code_text(content) {
+        Some(text) => Ok(CowStr::from(text)),
+        None => spaced_code_text(alloc, content),
+    }
+}
+
+/// The same text, where no line ending stands in the content: all of it, or what stands between the
+/// spaces at its ends. None where one does. No memory is asked for.
+#[inline(always)]
+pub fn lent_code_text(content: &str) -> Option<&str>
+    ensures text { IfSome result (λ text. text.now ≡ code_text content.now) }
+    ensures lent { IfSome result (λ _. list_any is_line_ending content.now ≡ false) }
+    ensures none { IfNone result (list_any is_line_ending content.now ≡ true) }
+{
     let kept = without_padding(content.as_bytes());
     let text = &content[kept.start..kept.end];
     if !has_line_ending(content.as_bytes()) {
-        return Ok(CowStr::from(text));
+        return Some(text);
     }
-    spaced_text(alloc, text)
+    None
 }
 
-// The text with its line endings as spaces, in memory of its own. It is not inlined, so that the
-// texts without line endings cost less.
+// The text of content in which line endings stand.
 #[inline(never)]
+fn spaced_code_text(alloc: Global, content: &str) -> Result<CowStr<'static>, AllocError>
+    ensures text { IfOk result (λ text. cow_text text ≡ code_text content.now) }
+    ensures boxed { IfOk result IsBoxed }
+{
+    let kept = without_padding(content.as_bytes());
+    spaced_text(alloc, &content[kept.start..kept.end])
+}
+
+// The text with its line endings as spaces, in memory of its own.
 fn spaced_text(alloc: Global, text: &str) -> Result<CowStr<'static>, AllocError>
     ensures text { IfOk result (λ spaced. cow_text spaced ≡ with_spaces text.now) }
     ensures boxed { IfOk result IsBoxed }

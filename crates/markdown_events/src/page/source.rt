@@ -117,6 +117,7 @@ impl<'a, 'c> Source<'a, 'c> {
 
     /// What stands from one place up to another, at both of which the text may be cut. It is lent
     /// where it stands in the page as it is, and else copied.
+    #[inline(always)]
     pub(crate) fn part(
         &self,
         alloc: Global,
@@ -127,10 +128,39 @@ impl<'a, 'c> Source<'a, 'c> {
         requires ends { IsCharBoundary self.now end }
         ensures { IfOk result (λ part. cow_text part ≡ slice_range self.now start end) }
     {
-        match self.run {
-            Some(run) => Ok(CowStr::from(part(run, start, end))),
-            None => self.lend(alloc, CowStr::from(part(self.text, start, end)), start),
+        match self.lent_part(start, end) {
+            Some(words) => Ok(CowStr::from(words)),
+            None => self.copied(alloc, start, end),
         }
+    }
+
+    /// What stands from one place up to another, at both of which the text may be cut, where it stands
+    /// in the page as it is.
+    #[inline(always)]
+    pub(crate) fn lent_part(&self, start: usize, end: usize) -> Option<&'a str>
+        requires begins { IsCharBoundary self.now start }
+        requires ends { IsCharBoundary self.now end }
+        ensures { IfSome result (λ part. part.now ≡ slice_range self.now start end) }
+    {
+        match self.run {
+            Some(run) => Some(part(run, start, end)),
+            None => self.find(part(self.text, start, end), start),
+        }
+    }
+
+    /// A copy of what stands there.
+    #[inline(never)]
+    pub(crate) fn copied(
+        &self,
+        alloc: Global,
+        start: usize,
+        end: usize,
+    ) -> Result<CowStr<'a>, AllocError>
+        requires begins { IsCharBoundary self.now start }
+        requires ends { IsCharBoundary self.now end }
+        ensures { IfOk result (λ part. cow_text part ≡ slice_range self.now start end) }
+    {
+        CowStr::from(part(self.text, start, end)).into_static(alloc)
     }
 
     /// The same words. They are lent where they stand in the page from the offset in the text on, and
@@ -149,8 +179,9 @@ impl<'a, 'c> Source<'a, 'c> {
         }
     }
 
-    // The run of the page that begins with the byte at the offset in the text, if it is these words.
-    fn find(&self, words: &str, offset: usize) -> Option<&'a str>
+    /// The run of the page that begins with the byte at the offset in the text, if it is these words.
+    #[inline(always)]
+    pub(crate) fn find(&self, words: &str, offset: usize) -> Option<&'a str>
         ensures { IfSome result (λ run. run.now ≡ words.now) }
     {
         match &self.placed {
