@@ -51,6 +51,7 @@ impl<'a> InlineMemory<'a> {
 }
 
 /// Takes the memory of events, with room for so many.
+#[inline(always)]
 pub(crate) fn take_room<'a>(
     alloc: Global,
     memory: &mut Vec<(Event<'a>, Range<usize>)>,

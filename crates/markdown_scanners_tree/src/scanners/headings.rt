@@ -40,6 +40,7 @@ fn ends_or_begins_with_space(bytes: &[u8]) -> bool
 
 /// The length in bytes of a setext heading's underline at the front, with its line ending, and
 /// the level of the heading. (CommonMark 0.31.2, section 4.3.)
+#[inline(always)]
 pub fn scan_setext_heading(bytes: &[u8]) -> Option<(usize, HeadingLevel)>
     ensures found { SomeExactly (λ r. IsSetextUnderline bytes.now r.0 r.1) result }
     ensures only { IsOnly (λ r. IsSetextUnderline bytes.now r.0 r.1) result }
@@ -71,7 +72,8 @@ fn underline_level(byte: u8) -> Option<HeadingLevel>
 // The same as `scan_setext_heading`, where the first byte and the level are known.
 //
 // The byte is an argument, so that one loop compares with a register: two loops, each with a
-// constant, take half as long again.
+// constant, take half as long again. It is not inlined, so that most lines cost a look at their first byte.
+#[inline(never)]
 fn scan_underline(bytes: &[u8], byte: u8, level: HeadingLevel) -> Option<(usize, HeadingLevel)>
     requires of_level { underline_byte level ≡ Some byte }
     requires begins { IsTrue (begins_with (λ b. b == byte) bytes.now) }
