@@ -54,6 +54,7 @@ pub const CALLS: &[(&str, &str)] = &[
     ("page_events", "Parser, a page"),
     ("page_ranges", "OffsetIter, a page"),
     ("page_html", "push_html, a page"),
+    ("html_of_page", "html_of_page, a page"),
     ("type_6", "starts_html_block_type_6"),
     ("type_7", "scan_html_type_7"),
     ("html_start", "scan_html_block_start"),
@@ -182,7 +183,7 @@ pub fn real(call: &str, text: &[u8]) -> Option<Input> {
         "wikilink" | "label" | "label_table" => after(text, b'['),
         "inline_html" | "inline_html_run" => openers(text),
         "inlines" | "inlines_defined" | "inlines_once" => return Some(input(text.to_vec(), paragraph_ends(text))),
-        "page_events" | "page_ranges" | "page_html" => return Some(input(text.to_vec(), vec![text.len()])),
+        "page_events" | "page_ranges" | "page_html" | "html_of_page" => return Some(input(text.to_vec(), vec![text.len()])),
         "classes" => vec![0],
         _ => line_starts(text),
     };

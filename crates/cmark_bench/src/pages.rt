@@ -3,7 +3,9 @@ ghost use Rattle.std.specs.Prelude.{◌≡◌};
 
 use crate::loops::each_stretch;
 use markdown_events::parser::Parser;
+use markdown_html::page::html_of_page;
 use markdown_html::push::push_html;
+use markdown_html::setting::plain_setting;
 use std::alloc::Global;
 
 fn count_events(alloc: Global, page: &str) -> u64 {
@@ -55,5 +57,24 @@ fn html_len(alloc: Global, page: &str) -> u64 {
 #[unsafe(no_mangle)]
 pub extern "C" fn ours_page_html(alloc: Global, text: &[u8], at: &[usize], rounds: usize) -> u64 {
     let call = |page: &str| -> u64 { html_len(alloc, page) };
+    each_stretch(text, at, rounds, &call)
+}
+
+// The HTML of a page whose events are lent to the writer, and not given by an iterator.
+fn page_html_len(alloc: Global, page: &str) -> u64 {
+    match html_of_page(alloc, page, &plain_setting()) {
+        Ok(html) => html.len() as u64,
+        Err(_) => 0,
+    }
+}
+
+#[unsafe(no_mangle)]
+pub extern "C" fn ours_html_of_page(
+    alloc: Global,
+    text: &[u8],
+    at: &[usize],
+    rounds: usize,
+) -> u64 {
+    let call = |page: &str| -> u64 { page_html_len(alloc, page) };
     each_stretch(text, at, rounds, &call)
 }
