@@ -1,6 +1,9 @@
 //! HTML that is appended to a string, of events that an iterator gives.
-ghost use Rattle.std.specs.Prelude.{◌≡◌, IfOk, OnErr, OnOk, map, string_bytes};
+ghost use Rattle.std.specs.Prelude.{◌≡◌, IfOk, IsOk, OnErr, OnOk, map, string_bytes};
 ghost use Rattle.std.specs.Iterator.{IsFinite};
+ghost use Rattle.markdown_values.specs.strings.Text.{cow_text};
+ghost use Rattle.markdown_values.specs.values.Events.{event_view};
+ghost use Rattle.markdown_html.specs.Html.{after_event};
 ghost use Rattle.markdown_html.specs.PushedHtml.{AppendsHtml, AppendsSafeHtml, IsHtmlOfItems};
 ghost use Rattle.markdown_html.specs.Settings.{plain_setting, seen_setting};
 
@@ -92,8 +95,25 @@ where
         (seen_setting A.allows setting.now) (string_bytes html)) }
 {
     let mut writer = HtmlWriter::new(alloc);
-    for event in events {
-        writer.push(setting, event?)?;
+    for item in events {
+        push_item(&mut writer, setting, item)?;
     }
     Ok(writer.into_string())
+}
+
+// Adds the HTML of an item, which is lent to the writer where it stands.
+#[inline(always)]
+fn push_item<'a, A: AllowedAddresses>(
+    writer: &mut HtmlWriter<'a>,
+    setting: &HtmlSetting<A>,
+    item: Result<Event<'a>, AllocError>,
+) -> Result<(), AllocError>
+    ensures given { OnOk result (IsOk item.entry) }
+    ensures html { OnOk result (IfOk item.entry (λ event. writer.new
+        ≡ after_event (seen_setting A.allows setting.now) (event_view cow_text event) writer.old)) }
+{
+    match &item {
+        Ok(event) => writer.push_lent(setting, event),
+        Err(refused) => Err(*refused),
+    }
 }

@@ -8,9 +8,9 @@ use Rattle.markdown_html.specs.Settings.{seen_setting}
 use Rattle.markdown_html.specs.States.{nothing_written}
 use Rattle.markdown_html.proofs.push.html_of_items.Given as goal
 
-abbrev pub invariant-loop-event : goal.invariant-loop-event
-invariant-loop-event g l =
-    (goal.iterator-loop-event g).can_next l.event-iterator
-    × (goal.iterator-loop-event g).is_finite l.event-iterator
+abbrev pub invariant-loop-item : goal.invariant-loop-item
+invariant-loop-item g l =
+    (goal.iterator-loop-item g).can_next l.item-iterator
+    × (goal.iterator-loop-item g).is_finite l.item-iterator
     × ((given : List Event) × (l.yielded ≡ map Ok given)
     × (l.writer ≡ after_events (seen_setting g.A.AllowedAddresses.allows l.setting) (map (event_view cow_text) given) nothing_written))
