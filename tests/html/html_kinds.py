@@ -54,7 +54,7 @@ without_tabs = substituted(rb"[ \t]+(?=\n|<br />)")
 without_slashes = substituted(rb'<input(?: type="checkbox"| checked=""| disabled=""| /)*>', b"<input>")
 without_indent = substituted(rb"(\n|<code(?: [^>]*)?>)[ \t]+", rb"\1")
 without_lazy_indent = outside_of_code(substituted(rb"(\n|<code>)[ \t]+|[ \t]+(</code>)|([ \t])[ \t]+", rb"\1\2\3"))
-without_last_lines = substituted(rb"(?<=<code>)\n(?=</code></pre>)|\n(?=\n)")
+without_last_lines = substituted(rb"(<code(?: [^>]*)?>)\n(?=</code></pre>)|\n(?=\n)", rb"\1")
 without_paragraphs = substituted(rb"</?p>|\n")
 
 LAZY = rb"[\r\n][ >]*[ \t]"
@@ -99,6 +99,7 @@ MARKERS = rb"^[ \t>*+\-0-9.)]*"
 COMMENT = re.compile(rb"<!--(?:-?>|(?s:.)*?--(?!>)|(?s:.)*?--->)")
 DELIMITER_ROW = re.compile(rb"(?m)^[ \t>*+0-9.)|:-]*-[ \t|:-]*(?=\r?$)")
 DESTINATION = rb"\]:\s*\S+"
+INLINE_DESTINATION = rb"(\]\(\s*)([^\s)]+)"
 
 
 def kept_or(pattern, other, by=b"x"):
@@ -129,7 +130,10 @@ def without_tables(page):
 
 def without_parentheses(page):
     """Letters in place of opening parentheses, but for those that begin a destination."""
-    return re.sub(rb"(?<!\])\(", b"x", re.sub(DESTINATION, lambda found: found.group().replace(b"(", b"x"), page))
+    page = re.sub(DESTINATION, lambda found: found.group().replace(b"(", b"x"), page)
+    # In an inline destination one may stand after a bracket too, as in `[a](b](c)`.
+    page = re.sub(INLINE_DESTINATION, lambda found: found.group(1) + found.group(2).replace(b"(", b"x"), page)
+    return re.sub(rb"(?<!\])\(", b"x", page)
 
 
 PAGE_KINDS = {
