@@ -168,7 +168,7 @@ def html_answer(text):
 
 def inline():
     end, address = answers.uri(b"https://a.b>", 0)
-    bare = answers.destination(b"((a)) b", 1)
+    bare, address_ahead = (answers.destination(text, 1) for text in (b"((a)) b", b"https://a.b/c/d/e/f g"))
     plain = "plain & simple"
     assert answers.unescaped(plain.encode(), KNOWN) == plain
     return [
@@ -177,6 +177,7 @@ def inline():
         some((end, borrowed(address), Value("Autolink"))), some(answers.wikilink(b"a|b]]", 0, 3)[0] - 1),
         some((bare, Plain(f"0..{bare}"))), some(len(address)), *map(title_answer, (b"'a\n\\'b' c", b"(a\n\nb)")),
         definition_answer(b"[a]: <b>\n'c'\n", 1), definition_answer(b"[a]: b 'c' d", 1),
+        some((address_ahead, Plain(f"0..{address_ahead}"))), definition_answer(b"[a]: https://a.b/c/d/e/f 'g'\n", 1),
         answers.is_block_name(b"DIV>"),
         some(answers.tag_alone(b"<a b=\t'c'>  \n")), *map(html_answer, HTML_LINES),
         *(answers.ends_html(b"", name) for name in ("Comment", "TagAlone")), tag_answer(b"<foo bar>", None), tag_answer(b"</a\n>", None),

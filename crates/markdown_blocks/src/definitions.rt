@@ -15,7 +15,7 @@ use crate::containers::{BlockExtensions, Container, Outer, go_on};
 use crate::info::without_front;
 use crate::rest::scan_rest;
 use crate::taken::Taken;
-use markdown_scanners_tree::scanners::{ReferenceDefinition, scan_reference_definition};
+use markdown_scanners_tree::scanners::{ReferenceDefinition, scan_reference_definition_ahead};
 use memchr::memchr;
 use std::alloc::{AllocError, Global};
 
@@ -32,7 +32,7 @@ pub fn scan_definition(content: &[u8]) -> Option<ReferenceDefinition>
     ensures title { IfSome result (λ d. IfSome d.title (λ title. (title.start ≤ title.end)
         × (title.end < d.len))) }
 {
-    scan_reference_definition(content, 31)
+    scan_reference_definition_ahead(content, 31)
 }
 
 /// How many bytes and lines the definition at the front of a paragraph's content takes, if one

@@ -1,6 +1,5 @@
 //! What a page is read with, by options.
-ghost use Rattle.std.specs.Prelude.{◌≡◌};
-ghost use Rattle.std.specs.Prelude.{IfErr, IfOk};
+ghost use Rattle.std.specs.Prelude.{◌≡◌, IfErr, IfOk};
 ghost use Rattle.markdown_events.specs.page.Settings.{Explains, asked_by, not_built};
 
 use bitflags::Flags;
@@ -22,7 +21,6 @@ pub struct PageSetting {
 }
 
 impl PageSetting {
-    ghost use Rattle.std.specs.Prelude.{◌≡◌};
     ghost use Rattle.markdown_events.specs.page.PageEvents.{blocks_of, commonmark};
 
     /// CommonMark, without extensions.

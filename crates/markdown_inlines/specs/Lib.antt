@@ -1,7 +1,6 @@
 pub mod CodeContent
 pub mod CodeSpans
 pub mod DelimiterRuns
-pub mod Destinations
 pub mod Emails
 pub mod Emphasis
 pub mod EmphasisBounds

@@ -8,7 +8,6 @@ pub mod code_content;
 pub mod code_spans;
 pub mod cut;
 pub mod delimiter_runs;
-mod destinations;
 pub mod emails;
 pub mod emphasis;
 pub mod extensions;

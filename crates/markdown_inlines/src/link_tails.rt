@@ -8,8 +8,9 @@ ghost use Rattle.markdown_scanners_tree.specs.scanners.reference_definitions.Ref
 ghost use Rattle.markdown_scanners_tree.specs.scanners.reference_definitions.private.GapLength.{gap_length};
 ghost use Rattle.markdown_inlines.specs.LinkTails.{IsLinkTail, IsFilledTail, IsTailEnd, IsTitledEnd, IsClosing};
 
-use crate::destinations::scan_destination;
-use markdown_scanners_tree::scanners::{scan_eol, scan_link_title, scan_spaces_and_tabs};
+use markdown_scanners_tree::scanners::{
+    scan_eol, scan_link_dest_ahead, scan_link_title, scan_spaces_and_tabs,
+};
 use std::ops::Range;
 
 /// Where the parts of a link's tail stand, by their places in the text that it begins.
@@ -89,7 +90,7 @@ fn scan_filled(bytes: &[u8], max_next: usize) -> Option<LinkTail>
         → IsCharBoundary bytes.now tail.len) }
 {
     let start = 1 + gap_len(&bytes[1..]);
-    let (taken, raw) = scan_destination(&bytes[start..], max_next)?;
+    let (taken, raw) = scan_link_dest_ahead(&bytes[start..], max_next)?;
     if taken == 0 {
         return None;
     }

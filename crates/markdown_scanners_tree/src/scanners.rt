@@ -1,6 +1,7 @@
 //! Scanners of the fragments that lines and inline texts are made of.
 mod breaks;
 mod classes;
+mod destinations;
 mod entities;
 mod entity_table;
 mod escapes;
@@ -27,6 +28,7 @@ mod unescaping;
 pub use breaks::scan_hrule;
 pub(crate) use classes::is_line_ending;
 pub use classes::{is_ascii_punctuation, is_ascii_whitespace, is_ascii_whitespace_no_nl};
+pub use destinations::scan_link_dest_ahead;
 pub use entities::{Entities, scan_entity};
 pub use entity_table::EntityTable;
 pub use fences::{scan_closing_code_fence, scan_code_fence};
@@ -46,7 +48,9 @@ pub use links::{
 pub use list_items::scan_listitem;
 pub(crate) use list_items::scan_marker;
 pub use metadata::{scan_closing_metadata_block, scan_metadata_block};
-pub use reference_definitions::{ReferenceDefinition, scan_reference_definition};
+pub use reference_definitions::{
+    ReferenceDefinition, scan_reference_definition, scan_reference_definition_ahead,
+};
 pub use runs::{
     scan_ch, scan_ch_repeat, scan_rev_while, scan_spaces_and_tabs, scan_while,
     scan_whitespace_no_nl,

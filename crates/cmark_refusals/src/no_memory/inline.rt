@@ -9,8 +9,9 @@ use crate::texts::Text;
 use crate::unescaping::{AMPERSAND, unescaped};
 use markdown_scanners_tree::scanners::{
     HtmlBlockKind, ends_html_block, scan_autolink, scan_autolink_bytes, scan_entity,
-    scan_html_block_start, scan_html_type_7, scan_link_dest, scan_link_dest_bytes, scan_link_title,
-    scan_reference_definition, scan_table_head, scan_wikilink_pipe, scan_wikilink_pipe_bytes,
+    scan_html_block_start, scan_html_type_7, scan_link_dest, scan_link_dest_ahead,
+    scan_link_dest_bytes, scan_link_title, scan_reference_definition,
+    scan_reference_definition_ahead, scan_table_head, scan_wikilink_pipe, scan_wikilink_pipe_bytes,
     starts_html_block_type_6,
 };
 use std::alloc::Global;
@@ -22,6 +23,7 @@ pub(crate) fn run(alloc: Global, output: Stdout) -> Result<(), Stop> {
     links(output)?;
     links_of_bytes(output)?;
     reference_definitions(output)?;
+    scans_ahead(output)?;
     html_blocks(output)?;
     tags(alloc, output)?;
     unchanged(alloc, output)?;
@@ -73,6 +75,14 @@ fn reference_definitions(output: Stdout) -> Result<(), Stop> {
         output,
         scan_reference_definition(b"[a]: <b>\n'c'\n", 1),
         scan_reference_definition(b"[a]: b 'c' d", 1),
+    )
+}
+
+fn scans_ahead(output: Stdout) -> Result<(), Stop> {
+    print_two(
+        output,
+        scan_link_dest_ahead(b"https://a.b/c/d/e/f g", 1),
+        scan_reference_definition_ahead(b"[a]: https://a.b/c/d/e/f 'g'\n", 1),
     )
 }
 

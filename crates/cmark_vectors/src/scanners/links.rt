@@ -1,7 +1,7 @@
 //! Autolinks of many letters, and link destinations, autolinks and pipes of wikilinks in bytes.
 use crate::asserts::{assert_answer, made};
 use markdown_scanners_tree::scanners::{
-    scan_autolink, scan_autolink_bytes, scan_link_dest, scan_link_dest_bytes,
+    scan_autolink, scan_autolink_bytes, scan_link_dest, scan_link_dest_ahead, scan_link_dest_bytes,
     scan_wikilink_pipe_bytes,
 };
 use std::alloc::{AllocError, Global};
@@ -57,8 +57,8 @@ type Destination = (&'static [u8], usize, Option<(usize, Range<usize>)>);
 
 fn assert_destinations(rt: &impl Abort, rows: &[Destination]) {
     for (bytes, max_next, found) in rows {
-        let destination = scan_link_dest_bytes(bytes, *max_next);
-        assert_answer(rt, bytes, &destination, found);
+        assert_answer(rt, bytes, &scan_link_dest_bytes(bytes, *max_next), found);
+        assert_answer(rt, bytes, &scan_link_dest_ahead(bytes, *max_next), found);
     }
 }
 
@@ -80,11 +80,14 @@ fn assert_pipes(rt: &impl Abort, rows: &[Pipe]) {
     }
 }
 
-const DESTINATIONS: [Destination; 4] = [
+const DESTINATIONS: [Destination; 7] = [
     (b"<foo(and(bar)>)", 31, Some((14, 1..13))),
     (b"foo\\)\\:)", 31, Some((7, 0..7))),
     (b"<>)", 31, Some((2, 1..1))),
     (b"((a))", 0, None),
+    (b"https://example.org/a/b c", 31, Some((23, 0..23))),
+    (b"https://example.org/a(b)c/d)", 31, Some((27, 0..27))),
+    (b"https://example.org/a/b\\)", 31, Some((25, 0..25))),
 ];
 
 #[test]

@@ -1,7 +1,9 @@
 //! Link reference definitions: the examples 192 to 218 of CommonMark 0.31.2, as the content of their paragraphs, and what the
 //! text of its section 4.7 says of gaps, ends and labels.
 use crate::asserts::{assert_answer, assert_same, made};
-use markdown_scanners_tree::scanners::scan_reference_definition;
+use markdown_scanners_tree::scanners::{
+    ReferenceDefinition, scan_reference_definition, scan_reference_definition_ahead,
+};
 use std::alloc::{AllocError, Global};
 use std::ops::Range;
 use std::process::Abort;
@@ -12,8 +14,8 @@ type Places = (Range<usize>, Range<usize>, Option<Range<usize>>, usize);
 // Bytes, and the definition at the front.
 type Row = (&'static [u8], Option<Places>);
 
-fn places(bytes: &[u8]) -> Option<Places> {
-    let definition = scan_reference_definition(bytes, 31)?;
+fn parts_of(found: Option<ReferenceDefinition>) -> Option<Places> {
+    let definition = found?;
     let parts = (
         definition.label,
         definition.destination,
@@ -25,7 +27,10 @@ fn places(bytes: &[u8]) -> Option<Places> {
 
 fn assert_rows(rt: &impl Abort, rows: &[Row]) {
     for (bytes, expected) in rows {
-        assert_answer(rt, bytes, &places(bytes), expected);
+        let found = scan_reference_definition(bytes, 31);
+        assert_answer(rt, bytes, &parts_of(found), expected);
+        let ahead = scan_reference_definition_ahead(bytes, 31);
+        assert_answer(rt, bytes, &parts_of(ahead), expected);
     }
 }
 

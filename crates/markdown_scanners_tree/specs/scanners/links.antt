@@ -1,2 +1,3 @@
 pub mod Autolink
+pub mod DestinationEnds
 pub mod LinkDestination

@@ -1,13 +1,15 @@
 //! Link reference definitions.
-ghost use Rattle.std.specs.Prelude.{◌≡◌, ◌==◌, ◌+◌, ◌-◌, ◌<◌, ◌≤◌, IfSome, length};
+ghost use Rattle.std.specs.Prelude.{◌≡◌, ◌==◌, ◌+◌, ◌-◌, ◌<◌, ◌≤◌, ℕ, List, length, slice_range, option_map, IfNone, IfSome};
 ghost use Rattle.markdown_scanners_tree.specs.Ascii.{colon};
 ghost use Rattle.markdown_scanners_tree.specs.Bytes.{begins_with};
 ghost use Rattle.std.specs.Str.{IsUtf8, IsCharBoundary};
 ghost use Rattle.markdown_scanners_tree.specs.SomeExactly.{SomeExactly, IsOnly};
+ghost use Rattle.markdown_scanners_tree.specs.scanners.links.LinkDestination.{IsLinkDestination, StandsInside};
 ghost use Rattle.markdown_scanners_tree.specs.scanners.reference_definitions.ReferenceDefinition.{IsReferenceDefinition, IsLabelWithColon, IsTarget, IsTitleLine, IsEnd, IsRestOfLine, IsCutAt};
 ghost use Rattle.markdown_scanners_tree.specs.scanners.reference_definitions.private.GapLength.{gap_length};
 
 use crate::linklabel::label_len;
+use crate::scanners::destinations::scan_link_dest_ahead;
 use crate::scanners::lines::scan_eol;
 use crate::scanners::links::scan_link_dest_bytes;
 use crate::scanners::runs::scan_spaces_and_tabs;
@@ -57,7 +59,55 @@ pub fn scan_reference_definition(bytes: &[u8], max_next: usize) -> Option<Refere
         → IsCutAt bytes.now title)) }
     ensures behind { IfSome result (λ d. IsUtf8 bytes.now → IsCharBoundary bytes.now d.len) }
 {
-    let target = scan_target(bytes, max_next)?;
+    scan_definition(bytes, max_next, false)
+}
+
+/// The same of a text that can be read to its end: bytes after the destination may be read too, as by
+/// `scan_link_dest_ahead`. (CommonMark 0.31.2, section 4.7)
+pub fn scan_reference_definition_ahead(bytes: &[u8], max_next: usize) -> Option<ReferenceDefinition>
+    // The one definition that stands there is answered.
+    ensures found { SomeExactly (IsReferenceDefinition (max_next + 1) bytes.now) result }
+    ensures only { IsOnly (IsReferenceDefinition (max_next + 1) bytes.now) result }
+
+    // Its parts stand one after another in what it takes.
+    ensures within { IfSome result (λ d. d.len ≤ length bytes.now) }
+    ensures label { IfSome result (λ d. (0 < d.label.start) × (d.label.start ≤ d.label.end)
+        × (d.label.end < d.destination.start)) }
+    ensures destination { IfSome result (λ d. (d.destination.start ≤ d.destination.end)
+        × (d.destination.end ≤ d.len)) }
+    ensures title { IfSome result (λ d. IfSome d.title (λ title. (d.destination.end < title.start)
+        × (title.start ≤ title.end) × (title.end < d.len))) }
+
+    // A text may be cut where each of them begins and ends, and after all that it takes.
+    ensures label_cut { IfSome result (λ d. IsUtf8 bytes.now → IsCutAt bytes.now d.label) }
+    ensures destination_cut { IfSome result (λ d. IsUtf8 bytes.now
+        → IsCutAt bytes.now d.destination) }
+    ensures title_cut { IfSome result (λ d. IfSome d.title (λ title. IsUtf8 bytes.now
+        → IsCutAt bytes.now title)) }
+    ensures after { IfSome result (λ d. IsUtf8 bytes.now → IsCharBoundary bytes.now d.len) }
+{
+    scan_definition(bytes, max_next, true)
+}
+
+// The same, which may look ahead or not.
+fn scan_definition(bytes: &[u8], max_next: usize, looks_ahead: bool) -> Option<ReferenceDefinition>
+    ensures found { SomeExactly (IsReferenceDefinition (max_next + 1) bytes.now) result }
+    ensures only { IsOnly (IsReferenceDefinition (max_next + 1) bytes.now) result }
+    ensures within { IfSome result (λ d. d.len ≤ length bytes.now) }
+    ensures label { IfSome result (λ d. (0 < d.label.start) × (d.label.start ≤ d.label.end)
+        × (d.label.end < d.destination.start)) }
+    ensures destination { IfSome result (λ d. (d.destination.start ≤ d.destination.end)
+        × (d.destination.end ≤ d.len)) }
+    ensures title { IfSome result (λ d. IfSome d.title (λ title. (d.destination.end < title.start)
+        × (title.start ≤ title.end) × (title.end < d.len))) }
+    ensures label_cut { IfSome result (λ d. IsUtf8 bytes.now → IsCutAt bytes.now d.label) }
+    ensures destination_cut { IfSome result (λ d. IsUtf8 bytes.now
+        → IsCutAt bytes.now d.destination) }
+    ensures title_cut { IfSome result (λ d. IfSome d.title (λ title. IsUtf8 bytes.now
+        → IsCutAt bytes.now title)) }
+    ensures after { IfSome result (λ d. IsUtf8 bytes.now → IsCharBoundary bytes.now d.len) }
+{
+    let target = scan_target(bytes, max_next, looks_ahead)?;
     let (title, len) = scan_end(bytes, target.place)?;
     Some(ReferenceDefinition {
         label: target.label,
@@ -76,7 +126,7 @@ struct Target {
 }
 
 // What a definition begins with.
-fn scan_target(bytes: &[u8], max_next: usize) -> Option<Target>
+fn scan_target(bytes: &[u8], max_next: usize, looks_ahead: bool) -> Option<Target>
     ensures found { SomeExactly
         (λ t. IsTarget (max_next + 1) bytes.now t.label t.destination t.place) result }
     ensures within { IfSome result (λ t. t.place ≤ length bytes.now) }
@@ -91,7 +141,7 @@ fn scan_target(bytes: &[u8], max_next: usize) -> Option<Target>
 {
     let named = scan_label_and_colon(bytes)?;
     let start = named + gap_len(&bytes[named..]);
-    let (taken, raw) = scan_link_dest_bytes(&bytes[start..], max_next)?;
+    let (taken, raw) = scan_destination(&bytes[start..], max_next, looks_ahead)?;
     if taken == 0 {
         return None;
     }
@@ -100,6 +150,34 @@ fn scan_target(bytes: &[u8], max_next: usize) -> Option<Target>
         destination: start + raw.start..start + raw.end,
         place: start + taken,
     })
+}
+
+// The link destination at the front.
+fn scan_destination(
+    bytes: &[u8],
+    max_next: usize,
+    looks_ahead: bool,
+) -> Option<(usize, Range<usize>)>
+    ensures found { SomeExactly
+        (λ (r : ℕ × List ℕ). IsLinkDestination (max_next + 1) bytes.now r.0 r.1)
+        (option_map (λ r. (r.0, slice_range bytes.now r.1.start r.1.end)) result) }
+    ensures only { IsOnly
+        (λ (r : ℕ × List ℕ). IsLinkDestination (max_next + 1) bytes.now r.0 r.1)
+        (option_map (λ r. (r.0, slice_range bytes.now r.1.start r.1.end)) result) }
+    ensures none { IfNone result ((n : ℕ) (raw : List ℕ)
+        → ¬ IsLinkDestination (max_next + 1) bytes.now n raw) }
+    ensures stands { IfSome result (λ r. StandsInside r.0 r.1.start r.1.end) }
+    ensures ordered { IfSome result (λ r. (r.1.start ≤ r.1.end) × (r.1.end ≤ r.0)) }
+    ensures within { IfSome result (λ r. r.0 ≤ length bytes.now) }
+    ensures begins { IfSome result (λ r. IsUtf8 bytes.now → IsCharBoundary bytes.now r.1.start) }
+    ensures ends { IfSome result (λ r. IsUtf8 bytes.now → IsCharBoundary bytes.now r.1.end) }
+    ensures after { IfSome result (λ r. IsUtf8 bytes.now → IsCharBoundary bytes.now r.0) }
+{
+    if looks_ahead {
+        scan_link_dest_ahead(bytes, max_next)
+    } else {
+        scan_link_dest_bytes(bytes, max_next)
+    }
 }
 
 // The length of the label at the front, with its brackets and the colon after them.

@@ -28,7 +28,7 @@ pub returns-clause-found : goal.returns-clause-found
 returns-clause-found c =
     let taken = c.in_ok-taken.ensures in
     target_found (c.args.max_next + 1) c.args.bytes.now c.in_ok-named.named c.gap_len.result c.in_ok-named.ensures.found
-    c.gap_len.ensures.gap c.in_ok-taken.taken c.in_ok-taken.raw.start c.in_ok-taken.raw.end taken.found taken.place
+    c.gap_len.ensures.gap c.in_ok-taken.taken c.in_ok-taken.raw.start c.in_ok-taken.raw.end taken.found taken.stands
     taken.within (omega (arith, c.if-taken-eq0.false)) c.gap_len.ensures.within c.in_ok-named.ensures.within.0
 
 pub returns-clause-label_cut : goal.returns-clause-label_cut
@@ -57,4 +57,4 @@ returns-clause-behind c = λ utf8.
     place_of_rest _ bytes named gap (from_place bytes named) utf8 (λ _. c.in_ok-named.ensures.behind utf8)
     c.gap_len.ensures.behind in
     place_of_rest _ bytes (named + gap) c.in_ok-taken.taken (from_place bytes (named + gap)) utf8 (λ _. here)
-    c.in_ok-taken.ensures.behind
+    c.in_ok-taken.ensures.after

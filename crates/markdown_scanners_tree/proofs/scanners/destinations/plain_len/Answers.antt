@@ -1,9 +1,10 @@
 use Rattle.std.proofs.Common.{refl, ◌∙◌, arith, get_or}
 use Rattle.std.proofs.lemmas.Bool.{agree_below_at}
-use Rattle.markdown_scanners_tree.proofs.ForCallers.{is_outside, prefix_alike}
+use Rattle.markdown_scanners_tree.proofs.PrefixLemmas.{prefix_alike}
+use Rattle.markdown_scanners_tree.proofs.byte_sets.SetLanes.{is_outside}
 use Rattle.markdown_scanners_tree.specs.scanners.classes.private.InDestination.{is_in_destination}
-use Rattle.markdown_inlines.specs.declared.destinations.TheConstants.{NESTS_ESCAPES_OR_ENDS}
-use Rattle.markdown_inlines.proofs.destinations.plain_len.Goals as goal
+use Rattle.markdown_scanners_tree.specs.declared.scanners.destinations.TheConstants.{NESTS_ESCAPES_OR_ENDS}
+use Rattle.markdown_scanners_tree.proofs.scanners.destinations.plain_len.Goals as goal
 
 pub returns-clause-run : goal.returns-clause-run
 returns-clause-run c =

@@ -3,11 +3,11 @@ use Rattle.std.specs.List.{prefix_len}
 use Rattle.std.proofs.lemmas.Str.{IsCharBoundary-start}
 use Rattle.markdown_scanners_tree.specs.scanners.classes.private.InDestination.{is_in_destination}
 use Rattle.markdown_scanners_tree.specs.scanners.links.LinkDestination.{IsBareFrom}
-use Rattle.markdown_scanners_tree.proofs.ForCallers.{one_destination}
 use Rattle.markdown_scanners_tree.proofs.PrefixLemmas.{from_place}
-use Rattle.markdown_inlines.specs.Destinations.{ends_destination}
-use Rattle.markdown_inlines.proofs.destinations.DestinationLemmas.{bare_here}
-use Rattle.markdown_inlines.proofs.destinations.scan_destination.Goals as goal
+use Rattle.markdown_scanners_tree.specs.scanners.links.DestinationEnds.{ends_destination}
+use Rattle.markdown_scanners_tree.proofs.scanners.destinations.DestinationLemmas.{bare_here}
+use Rattle.markdown_scanners_tree.proofs.scanners.links.OneDestination.{one_destination}
+use Rattle.markdown_scanners_tree.proofs.scanners.destinations.scan_link_dest_ahead.Goals as goal
 
 pub returns-then-is_ended-clause-found : goal.returns-then-is_ended-clause-found
 returns-then-is_ended-clause-found c =

@@ -3,7 +3,7 @@ use Rattle.markdown_scanners_tree.specs.scanners.reference_definitions.Reference
 use Rattle.markdown_scanners_tree.proofs.SomeExactlyLemmas.{SomeExactly-from_none}
 use Rattle.markdown_scanners_tree.proofs.scanners.reference_definitions.DefinitionLemmas.{title_cut}
 use Rattle.markdown_scanners_tree.proofs.scanners.reference_definitions.OneDefinition.{one_target, one_reference_definition}
-use Rattle.markdown_scanners_tree.proofs.scanners.reference_definitions.scan_reference_definition.Goals as goal
+use Rattle.markdown_scanners_tree.proofs.scanners.reference_definitions.scan_definition.Goals as goal
 
 pub returns-in_err-target-clause-found : goal.returns-in_err-target-clause-found
 returns-in_err-target-clause-found c =
@@ -32,5 +32,5 @@ returns-clause-title_cut c =
     title_cut c.args.bytes.now c.in_ok-target.target.place c.in_ok-title.title c.in_ok-title.ensures.title_cut
     c.in_ok-target.ensures.behind
 
-pub returns-clause-behind : goal.returns-clause-behind
-returns-clause-behind c = λ utf8. c.in_ok-title.ensures.behind utf8 (c.in_ok-target.ensures.behind utf8)
+pub returns-clause-after : goal.returns-clause-after
+returns-clause-after c = λ utf8. c.in_ok-title.ensures.behind utf8 (c.in_ok-target.ensures.behind utf8)

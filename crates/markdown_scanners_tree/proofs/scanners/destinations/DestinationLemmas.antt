@@ -9,7 +9,7 @@ use Rattle.markdown_scanners_tree.proofs.PrefixLemmas.{list_all-prefix}
 use Rattle.markdown_scanners_tree.specs.scanners.Escapes.{units}
 use Rattle.markdown_scanners_tree.specs.scanners.classes.private.InDestination.{is_in_destination}
 use Rattle.markdown_scanners_tree.specs.scanners.links.LinkDestination.{IsBalanced, IsBareFrom, closing_count, ends_bare, is_single, opening_count, stands_bare}
-use Rattle.markdown_inlines.specs.Destinations.{ends_destination}
+use Rattle.markdown_scanners_tree.specs.scanners.links.DestinationEnds.{ends_destination}
 
 -- a byte above space that neither nests nor escapes
 record IsPlain (b : ℕ) : Type 0 where

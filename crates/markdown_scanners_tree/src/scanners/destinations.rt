@@ -1,15 +1,15 @@
-//! Link destinations, of which most are bare and have neither a parenthesis nor an escape.
-//! (CommonMark 0.31.2, section 6.3)
+//! Link destinations of texts that can be read to their end: most are bare, and have neither a
+//! parenthesis nor an escape. (CommonMark 0.31.2, section 6.3)
 ghost use Rattle.std.specs.Prelude.{◌≡◌, ◌+◌, ◌≤◌, ℕ, List, length, slice_range, option_map, IfNone, IfSome};
 ghost use Rattle.std.specs.List.{prefix_len};
 ghost use Rattle.std.specs.Str.{IsUtf8, IsCharBoundary};
 ghost use Rattle.markdown_scanners_tree.specs.SomeExactly.{SomeExactly, IsOnly};
 ghost use Rattle.markdown_scanners_tree.specs.scanners.classes.private.InDestination.{is_in_destination};
 ghost use Rattle.markdown_scanners_tree.specs.scanners.links.LinkDestination.{IsLinkDestination, StandsInside};
-ghost use Rattle.markdown_inlines.specs.Destinations.{ends_destination};
+ghost use Rattle.markdown_scanners_tree.specs.scanners.links.DestinationEnds.{ends_destination};
 
-use markdown_scanners_tree::byte_sets::ByteSet;
-use markdown_scanners_tree::scanners::scan_link_dest_bytes;
+use crate::byte_sets::ByteSet;
+use crate::scanners::links::scan_link_dest_bytes;
 use std::ops::Range;
 
 // The bytes up to space, whose high halves are 0 to 2, the parentheses and the backslash.
@@ -19,8 +19,9 @@ const NESTS_ESCAPES_OR_ENDS: ByteSet = ByteSet {
 };
 
 /// The link destination at the front of the bytes, as `scan_link_dest_bytes` answers it. A bare one
-/// that is plain up to its end is found by a look at 16 bytes at a time.
-pub(crate) fn scan_destination(bytes: &[u8], max_next: usize) -> Option<(usize, Range<usize>)>
+/// that is plain up to its end is found by a look at 16 bytes at a time, so that bytes after it may be
+/// read. (CommonMark 0.31.2, section 6.3.)
+pub fn scan_link_dest_ahead(bytes: &[u8], max_next: usize) -> Option<(usize, Range<usize>)>
     // The one destination that stands there is answered.
     ensures found { SomeExactly
         (λ (r : ℕ × List ℕ). IsLinkDestination (max_next + 1) bytes.now r.0 r.1)
@@ -32,14 +33,14 @@ pub(crate) fn scan_destination(bytes: &[u8], max_next: usize) -> Option<(usize, 
         → ¬ IsLinkDestination (max_next + 1) bytes.now n raw) }
 
     // Its raw text is all that it takes, or stands between brackets.
-    ensures place { IfSome result (λ r. StandsInside r.0 r.1.start r.1.end) }
+    ensures stands { IfSome result (λ r. StandsInside r.0 r.1.start r.1.end) }
     ensures ordered { IfSome result (λ r. (r.1.start ≤ r.1.end) × (r.1.end ≤ r.0)) }
     ensures within { IfSome result (λ r. r.0 ≤ length bytes.now) }
 
     // A text may be cut where its raw text begins and ends, and after all that it takes.
     ensures begins { IfSome result (λ r. IsUtf8 bytes.now → IsCharBoundary bytes.now r.1.start) }
     ensures ends { IfSome result (λ r. IsUtf8 bytes.now → IsCharBoundary bytes.now r.1.end) }
-    ensures behind { IfSome result (λ r. IsUtf8 bytes.now → IsCharBoundary bytes.now r.0) }
+    ensures after { IfSome result (λ r. IsUtf8 bytes.now → IsCharBoundary bytes.now r.0) }
 {
     let plain = plain_len(bytes);
     if plain > 0 && bytes[0] != b'<' && is_ended(&bytes[plain..]) {
