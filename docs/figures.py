@@ -90,6 +90,11 @@ def of_parser():
     ]
 
 
+def of_pages():
+    events, html = (source("bench/RESULTS.md", rf"(?m)^\| {call} \|.*\| ([\d.]+) \|$") for call in ("Parser, all events", "html_of_page"))
+    return [("README.md", "pulldown-cmark 0.9.2 takes {} times our instructions for its events, and {} times for its HTML", [events, html])]
+
+
 def of_packages():
     made = totals("packages/javascript/totals")["made_pages"]
     most, most_wide = (number("packages/javascript/test", rf"(?m)^{name}=(\d+)$") // 1000 for name in ("most", "most64"))
@@ -112,7 +117,7 @@ def of_sources():
 
 
 def rows():
-    return of_answers() + of_parser() + of_packages() + of_sources()
+    return of_answers() + of_parser() + of_pages() + of_packages() + of_sources()
 
 
 def pattern_of(words):
