@@ -1,10 +1,11 @@
 #!/usr/bin/env python3
 """Writes the rows of HTML's entities from Python's `html.entities.html5`, with the tables by which they are found.
 
-It writes specs/Rows1.antt and so on, three files of src/, and the input and the expected output of the program
-html_entities_names, both from Python's list alone.
+It writes specs/Rows1.antt and so on, three files of src/, and for the tests of the packages what is asked, and what has
+to be answered: packages/entities/, from Python's list alone.
 """
 import argparse
+import os
 import sys
 from html.entities import html5
 from pathlib import Path
@@ -124,7 +125,7 @@ def known(name):
 
 
 def asked_and_answers():
-    """The lines that html_entities_names reads, and what it has to write. A line is a name, or text to be resolved."""
+    """What is asked, a line each, and the answers. A line is a name, which means something or `none`; or it is `text ` and a text to be resolved."""
     asked = list(asked_names())
     answers = [known(name) or "none" for name in asked]
     for names in (asked, [item for item in asked if known(item)]):
@@ -140,7 +141,7 @@ def files():
     asked, answers = asked_and_answers()
     made = {f"specs/Rows{number}.antt": rows_file(number, rows) for number, rows in enumerate(parts, 1)}
     return {**made, "src/name_text.rt": name_text_file(), "src/meaning_text.rt": meaning_text_file(), "src/places.rt": places_file(),
-            "../html_entities_names/stdin": asked, "../html_entities_names/stdout": answers}
+            "../../packages/entities/asked": asked, "../../packages/entities/meanings": answers}
 
 
 def main():
@@ -151,7 +152,7 @@ def main():
         if not is_check:
             (TOP / path).write_bytes(text.encode())
         elif not (TOP / path).exists() or (TOP / path).read_bytes() != text.encode():
-            print(f"crates/html_entities/{path} is not what generate.py writes")
+            print(f"{os.path.normpath(f'crates/html_entities/{path}')} is not what generate.py writes")
             status = 1
     sys.exit(status)
 

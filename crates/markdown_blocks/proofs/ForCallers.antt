@@ -1,5 +1,6 @@
 -- Lemmas that other crates cite.
 pub use Rattle.markdown_blocks.proofs.blocks.OneText.{one_piece, one_page}
+pub use Rattle.markdown_blocks.proofs.byte_order_mark.MarkLemmas.{text_parts, text_utf8, text_within}
 pub use Rattle.markdown_blocks.proofs.cells.CutLemmas.{IsCellCut, cell_ends, cell_utf8, cells_cut, row_cut}
 pub use Rattle.markdown_blocks.proofs.cells.LawLemmas.{row_between}
 pub use Rattle.markdown_blocks.proofs.cells.PieceLaws.{one_list_of_pieces, row_pieces}

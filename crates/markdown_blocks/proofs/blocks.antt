@@ -7,3 +7,4 @@ pub mod OverLemmas
 pub mod ParagraphLemmas
 pub mod RestLemmas
 pub mod TextFirst
+pub mod UnderlineLemmas

@@ -1,3 +1,4 @@
+pub mod ColumnsLeft
 pub mod ContainerLemmas
 pub mod MarkerLemmas
 pub mod PlainItems

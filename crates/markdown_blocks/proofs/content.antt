@@ -2,6 +2,8 @@ pub mod AsciiCuts
 pub mod ByteLemmas
 pub mod CutMoves
 pub mod EndCuts
+pub mod EndingLemmas
+pub mod NoReturn
 pub mod OneContent
 pub mod PastLemmas
 pub mod PlainFront

@@ -1,8 +1,11 @@
+pub mod blank_lines
 pub mod blocks
+pub mod byte_order_mark
 pub mod cells
 pub mod containers
 pub mod content
 pub mod definitions
+pub mod delimiter_rows
 pub mod events
 pub mod first_blocks
 pub mod foldings

@@ -1,3 +1,4 @@
 pub mod Containers
 pub mod Footnotes
+pub mod ItemMarkers
 pub mod private

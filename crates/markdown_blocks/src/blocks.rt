@@ -1,33 +1,28 @@
 //! Blocks of a page, each as a whole from the front of what is left, in their containers.
-ghost use Rattle.std.specs.Prelude.{◌≡◌, ◌↔◌, ◌+◌, ◌++◌, ◌∷◌, [], List, ℕ, Option, true, drop, IsTrue, IfOk, IfSome, IfNone};
-ghost use Rattle.markdown_values.specs.declared.values.HeadingLevel.{HeadingLevel};
+ghost use Rattle.std.specs.Prelude.{◌≡◌, ◌↔◌, ◌+◌, ◌++◌, ◌∷◌, [], List, ℕ, true, drop, IsTrue, IfOk, IfSome};
 ghost use Rattle.markdown_scanners_tree.specs.Bytes.{begins_with};
 ghost use Rattle.markdown_scanners_tree.specs.SomeExactly.{SomeExactly};
 ghost use Rattle.markdown_scanners_tree.specs.scanners.TextLines.{lines_of};
-ghost use Rattle.markdown_blocks.specs.blocks.Leaves.{Begins, IsUnderline, EndsParagraph, ClosesFence, HasIndent, Interrupts};
-ghost use Rattle.markdown_blocks.specs.blocks.Leaves.{In, IsLazy, StopsBefore, StopsBehind, EndsAsHtml, GoesOnIndented};
-ghost use Rattle.markdown_blocks.specs.blocks.Leaves.{IsHead, BeginsNoTable, LeavesBehind};
-ghost use Rattle.markdown_blocks.specs.blocks.Endings.{EndsText, IsEnd, IsNextLine, IsUnderOrDefines, is_text_byte};
+ghost use Rattle.markdown_blocks.specs.blocks.Leaves.{Begins, StopsBefore, StopsBehind, EndsAsHtml, GoesOnIndented};
+ghost use Rattle.markdown_blocks.specs.blocks.Leaves.{IsHead, BeginsNoTable, BeginsTable, LeavesBehind};
+ghost use Rattle.markdown_blocks.specs.blocks.Endings.{IsEnd, IsNextLine, is_text_byte};
 ghost use Rattle.markdown_blocks.specs.declared.blocks.Ending.TheVariants.{Text};
 ghost use Rattle.markdown_blocks.specs.blocks.Over.{IsOver};
 ghost use Rattle.markdown_blocks.specs.blocks.Pages.{IsBlockOf};
-ghost use Rattle.markdown_blocks.specs.containers.Containers.{asked_in, behind, IsInside};
 ghost use Rattle.markdown_blocks.specs.declared.blocks.BlockKind.TheVariants.{Paragraph};
 ghost use Rattle.markdown_blocks.specs.taken.Lines.{IsTaken, IsNext};
 
-use crate::containers::{BlockExtensions, Outer, go_on};
+pub(crate) mod endings;
+
+use crate::blocks::endings::{ends, ends_html, is_indented, is_inside, text_end};
+use crate::containers::Outer;
 use crate::definitions::has_text;
-use crate::footnotes::footnote_label;
-use crate::kinds::{is_blank, kind_of};
+use crate::kinds::kind_of;
 use crate::line::Line;
 use crate::rest::Rest;
-use crate::tables::{count_cells, delimiter_columns, take_rows};
+use crate::tables::{count_cells, delimiter_columns, is_header, take_rows};
 use crate::taken::Taken;
-use crate::terms::defines_term;
-use markdown_scanners_tree::scanners::{
-    HtmlBlockKind, ends_html_block, interrupts_paragraph, is_ascii_whitespace,
-    scan_closing_code_fence, scan_setext_heading,
-};
+use markdown_scanners_tree::scanners::{HtmlBlockKind, is_ascii_whitespace};
 use markdown_values::values::HeadingLevel;
 use std::alloc::{AllocError, Global};
 
@@ -222,7 +217,7 @@ fn take_html(text: &[u8], first: Taken, outer: &Outer, kind: HtmlBlockKind, rest
     if kind.ends_before_blank() {
         return take_until(text, first, outer, Ending::Html(kind));
     }
-    if ends_html_block(rest.text, kind) {
+    if ends_html(rest.text, kind) {
         return first;
     }
     take_through(text, first, outer, Ending::Html(kind))
@@ -268,7 +263,7 @@ fn scan_paragraph(
         });
     };
     let line = Line::new(line, outer);
-    if let Some(columns) = head_columns(alloc, &line, rest.text)? {
+    if let Some(columns) = head_columns(&line, rest.text) {
         return Ok(Block {
             kind: BlockKind::Table(columns),
             taken: take_rows(text, second, outer),
@@ -288,7 +283,7 @@ fn scan_paragraph(
 }
 
 // The paragraph or heading whose first line this is, with this after its containers, where the second
-// line goes on with it, and it begins no table.
+// line goes on with it, and the first begins no table.
 fn scan_lines<'a>(
     alloc: Global,
     text: &'a [u8],
@@ -303,11 +298,21 @@ fn scan_lines<'a>(
         → BeginsNoTable outer.now rest.now (lines_of (drop first.bytes text.now))
         → IsBlockOf text.now outer.now line rest.now block) }
 {
+    let mut before = first;
     let mut taken = second;
     while let Some((line, more)) = taken.next(text) {
         let line = Line::new(line, outer);
+        if begins_table(text, before, &line) {
+            return Ok(Block {
+                kind: BlockKind::Paragraph,
+                taken: before,
+            });
+        }
         match next_line(alloc, text, first, taken, &line, rest.text)? {
-            NextLine::GoesOn => taken = more,
+            NextLine::GoesOn => {
+                before = taken;
+                taken = more;
+            }
             NextLine::Underlines(level) => {
                 return Ok(Block {
                     kind: BlockKind::Setext(level),
@@ -321,6 +326,22 @@ fn scan_lines<'a>(
         kind: BlockKind::Paragraph,
         taken,
     })
+}
+
+// Whether a table begins with the line after those that are taken, where this line comes after it.
+fn begins_table(text: &[u8], before: Taken, next: &Line) -> bool
+    ensures { (line : List ℕ) (lines : List (List ℕ))
+        → lines_of (drop before.bytes text.now) ≡ line ∷ next.now.bytes ∷ lines
+        → (IsTrue result ↔ BeginsTable next.now.outer (line ∷ next.now.bytes ∷ lines)) }
+{
+    if delimiter_columns(next).is_none() {
+        return false;
+    }
+    let Some((line, _)) = before.next(text) else {
+        return false;
+    };
+    let line = Line::new(line, next.outer());
+    is_header(&line) && head_columns(next, line.rest().text).is_some()
 }
 
 // What the line is to the paragraph that is taken. Of that the first line is taken by `first`, and has
@@ -358,139 +379,19 @@ fn next_line(
 
 // How many columns a table has, of which the line is the delimiter row, and the line before it has
 // this text.
-fn head_columns(alloc: Global, line: &Line, words: &[u8]) -> Result<Option<usize>, AllocError>
-    ensures { IfOk result (λ found. SomeExactly
-        (λ columns. IsHead line.now.outer words.now columns line.now.bytes) found) }
+fn head_columns(line: &Line, words: &[u8]) -> Option<usize>
+    ensures { SomeExactly (λ columns. IsHead line.now.outer words.now columns line.now.bytes)
+        result }
 {
     if line.outer().extensions().no_tables {
-        return Ok(None);
+        return None;
     }
-    let Some(columns) = delimiter_columns(alloc, line)? else {
-        return Ok(None);
-    };
+    let columns = delimiter_columns(line)?;
     if columns as u128 != count_cells(words) {
-        return Ok(None);
+        return None;
     }
     if ends(line, Ending::Paragraph) {
-        return Ok(None);
-    }
-    Ok(Some(columns))
-}
-
-// Whether the line ends a block with this ending.
-#[inline(always)]
-fn ends(line: &Line, ending: Ending) -> bool
-    ensures { IsTrue result ↔ IsEnd line.now.outer ending line.now.bytes }
-{
-    let Some(rest) = line.rest_inside() else {
-        return match ending {
-            Ending::Paragraph => !is_lazy(line),
-            _ => true,
-        };
-    };
-    match ending {
-        Ending::Text => !is_blank(rest.text),
-        Ending::Paragraph => ends_paragraph(rest, line.outer().extensions()),
-        Ending::Fence(count, byte) => closes_fence(rest, count, byte),
-        Ending::Html(kind) => ends_html_block(rest.text, kind),
-    }
-}
-
-// Whether the line stands in the containers.
-fn is_inside(line: &[u8], outer: &Outer) -> bool
-    ensures { IsTrue result ↔ IsInside outer.now.containers line.now }
-{
-    let (kept, _) = go_on(line, outer);
-    kept == outer.count()
-}
-
-// Whether the line stands in the containers, after an indent of four columns.
-fn is_indented(line: &Line) -> bool
-    ensures { IsTrue result ↔ In line.now.outer.containers HasIndent line.now.bytes }
-{
-    match line.rest_inside() {
-        Some(rest) => rest.indent == 4,
-        None => false,
-    }
-}
-
-// Whether the rest of a line, after fewer containers than those of the paragraph before it, goes on with
-// that.
-fn is_lazy(line: &Line) -> bool
-    ensures { IsTrue result ↔ IsLazy (asked_in line.now.outer line.now.bytes)
-        (behind line.now.outer.containers line.now.bytes).state }
-{
-    if line.begins_container() {
-        return false;
-    }
-    let rest = line.rest();
-    if is_blank(rest.text) {
-        return false;
-    }
-    if rest.indent == 4 {
-        return true;
-    }
-    !interrupts(rest.text, line.asked())
-}
-
-// Whether a line with this after its containers goes on with no paragraph.
-#[inline(always)]
-fn ends_paragraph(rest: &Rest, extensions: BlockExtensions) -> bool
-    ensures { IsTrue result ↔ EndsParagraph extensions rest.now }
-{
-    if is_blank(rest.text) {
-        return true;
-    }
-    if underline_level(rest).is_some() {
-        return true;
-    }
-    rest.indent != 4 && interrupts(rest.text, extensions)
-}
-
-// Whether the text interrupts a paragraph, after fewer than four columns of space.
-fn interrupts(text: &[u8], extensions: BlockExtensions) -> bool
-    ensures { IsTrue result ↔ Interrupts extensions text.now }
-{
-    interrupts_paragraph(text) || (extensions.footnotes && footnote_label(text).is_some())
-}
-
-// The level of the setext heading whose underline it is.
-#[inline(always)]
-fn underline_level(rest: &Rest) -> Option<HeadingLevel>
-    ensures { SomeExactly (λ level. IsUnderline level rest.now) result }
-{
-    if rest.indent == 4 {
         return None;
     }
-    let (_, level) = scan_setext_heading(rest.text)?;
-    Some(level)
-}
-
-// What the line is in the containers that ends a paragraph with text.
-#[inline(always)]
-fn text_end(line: &Line) -> Option<TextEnd>
-    ensures found { IfSome result (λ r. EndsText line.now.outer r line.now.bytes) }
-    ensures none { IfNone result ((level : Option HeadingLevel) → ¬ In line.now.outer.containers
-        (IsUnderOrDefines line.now.outer.extensions level) line.now.bytes) }
-{
-    let rest = line.rest_inside()?;
-    let extensions = line.outer().extensions();
-    let level = underline_level(rest);
-    if level.is_none() && !defines_term(rest, extensions) {
-        return None;
-    }
-    Some(TextEnd {
-        level,
-        interrupts: interrupts(rest.text, extensions),
-    })
-}
-
-/// Whether it closes fenced code.
-pub(crate) fn closes_fence(rest: &Rest, count: usize, byte: u8) -> bool
-    ensures { IsTrue result ↔ ClosesFence count byte rest.now }
-{
-    if rest.text.is_empty() {
-        return false;
-    }
-    rest.indent != 4 && scan_closing_code_fence(rest.text, byte, count).is_some()
+    Some(columns)
 }

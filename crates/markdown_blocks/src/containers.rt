@@ -4,15 +4,16 @@
 ghost use Rattle.std.specs.Prelude.{◌≡◌, ◌<◌, ◌≤◌, length, false, Some, None, IfSome, IfNone, IsTrue};
 ghost use Rattle.markdown_scanners_tree.specs.Bytes.{begins_with};
 ghost use Rattle.markdown_scanners_tree.specs.line.ItemRules.{start_of};
-ghost use Rattle.markdown_scanners_tree.specs.line.Outcome.{item_outcome};
 ghost use Rattle.markdown_scanners_tree.specs.line.State.{space_within, after_space};
-ghost use Rattle.markdown_blocks.specs.containers.Containers.{begun_behind, behind, behind_quote, extension_of, goes_on_blank, item_of};
+ghost use Rattle.markdown_blocks.specs.containers.Containers.{begun_behind, behind, behind_quote, extension_of, goes_on_blank};
 ghost use Rattle.markdown_blocks.specs.containers.Containers.{settled, within, within_quote, within_width};
 ghost use Rattle.markdown_blocks.specs.containers.private.Markers.{is_item_byte, is_other_byte};
 
-use crate::bullets::plain_bullet;
+pub(crate) mod item_markers;
+
+use crate::blank_lines::is_blank;
+use crate::containers::item_markers::scan_item;
 use crate::footnotes::scan_footnote;
-use crate::kinds::is_blank;
 use crate::terms::scan_term_definition;
 use markdown_scanners_tree::line::LineStart;
 use std::marker::Model;
@@ -429,58 +430,4 @@ fn scan_extension<'a>(
         return Some(footnote);
     }
     scan_term_definition(line, start, indent, extensions)
-}
-
-// Passes the marker of the list item that begins at the position, after so many columns of space,
-// if one does.
-fn scan_item<'a>(line: &'a [u8], start: &mut LineStart<'a>, indent: usize) -> Option<Container>
-    requires bytes { start.old.bytes ≡ line.now }
-    requires near { indent ≤ 4 }
-    ensures found { IfSome result (λ container.
-        item_of (item_outcome indent start.old) ≡ Some (container, start.new)) }
-    ensures none { IfNone result (item_of (item_outcome indent start.old) ≡ None) }
-    ensures unchanged { IfNone result (start.new ≡ start.old) }
-    ensures bytes { start.new.bytes ≡ line.now }
-    ensures rises { IfSome result (λ _. start.old.place < start.new.place) }
-{
-    if let Some(item) = scan_plain_item(line, start, indent) {
-        return Some(item);
-    }
-    let (delimiter, number, width) = start.scan_list_marker_with_indent(indent)?;
-    Some(Container::Item(ListItem {
-        delimiter,
-        begun: is_blank(&line[start.bytes_scanned()..]),
-        width: width as u8,
-        start: number as u32,
-    }))
-}
-
-// The same of an item as most are: a bullet, one space and text. One that it does not pass may begin there
-// too.
-#[inline(always)]
-fn scan_plain_item<'a>(
-    line: &'a [u8],
-    start: &mut LineStart<'a>,
-    indent: usize,
-) -> Option<Container>
-    requires bytes { start.old.bytes ≡ line.now }
-    requires near { indent ≤ 4 }
-    ensures found { IfSome result (λ container.
-        item_of (item_outcome indent start.old) ≡ Some (container, start.new)) }
-    ensures unchanged { IfNone result (start.new ≡ start.old) }
-    ensures bytes { start.new.bytes ≡ line.now }
-    ensures rises { IfSome result (λ _. start.old.place < start.new.place) }
-{
-    let place = start.bytes_scanned();
-    let bullet = plain_bullet(&line[place..])?;
-    if start.remaining_space() > 0 {
-        return None;
-    }
-    *start = LineStart::resumed(line, place + 2, 0, (start.phase() + 2) % 4)?;
-    Some(Container::Item(ListItem {
-        delimiter: bullet,
-        begun: false,
-        width: indent as u8 + 2,
-        start: 0,
-    }))
 }

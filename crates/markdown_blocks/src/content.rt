@@ -1,10 +1,10 @@
 //! The content of leaf blocks: what is handed to the inline pass, and the text of code and HTML, with the place of each of its
-//! bytes. (CommonMark 0.31.2, sections 2.2, 4.2 to 4.6 and 4.8)
+//! bytes. (CommonMark 0.31.2, sections 2.1, 2.2, 4.2 to 4.6 and 4.8)
 ghost use Rattle.std.specs.Prelude.{◌≡◌, ◌^◌, ◌++◌, ◌∷◌, [], ◌+◌, ◌-◌, ◌<◌, ◌≤◌, ℕ, List, length, replicate, slice_index, IfOk, IfErr, IfSome, IsOk, IsTrue, OnOk};
 ghost use Rattle.std.specs.Str.{IsUtf8};
-ghost use Rattle.markdown_scanners_tree.specs.Ascii.{space};
 ghost use Rattle.markdown_scanners_tree.specs.scanners.TextLines.{lines_of};
 ghost use Rattle.markdown_blocks.specs.content.Bytes.{AreBytesOf};
+ghost use Rattle.markdown_blocks.specs.content.Content.{HasNoReturn, IsCodeOrHtml};
 ghost use Rattle.markdown_blocks.specs.content.Content.{IsContent, IsRunOf, StandsFrom, content_len, content_with, joined, text_of, words_len};
 ghost use Rattle.markdown_blocks.specs.content.Left.{IsRun, IsRunAt, parts_left};
 ghost use Rattle.markdown_blocks.specs.content.Parts.{AreOneRun, AreParts, Part, one_part};
@@ -13,6 +13,7 @@ ghost use Rattle.markdown_blocks.specs.content.Segments.{Rising, place_at, place
 ghost use Rattle.markdown_blocks.specs.declared.blocks.BlockKind.TheVariants.{Paragraph};
 
 mod cell;
+pub(crate) mod line_endings;
 pub(crate) mod parts;
 mod whole_lines;
 
@@ -36,7 +37,7 @@ pub struct Content<'a> {
 }
 
 // Bytes of a content that stand one after the other in the lines, from an offset in the content on:
-// columns of a tab, which stands directly before a place, and the bytes from that place on.
+// columns in place of the byte directly before an offset in these, and the bytes from that offset on.
 #[derive(Clone, Copy)]
 struct Segment {
     offset: usize,
@@ -64,9 +65,9 @@ impl<'a> Model for Content<'a> {
 /// The content of the lines, which are a leaf block of this kind in these containers. Its first line
 /// goes on with `kept` of them and begins the others.
 ///
-/// Of a paragraph or a heading it is the text for the inline pass, without the space at its ends. A
-/// table has none here: its rows are cut into cells. Memory is asked for where the content is not
-/// one run of the lines.
+/// Of a paragraph or a heading it is the text for the inline pass, without the space at its ends. Of
+/// code and HTML each line ending is written as a line feed. A table has none here: its rows are cut
+/// into cells. Memory is asked for where the content is not one run of the lines.
 pub fn content_of<'a>(
     alloc: Global,
     lines: &'a [u8],
@@ -80,6 +81,8 @@ pub fn content_of<'a>(
         → AreParts kind containers.now kept (lines_of lines.now) parts
         → AreOneRun parts → IsOk result }
     ensures bytes { IfOk result (λ content. AreBytesOf lines.now content) }
+
+    ensures endings { IfOk result (λ content. IsCodeOrHtml kind → HasNoReturn content.text) }
 
     // It is cut next to bytes of ASCII alone.
     ensures utf8 { IfOk result (λ content. IsUtf8 lines.now → IsUtf8 content.text) }
@@ -127,7 +130,7 @@ impl<'a> Content<'a> {
     }
 
     /// The place in the block's lines of the byte at the offset. A column of a tab that is cut stands
-    /// where the tab does.
+    /// where the tab does, and a line feed where the line ending ends that it is written for.
     pub fn place(&self, offset: usize) -> usize
         requires { offset < length self.now.text }
         ensures { result ≡ slice_index self.now.places offset }
@@ -253,6 +256,7 @@ fn run_of<'a>(parts: Parts<'a>) -> Result<(usize, usize), (LinePart<'a>, Parts<'
         if next.columns > 0 || next.place != end {
             let run = LinePart {
                 columns: 0,
+                filler: b' ',
                 place: part.place,
                 bytes: &parts.lines[part.place..end],
             };
@@ -335,17 +339,17 @@ fn add_segment(
 fn add_part(text: &mut Vec<u8>, part: LinePart) -> Result<(), AllocError>
     ensures { OnOk result (text.new.items ≡ text.old.items ++ text_of (seen_part part.entry)) }
 {
-    add_spaces(text, part.columns)?;
+    add_columns(text, part.columns, part.filler)?;
     text.extend_from_slice(part.bytes)
 }
 
-// Adds so many spaces.
-fn add_spaces(text: &mut Vec<u8>, count: usize) -> Result<(), AllocError>
-    ensures { OnOk result (text.new.items ≡ text.old.items ++ replicate count space) }
+// Adds so many columns of this filler.
+fn add_columns(text: &mut Vec<u8>, count: usize, filler: u8) -> Result<(), AllocError>
+    ensures { OnOk result (text.new.items ≡ text.old.items ++ replicate count filler) }
 {
     let mut left = count;
     while left > 0 {
-        text.push(b' ')?;
+        text.push(filler)?;
         left -= 1;
     }
     Ok(())

@@ -6,6 +6,7 @@ ghost use Rattle.markdown_blocks.specs.events.Events.{Event, IsEventsOf, seen_ev
 ghost use Rattle.markdown_blocks.specs.events.Given.{Left, Gives, begun_of, block_events_left, events_left};
 
 pub use crate::block_events::BlockEvents;
+use crate::byte_order_mark::text_start;
 use crate::containers::{BlockExtensions, Container};
 pub use crate::leaf::Leaf;
 use crate::taken::Taken;
@@ -76,7 +77,10 @@ impl<'a> Blocks<'a> {
     {
         Blocks {
             page,
-            before: Taken::nothing(),
+            before: Taken {
+                bytes: text_start(page),
+                lines: 0,
+            },
             walk: Walk::new_ext(alloc, extensions),
             begun: 0,
             block: None,

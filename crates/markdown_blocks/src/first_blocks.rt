@@ -6,10 +6,11 @@ ghost use Rattle.std.specs.Option.{option_map, option_to_list};
 ghost use Rattle.markdown_blocks.specs.containers.Containers.{no_extensions};
 ghost use Rattle.markdown_blocks.specs.events.Events.{Event, seen_event};
 ghost use Rattle.markdown_blocks.specs.first_blocks.FirstBlocks.{firsts_of, seen_first};
-ghost use Rattle.markdown_blocks.specs.first_blocks.Tasks.{AreTasksOf, task_at};
+ghost use Rattle.markdown_blocks.specs.first_blocks.Tasks.{AreTasksOf, is_box, is_task_text, task_at};
 ghost use Rattle.markdown_blocks.specs.first_blocks.Waiting.{first_at, firsts_behind, waiting_behind};
 ghost use Rattle.markdown_blocks.specs.lists.Lists.{Nodes, flatten};
 
+use crate::blank_lines::is_blank;
 use crate::blocks::BlockKind;
 use crate::containers::{BlockExtensions, Container};
 use crate::events::{BlockEvent, Blocks, Leaf};
@@ -96,16 +97,19 @@ impl FirstBlocks {
 
 impl<'a> FirstBlock<'a> {
     /// The marker of the task list item, if this is the first block of one: a paragraph in a list
-    /// item that begins with `[ ]`, `[x]` or `[X]` and white space.
+    /// item that begins with `[ ]`, `[x]` or `[X]`, white space, and more in the same line.
     ///
-    /// As `LineStart::scan_task_list_marker` has it, a line ending is white space after the marker,
-    /// and other white space of the line may stand between its brackets.
+    /// `LineStart::scan_task_list_marker` finds more: with other white space between the brackets,
+    /// and before nothing but white space.
     pub fn task(&self) -> Option<Task>
         ensures { result ≡ task_at (seen_first self.now) }
     {
         let (Container::Item(_), BlockKind::Paragraph) = (self.container, self.leaf.kind) else {
             return None;
         };
+        if !is_task_text(self.leaf.text) {
+            return None;
+        }
         let mut start = LineStart::new(self.leaf.text);
         let is_checked = start.scan_task_list_marker()?;
         Some(Task {
@@ -114,6 +118,20 @@ impl<'a> FirstBlock<'a> {
             len: start.bytes_scanned(),
         })
     }
+}
+
+// Whether a text that begins with a task list marker may be that of a task list item.
+fn is_task_text(text: &[u8]) -> bool
+    ensures { result ≡ is_task_text text.now }
+{
+    text.len() > 2 && is_box(text[1]) && !is_blank(&text[3..])
+}
+
+// Whether a byte may stand between the brackets of a marker.
+fn is_box(b: u8) -> bool
+    ensures { result ≡ is_box b }
+{
+    matches!(b, b' ' | b'x' | b'X')
 }
 
 /// The markers of the task list items of a page, in order.

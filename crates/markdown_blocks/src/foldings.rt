@@ -102,7 +102,7 @@ impl Folding {
 }
 
 // The number that the first bytes make, the first as the highest digit; where there are fewer, with
-// zeros in the place of the others.
+// zeros for the others.
 fn front_of(bytes: &[u8]) -> u64
     ensures front { result ≡ front_of bytes.now }
     ensures digits { HasDigits 8 bytes.now }

@@ -1,14 +1,19 @@
 //! What the first line of a block tells of it.
-ghost use Rattle.std.specs.Prelude.{◌≡◌, ◌↔◌, IsTrue};
-ghost use Rattle.markdown_scanners_tree.specs.Bytes.{is_blank};
+ghost use Rattle.std.specs.Prelude.{◌≡◌, ◌↔◌, ℕ, drop, IsTrue};
+ghost use Rattle.markdown_scanners_tree.specs.SomeExactly.{SomeExactly};
 ghost use Rattle.markdown_scanners_tree.specs.scanners.Breaks.{IsThematicBreak};
-ghost use Rattle.markdown_blocks.specs.blocks.Leaves.{Begins, BeginsAt};
+ghost use Rattle.markdown_scanners_tree.specs.scanners.html_tag.HtmlTag.{IsTagAloneInLine};
+ghost use Rattle.markdown_blocks.specs.blank_lines.BlankLines.{is_blank};
+ghost use Rattle.markdown_blocks.specs.blocks.Leaves.{Begins, BeginsAt, IsHeading, IsHtmlStart, has_fed_signs};
 
+use crate::blank_lines::is_blank;
 use crate::blocks::BlockKind;
 use crate::rest::Rest;
 use markdown_scanners_tree::scanners::{
-    scan_atx_heading, scan_blank_line, scan_code_fence, scan_hrule, scan_html_block_start,
+    HtmlBlockKind, scan_atx_heading, scan_ch_repeat, scan_code_fence, scan_hrule,
+    scan_html_block_start, scan_html_type_7,
 };
+use markdown_values::values::HeadingLevel;
 
 /// The kind of the block that begins with this rest of a line, where it goes on with none and begins
 /// no container.
@@ -32,13 +37,13 @@ fn kind_at(text: &[u8]) -> BlockKind
     if is_break(text) {
         return BlockKind::Break;
     }
-    if let Some(level) = scan_atx_heading(text) {
+    if let Some(level) = heading_level(text) {
         return BlockKind::Heading(level);
     }
     if let Some((count, byte)) = scan_code_fence(text) {
         return BlockKind::Fenced(count, byte);
     }
-    if let Some(kind) = scan_html_block_start(text) {
+    if let Some(kind) = html_kind(text) {
         return BlockKind::Html(kind);
     }
     BlockKind::Paragraph
@@ -52,10 +57,44 @@ fn is_break(bytes: &[u8]) -> bool
     scan_hrule(bytes).is_ok()
 }
 
-/// Whether the line is blank.
-#[tactic(auto, using(markdown_scanners_tree::proofs::ForCallers::blank_lines))]
-pub(crate) fn is_blank(line: &[u8]) -> bool
-    ensures { result ≡ is_blank line.now }
+// The level of the ATX heading that begins with these bytes.
+fn heading_level(text: &[u8]) -> Option<HeadingLevel>
+    ensures { SomeExactly (λ level. IsHeading level text.now) result }
 {
-    scan_blank_line(line).is_some()
+    let level = scan_atx_heading(text)?;
+    if has_fed_signs(text) {
+        return None;
+    }
+    Some(level)
+}
+
+/// Whether number signs stand at the front, and a vertical tab or a form feed directly after them: to
+/// scanners of headings that is white space, and to CommonMark text.
+pub(crate) fn has_fed_signs(text: &[u8]) -> bool
+    ensures { result ≡ has_fed_signs text.now }
+{
+    let signs = scan_ch_repeat(text, b'#');
+    matches!(text, [b'#', ..]) && matches!(&text[signs..], [0x0b | 0x0c, ..])
+}
+
+// The kind of the HTML block that begins with these bytes.
+fn html_kind(text: &[u8]) -> Option<HtmlBlockKind>
+    ensures { SomeExactly (λ kind. IsHtmlStart kind text.now) result }
+{
+    let kind = scan_html_block_start(text)?;
+    if matches!(kind, HtmlBlockKind::TagAlone) && !is_tag_alone(text) {
+        return None;
+    }
+    Some(kind)
+}
+
+// Whether spaces and tabs alone stand after the tag at the front, after which white space alone does.
+fn is_tag_alone(text: &[u8]) -> bool
+    ensures { IsTrue result
+        ↔ ((n : ℕ) → IsTagAloneInLine text.now n → IsTrue (is_blank (drop n text.now))) }
+{
+    match scan_html_type_7(text) {
+        Some(length) => is_blank(&text[length..]),
+        None => true,
+    }
 }

@@ -3,13 +3,16 @@
 #![tactic(auto)]
 
 pub mod alerts;
+mod blank_lines;
 mod block_events;
 pub mod blocks;
 mod bullets;
+pub mod byte_order_mark;
 pub mod cells;
 pub mod containers;
 pub mod content;
 pub mod definitions;
+mod delimiter_rows;
 pub mod events;
 pub mod first_blocks;
 mod foldings;

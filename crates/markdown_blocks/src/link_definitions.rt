@@ -19,6 +19,7 @@ ghost use Rattle.markdown_blocks.specs.taken.Lines.{IsTaken};
 ghost use Rattle.markdown_scanners_tree.specs.declared.scanners.reference_definitions.ReferenceDefinition.{ReferenceDefinition};
 ghost use Rattle.markdown_scanners_tree.specs.scanners.TextLines.{lines_of};
 
+use crate::byte_order_mark::text_start;
 use crate::containers::BlockExtensions;
 use crate::definitions::{count_lines, scan_definition};
 use crate::foldings::{Folding, SHORT};
@@ -155,7 +156,7 @@ impl<'a> LinkDefinitions<'a> {
         let mut known = LinkDefinitions::new(alloc);
         let mut walk = Walk::new_ext(alloc, extensions);
         let mut content = Vec::new(alloc);
-        let mut before = 0;
+        let mut before = text_start(page);
         while let Some(step) = walk.next_block(alloc, &mut content, &page[before..], true)? {
             known.add_content(&content, step.lines)?;
             before += step.block.taken.bytes;

@@ -2,8 +2,10 @@
 ghost use Rattle.std.specs.Prelude.{◌≡◌, ◌<◌, ◌≤◌, ℕ, length, IfSome, IfNone};
 ghost use Rattle.markdown_scanners_tree.specs.SomeExactly.{SomeExactly};
 ghost use Rattle.markdown_scanners_tree.specs.scanners.Metadata.{IsMetadataBlock};
-ghost use Rattle.markdown_blocks.specs.metadata.Metadata.{ClosesAt, IsMetadata, style_of};
+ghost use Rattle.markdown_blocks.specs.byte_order_mark.ByteOrderMark.{text_of};
+ghost use Rattle.markdown_blocks.specs.metadata.Metadata.{ClosesAt, IsMetadata, IsTextMetadata, style_of};
 
+use crate::byte_order_mark::text_start;
 use markdown_scanners_tree::scanners::{
     scan_closing_metadata_block, scan_line, scan_metadata_block, scan_nextline,
 };
@@ -22,10 +24,11 @@ pub struct Metadata {
     pub len: usize,
 }
 
-/// The metadata block that a page begins with, if one of a style that is enabled stands there.
+/// The metadata block that a page begins with, if one of a style that is enabled stands there, or
+/// after the page's byte order mark.
 ///
 /// What stands after its `len` bytes is the rest of the page. It is walked as a page of its own, whose
-/// places and lines are counted from there. No call that walks a page looks for metadata.
+/// offsets and lines are counted from there. No call that walks a page looks for metadata.
 pub fn metadata_of_page(
     page: &[u8],
     yaml_style_enabled: bool,
@@ -34,18 +37,41 @@ pub fn metadata_of_page(
     ensures found { SomeExactly
         (IsMetadata page.now yaml_style_enabled pluses_style_enabled) result }
     ensures none { IfNone result ((byte : ℕ)
-        → ¬ IsMetadataBlock page.now yaml_style_enabled pluses_style_enabled byte) }
+        → ¬ IsMetadataBlock (text_of page.now) yaml_style_enabled pluses_style_enabled byte) }
     ensures within { IfSome result (λ m.
         (m.start ≤ m.end) × (m.end ≤ m.len) × (m.len ≤ length page.now)) }
 {
-    let (_, byte) = scan_metadata_block(page, yaml_style_enabled, pluses_style_enabled)?;
-    let start = scan_nextline(page);
-    let end = closing_place(page, start, byte)?;
+    let before = text_start(page);
+    let found = metadata_of_text(&page[before..], yaml_style_enabled, pluses_style_enabled)?;
+    Some(Metadata {
+        kind: found.kind,
+        start: before + found.start,
+        end: before + found.end,
+        len: before + found.len,
+    })
+}
+
+// The same of a page's text.
+fn metadata_of_text(
+    text: &[u8],
+    yaml_style_enabled: bool,
+    pluses_style_enabled: bool,
+) -> Option<Metadata>
+    ensures found { SomeExactly
+        (IsTextMetadata text.now yaml_style_enabled pluses_style_enabled) result }
+    ensures none { IfNone result ((byte : ℕ)
+        → ¬ IsMetadataBlock text.now yaml_style_enabled pluses_style_enabled byte) }
+    ensures within { IfSome result (λ m.
+        (m.start ≤ m.end) × (m.end ≤ m.len) × (m.len ≤ length text.now)) }
+{
+    let (_, byte) = scan_metadata_block(text, yaml_style_enabled, pluses_style_enabled)?;
+    let start = scan_nextline(text);
+    let end = closing_place(text, start, byte)?;
     Some(Metadata {
         kind: style_of(byte),
         start,
         end,
-        len: end + scan_line(&page[end..]),
+        len: end + scan_line(&text[end..]),
     })
 }
 

@@ -8,10 +8,10 @@ ghost use Rattle.markdown_blocks.specs.rows.Rows.{AreAlignments, AreGiven, body_
 
 use crate::containers::{BlockExtensions, Container, Outer, go_on};
 use crate::content::parts::first_place;
+use crate::delimiter_rows::alignments_in;
 use crate::rest::{Rest, scan_rest};
 use crate::taken::Taken;
 use markdown_scanners_tree::line::LineStart;
-use markdown_scanners_tree::scanners::scan_table_head;
 use markdown_values::values::Alignment;
 use std::alloc::{AllocError, Global};
 use std::marker::Model;
@@ -147,6 +147,5 @@ fn columns_of(alloc: Global, rest: &Rest) -> Result<Vec<Alignment>, AllocError>
     if rest.indent == 4 {
         return Ok(Vec::new(alloc));
     }
-    let (_, alignments) = scan_table_head(alloc, rest.text)?;
-    Ok(alignments)
+    alignments_in(alloc, rest.text)
 }

@@ -1,23 +1,25 @@
 //! Rows of tables: their cells, the delimiter row, and where they end.
 //! (GitHub Flavored Markdown 0.29, section 4.10)
-ghost use Rattle.std.specs.Prelude.{◌≡◌, ◌↔◌, ◌≤◌, ◌++◌, List, ℕ, drop, length, IfOk, IsTrue};
+ghost use Rattle.std.specs.Prelude.{◌≡◌, ◌↔◌, ◌≤◌, ◌++◌, List, ℕ, drop, length, IsTrue};
 ghost use Rattle.markdown_scanners_tree.specs.Ascii.{space};
 ghost use Rattle.markdown_scanners_tree.specs.SomeExactly.{SomeExactly};
 ghost use Rattle.markdown_scanners_tree.specs.scanners.TextLines.{lines_of};
-ghost use Rattle.markdown_blocks.specs.blocks.Leaves.{Begins, In, IsRow, StopsBefore};
-ghost use Rattle.markdown_blocks.specs.blocks.Tables.{cells, separates, separators, ends_separated, IsDelimiter};
+ghost use Rattle.markdown_blocks.specs.blocks.Leaves.{Begins, In, IsHeader, IsRow, StopsBefore};
+ghost use Rattle.markdown_blocks.specs.blocks.Tables.{cells, separates, separators, ends_separated};
+ghost use Rattle.markdown_blocks.specs.delimiter_rows.DelimiterRows.{IsDelimiter};
 ghost use Rattle.markdown_blocks.specs.declared.blocks.BlockKind.TheVariants.{Paragraph};
 ghost use Rattle.markdown_blocks.specs.taken.Lines.{IsTaken};
 
 use crate::blocks::BlockKind;
 use crate::containers::Outer;
+use crate::delimiter_rows::count_columns;
 use crate::info::without_end;
 use crate::kinds::kind_of;
 use crate::line::Line;
 use crate::rest::Rest;
 use crate::taken::Taken;
-use markdown_scanners_tree::scanners::{line_head, scan_table_head};
-use std::alloc::{AllocError, Global};
+use crate::terms::defines_term;
+use markdown_scanners_tree::scanners::line_head;
 
 /// How many cells a line with this text has as a row.
 pub(crate) fn count_cells(text: &[u8]) -> u128
@@ -56,28 +58,22 @@ pub(crate) fn separates(before: u8, byte: u8) -> bool
 }
 
 /// How many columns a table has whose delimiter row the line is.
-pub(crate) fn delimiter_columns(alloc: Global, line: &Line) -> Result<Option<usize>, AllocError>
-    ensures { IfOk result (λ found. SomeExactly
-        (λ columns. In line.now.outer.containers (IsDelimiter columns) line.now.bytes) found) }
+pub(crate) fn delimiter_columns(line: &Line) -> Option<usize>
+    ensures { SomeExactly
+        (λ columns. In line.now.outer.containers (IsDelimiter columns) line.now.bytes) result }
 {
-    let Some(rest) = line.rest_inside() else {
-        return Ok(None);
-    };
-    columns_of(alloc, rest)
+    let rest = line.rest_inside()?;
+    columns_of(rest)
 }
 
 // The same of a line with this after its containers.
-fn columns_of(alloc: Global, rest: &Rest) -> Result<Option<usize>, AllocError>
-    ensures { IfOk result (λ found. SomeExactly (λ columns. IsDelimiter columns rest.now) found) }
+fn columns_of(rest: &Rest) -> Option<usize>
+    ensures { SomeExactly (λ columns. IsDelimiter columns rest.now) result }
 {
     if rest.indent == 4 {
-        return Ok(None);
+        return None;
     }
-    let (length, alignments) = scan_table_head(alloc, rest.text)?;
-    if length == 0 {
-        return Ok(None);
-    }
-    Ok(Some(alignments.len()))
+    count_columns(rest.text)
 }
 
 /// The lines, and the rows of a table that stand directly after them.
@@ -95,6 +91,13 @@ pub(crate) fn take_rows<'a>(text: &'a [u8], first: Taken, outer: &'a Outer<'a>) 
         taken = more;
     }
     taken
+}
+
+/// Whether the line may be the header row of a table that begins after other lines of its paragraph.
+pub(crate) fn is_header(line: &Line) -> bool
+    ensures { IsTrue result ↔ IsHeader line.now.outer line.now.bytes }
+{
+    is_row(line) && !defines_term(line.rest(), line.outer().extensions())
 }
 
 // Whether the line is a row of a table in the containers.

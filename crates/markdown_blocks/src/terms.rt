@@ -7,10 +7,10 @@ ghost use Rattle.markdown_blocks.specs.declared.blocks.BlockKind.TheVariants.{Pa
 ghost use Rattle.markdown_blocks.specs.walk.Walk.{IsGathered};
 ghost use Rattle.markdown_blocks.specs.containers.Containers.{asked_first, term_definition_of, without_terms};
 
+use crate::blank_lines::is_blank;
 use crate::blocks::{Block, BlockKind};
 use crate::containers::{BlockExtensions, Container, DefinitionItem};
 use crate::definitions::definitions_len;
-use crate::kinds::is_blank;
 use crate::rest::Rest;
 use markdown_scanners_tree::line::LineStart;
 use std::marker::Model;

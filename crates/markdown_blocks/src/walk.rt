@@ -22,7 +22,7 @@ use std::mem::swap;
 #[derive(Drop)]
 pub struct Walk {
     extensions: BlockExtensions,
-    open: Vec<Container>,
+    opened: Vec<Container>,
     is_after_term: bool,
     // Those that were open before the last block; its room is used again.
     closed: Vec<Container>,
@@ -35,7 +35,7 @@ impl Model for Walk {
 
     ghost view = { λ walk. record {
       extensions = walk.extensions;
-      containers = walk.open.items;
+      containers = walk.opened.items;
       term = walk.is_after_term;
     } };
 }
@@ -63,7 +63,7 @@ impl Walk {
     {
         Walk {
             extensions,
-            open: Vec::new(alloc),
+            opened: Vec::new(alloc),
             is_after_term: false,
             closed: Vec::new(alloc),
         }
@@ -85,7 +85,7 @@ impl Walk {
         } }
     {
         let mut walk = Walk::new_ext(alloc, extensions);
-        walk.open = containers;
+        walk.opened = containers;
         walk.is_after_term = is_after_term;
         walk
     }
@@ -94,7 +94,7 @@ impl Walk {
     pub fn containers(&self) -> &[Container]
         ensures containers { result.now ≡ self.now.containers }
     {
-        &self.open
+        &self.opened
     }
 
     /// Whether a term stands before the next block, which a definition may follow: a paragraph,
@@ -141,7 +141,7 @@ impl Walk {
             return Ok(None);
         };
         self.closed.clear();
-        self.closed.extend_from_slice(&self.open)?;
+        self.closed.extend_from_slice(&self.opened)?;
         let opened = open_containers(&mut self.closed, line, self.extensions, self.is_after_term)?;
         let rest = opened.rest;
         let outer = Outer::new(self.extensions, &self.closed);
@@ -150,13 +150,13 @@ impl Walk {
             return Ok(None);
         }
         gather_content(content, lines, block, &self.closed, rest.text)?;
-        let before = self.open.len();
+        let before = self.opened.len();
         let after = self.closed.len();
         let is_between = is_blank_between(block, opened.kept, before, after);
         let is_term = is_term(block, self.extensions, content);
         let stays = follows_term(is_term, self.is_after_term, is_between);
         self.is_after_term = stays;
-        swap(&mut self.open, &mut self.closed);
+        swap(&mut self.opened, &mut self.closed);
         Ok(Some(Step {
             kept: opened.kept,
             line,

@@ -19,13 +19,13 @@ textual_address setting to = elim (cases_Bool (setting.allows to)) [
 ]
 
 pub html_reads : (setting : Setting) (events : List (EventView (List ℕ))) → AreNested events
-    → Reads (html_of setting events) (content setting.raw events)
+    → Reads (html_of setting events) (content setting events)
 html_reads setting events nested = html_read is_text setting (textual_address setting) events nested
 
 -- the same of what a call answers
 pub if_read : {A E : Type 0} (bytes : A → List ℕ) (setting : Setting) (events : List (EventView (List ℕ))) (r : Result A E)
     → IfOk r (λ html. bytes html ≡ html_of setting events)
-    → IfOk r (λ html. AreNested events → Reads (bytes html) (content setting.raw events))
+    → IfOk r (λ html. AreNested events → Reads (bytes html) (content setting events))
 if_read bytes setting events (Ok html) is = λ nested.
-    subst (λ it. Reads it (content setting.raw events)) (sym is) (html_reads setting events nested)
+    subst (λ it. Reads it (content setting events)) (sym is) (html_reads setting events nested)
 if_read bytes setting events (Err refused) is = is

@@ -1,11 +1,16 @@
 pub mod AddressLemmas
+pub mod BegunLemmas
 pub mod EscapeLaws
 pub mod EventLemmas
 pub mod HtmlReads
 pub mod LineLemmas
 pub mod PushLemmas
+pub mod ReadEnds
 pub mod ReadEvents
+pub mod ReadLeaves
 mod ReadRows
+pub mod ReadStanding
+pub mod ReadStarts
 pub mod ReadSteps
 pub mod ReadTags
 mod Rows
@@ -15,4 +20,5 @@ pub mod SafeEvents
 pub mod SafeLemmas
 pub mod SafePages
 mod SafeRows
+mod UnreadRows
 pub mod WholePages

@@ -12,10 +12,10 @@ use Rattle.markdown_values.specs.values.Tags.{table, table_head, table_row}
 use Rattle.markdown_values.specs.values.Tags.{table_cell, emphasis, strong, strikethrough, superscript, subscript, link, image}
 use Rattle.markdown_scanners_tree.proofs.PrefixLemmas.{both_true}
 use Rattle.markdown_html.specs.Blocks.{cell_name}
-use Rattle.markdown_html.specs.Content.{images_after, outer_of}
+use Rattle.markdown_html.specs.Content.{images_after, is_numbered, list_name, outer_of}
 use Rattle.markdown_events.specs.Nesting.{Tag, is_in_table, MayStart}
 use Rattle.markdown_html.specs.States.{is_in_image}
-use Rattle.markdown_html.proofs.ReadSteps.{list_element, table_elements}
+use Rattle.markdown_html.proofs.ReadSteps.{table_elements}
 
 -- ---- what is open
 
@@ -25,7 +25,7 @@ tag_elements has_body is_head paragraph = codes "p" ∷ []
 tag_elements has_body is_head (heading level id classes attributes) = heading_name level ∷ []
 tag_elements has_body is_head (block_quote kind) = codes "blockquote" ∷ []
 tag_elements has_body is_head (code_block info) = codes "code" ∷ codes "pre" ∷ []
-tag_elements has_body is_head (list first) = list_element first ∷ []
+tag_elements has_body is_head (list first) = list_name (is_numbered first) ∷ []
 tag_elements has_body is_head item = codes "li" ∷ []
 tag_elements has_body is_head (table columns) = table_elements has_body
 tag_elements has_body is_head table_head = codes "tr" ∷ codes "thead" ∷ []

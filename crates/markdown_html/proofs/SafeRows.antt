@@ -1,8 +1,8 @@
 -- Worked rows: what the grammar of safe HTML takes, and what it does not; and the schemes of addresses.
-use Rattle.std.proofs.Common.{ℕ, ◌≡◌, refl, List, [], ◌∷◌, ◌++◌, Some, None, codes, true, false}
+use Rattle.std.proofs.Common.{ℕ, ◌≡◌, refl, Bool, List, [], ◌∷◌, ◌++◌, Some, None, codes, true, false}
 use Rattle.markdown_html.specs.Addresses.{scheme_of}
 use Rattle.markdown_html.specs.Escapes.{written_address}
-use Rattle.markdown_html.specs.SafeHtml.{is_text, is_one_of, is_attribute, is_address, elements, void_elements, read_after}
+use Rattle.markdown_html.specs.SafeHtml.{is_text, is_one_of, is_attribute, are_attributes, is_address, elements, void_elements, read_after}
 use Rattle.markdown_html.specs.SafeSetting.{default_schemes}
 
 -- ---- schemes
@@ -78,3 +78,19 @@ language_row = refl
 
 class_row : is_attribute (is_address default_schemes) (codes "code") (codes "class", codes "button") ≡ false
 class_row = refl
+
+-- A box that no one can tick, a field for a text, and a box that can be ticked.
+abbrev may_stand : List (List ℕ × List ℕ) → Bool
+may_stand = are_attributes (is_address default_schemes) (codes "input")
+
+box_row : may_stand ((codes "disabled", []) ∷ (codes "type", codes "checkbox") ∷ []) ≡ true
+box_row = refl
+
+field_row : may_stand [] ≡ false
+field_row = refl
+
+disabled_field : may_stand ((codes "disabled", []) ∷ []) ≡ false
+disabled_field = refl
+
+open_box : may_stand ((codes "checked", []) ∷ (codes "type", codes "checkbox") ∷ []) ≡ false
+open_box = refl

@@ -23,10 +23,10 @@ html_of_whole page text asked left setting html same whole is = record {
 }
 
 pub page_html_read : (page : List ℕ) (asked : PageSetting) (setting : Setting) (html : List ℕ) → IsHtmlOf page asked setting html
-    → HoldsPage page asked setting.raw html
+    → HoldsPage page asked setting html
 page_html_read page asked setting html is = record {
   events = is.events;
   are_events = is.are_events;
-  is_read = subst (λ it. Reads it (content setting.raw (without_ranges is.events))) (sym is.is_html)
+  is_read = subst (λ it. Reads it (content setting (without_ranges is.events))) (sym is.is_html)
       (html_reads setting (without_ranges is.events) (page_events_nest (with_replacements page) asked is.events is.are_events));
 }

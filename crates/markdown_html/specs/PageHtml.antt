@@ -6,7 +6,6 @@ pub use Rattle.markdown_events.specs.Nesting.{without_ranges}
 use Rattle.markdown_events.specs.declared.settings.PageSetting.{PageSetting}
 use Rattle.markdown_events.specs.page.Given.{PageLeft, Gives}
 use Rattle.markdown_events.specs.page.PageEvents.{ArePageEvents}
-use Rattle.markdown_html.specs.declared.setting.RawHtml.{RawHtml}
 use Rattle.markdown_html.specs.Content.{content}
 use Rattle.markdown_html.specs.Html.{html_of}
 use Rattle.markdown_html.specs.ReadHtml.{Reads}
@@ -18,11 +17,11 @@ pub record IsHtmlOf (page : List ℕ) (asked : PageSetting) (setting : Setting) 
   pub are_events : ArePageEvents (with_replacements page) asked events
   pub is_html : html ≡ html_of setting (without_ranges events)
 
--- What is read of the HTML is the texts of the events of a page, and its raw HTML where that is kept.
-pub record HoldsPage (page : List ℕ) (asked : PageSetting) (raw : RawHtml) (html : List ℕ) : Type 0 where
+-- What is read of the HTML is what the events of a page hold: their elements and texts, and raw HTML where that is kept.
+pub record HoldsPage (page : List ℕ) (asked : PageSetting) (setting : Setting) (html : List ℕ) : Type 0 where
   pub events : List RangedEvent
   pub are_events : ArePageEvents (with_replacements page) asked events
-  pub is_read : Reads html (content raw (without_ranges events))
+  pub is_read : Reads html (content setting (without_ranges events))
 
 -- This is the HTML of the events that are left.
 pub record IsHtmlFrom (left : PageLeft) (setting : Setting) (html : List ℕ) : Type 0 where

@@ -72,6 +72,21 @@ abbrev pub is_attribute : (List ℕ → Bool) → List ℕ → List ℕ × List 
 is_attribute addresses element attribute =
     list_any (λ row. bytes_eq row.0 element && bytes_eq row.1 attribute.0 && row.2 attribute.1) (attribute_rows addresses)
 
+-- An attribute that an element must have: an `input` is a box that no one can tick. Without the first it is a field for a text, and
+-- without the second a box that can be ticked. (HTML standard, 4.10.5, the input element)
+abbrev pub required_rows : List (List ℕ × List ℕ)
+required_rows = (codes "input", codes "type") ∷ (codes "input", codes "disabled") ∷ []
+
+abbrev pub has_attribute : List (List ℕ × List ℕ) → List ℕ → Bool
+has_attribute attributes name = list_any (λ attribute. bytes_eq name attribute.0) attributes
+
+abbrev pub has_required : List ℕ → List (List ℕ × List ℕ) → Bool
+has_required element attributes = list_all (λ row. not (bytes_eq row.0 element) || has_attribute attributes row.1) required_rows
+
+-- The attributes are those that an element may have, and those that it must have are among them.
+abbrev pub are_attributes : (List ℕ → Bool) → List ℕ → List (List ℕ × List ℕ) → Bool
+are_attributes addresses element attributes = list_all (is_attribute addresses element) attributes && has_required element attributes
+
 -- attributes, each after a space and with its value in double quotes, before the rest
 abbrev pub attributes_before : List (List ℕ × List ℕ) → List ℕ → List ℕ
 attributes_before [] rest = rest
@@ -97,12 +112,12 @@ pub data IsSafeIn (schemes : List (List ℕ)) : List (List ℕ) → List ℕ →
   with_byte : (outer : List (List ℕ)) (b : ℕ) (rest : List ℕ) → IsTrue (is_text_byte b rest)
       → IsSafeIn schemes outer rest → IsSafeIn schemes outer (b ∷ rest)
   with_start : (outer : List (List ℕ)) (name : List ℕ) (attributes : List (List ℕ × List ℕ)) (rest : List ℕ)
-      → IsTrue (is_one_of elements name) → IsTrue (list_all (is_attribute (is_address schemes) name) attributes)
+      → IsTrue (is_one_of elements name) → IsTrue (are_attributes (is_address schemes) name attributes)
       → IsSafeIn schemes (name ∷ outer) rest → IsSafeIn schemes outer (codes "<" ++ (name ++ attributes_before attributes (codes ">" ++ rest)))
   with_end : (outer : List (List ℕ)) (name rest : List ℕ)
       → IsSafeIn schemes outer rest → IsSafeIn schemes (name ∷ outer) (codes "</" ++ (name ++ (codes ">" ++ rest)))
   with_void : (outer : List (List ℕ)) (name : List ℕ) (attributes : List (List ℕ × List ℕ)) (solidus : Bool) (rest : List ℕ)
-      → IsTrue (is_one_of void_elements name) → IsTrue (list_all (is_attribute (is_address schemes) name) attributes)
+      → IsTrue (is_one_of void_elements name) → IsTrue (are_attributes (is_address schemes) name attributes)
       → IsSafeIn schemes outer rest
       → IsSafeIn schemes outer (codes "<" ++ (name ++ attributes_before attributes ((if solidus then codes " />" else codes ">") ++ rest)))
 

@@ -33,7 +33,8 @@ pub fn html_of_events<'a, A: AllowedAddresses>(
         → IsSafeWith (seen_setting A.allows setting.now) (string_bytes html)) }
     ensures reads { IfOk result (λ html. AreNested (map (event_view cow_text) events.entry.items)
         → Reads (string_bytes html)
-        (content setting.now.raw (map (event_view cow_text) events.entry.items))) }
+        (content (seen_setting A.allows setting.now)
+        (map (event_view cow_text) events.entry.items))) }
 {
     html_of_list(alloc, setting, events)
 }

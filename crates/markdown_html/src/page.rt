@@ -28,7 +28,8 @@ pub fn html_of_page<A: AllowedAddresses>(
     ensures safe { IfOk result (λ html. IsSafeWith
         (seen_setting A.allows setting.now) (string_bytes html)) }
     ensures reads { IfOk result (λ html.
-        HoldsPage page.now commonmark setting.now.raw (string_bytes html)) }
+        HoldsPage page.now commonmark
+        (seen_setting A.allows setting.now) (string_bytes html)) }
 {
     let text = with_replacements(alloc, page)?;
     html_of_reader(alloc, EventReader::new(alloc, text.as_str())?, setting)
@@ -51,7 +52,8 @@ pub fn html_of_page_ext<A: AllowedAddresses>(
     ensures safe { IfOk result (λ html. IsSafeWith
         (seen_setting A.allows setting.now) (string_bytes html)) }
     ensures reads { IfOk result (λ html.
-        HoldsPage page.now (asked_by options) setting.now.raw (string_bytes html)) }
+        HoldsPage page.now (asked_by options)
+        (seen_setting A.allows setting.now) (string_bytes html)) }
     ensures built { IfOk result (λ _. not_built options ≡ 0) }
     ensures refused { IfErr result (Explains options) }
 {

@@ -1,7 +1,7 @@
 //! The setting by which HTML is safe: no raw HTML, and addresses by their schemes.
 ghost use Rattle.std.specs.Prelude.{◌≡◌, map};
 ghost use Rattle.markdown_html.specs.Addresses.{is_allowed_address};
-ghost use Rattle.markdown_html.specs.SafeSetting.{IsSafeSetting, safe_setting};
+ghost use Rattle.markdown_html.specs.SafeSetting.{IsSafeSetting, default_schemes, safe_setting};
 ghost use Rattle.markdown_html.specs.Settings.{seen_setting};
 
 use crate::addresses::is_allowed_address;
@@ -27,7 +27,8 @@ impl<'a> AllowedAddresses for AllowedSchemes<'a> {
     }
 }
 
-/// Schemes that pages for comments may allow: `default_schemes`.
+/// Schemes that pages for comments may allow: http, https, mailto and tel (clause `defaults` of
+/// `safe_setting`).
 pub const DEFAULT_SCHEMES: &[&str] = &["http", "https", "mailto", "tel"];
 
 /// The setting for text by people who are not trusted: raw HTML is written as text, links and images
@@ -38,6 +39,9 @@ pub fn safe_setting<'a>(schemes: &'a [&'a str]) -> HtmlSetting<AllowedSchemes<'a
         (seen_setting ⟦<AllowedSchemes<'a> as AllowedAddresses>⟧.allows result) }
     ensures setting { seen_setting ⟦<AllowedSchemes<'a> as AllowedAddresses>⟧.allows result
         ≡ safe_setting (map (λ scheme. scheme.now) schemes.now) }
+
+    // The schemes that are allowed where a caller names none.
+    ensures defaults { map (λ scheme. scheme.now) DEFAULT_SCHEMES.now ≡ default_schemes }
 {
     HtmlSetting {
         raw: RawHtml::Escaped,

@@ -35,9 +35,8 @@ use std::marker::Model;
 #[derive(Drop)]
 pub struct LineStart<'a> {
     bytes: &'a [u8],
-    // It wraps, since four columns a byte may be more than a `usize` holds: a tab asks for it modulo
-    // four alone.
-    column: usize,
+    // Four columns a byte may be more than a `usize` holds.
+    column: u128,
     place: usize,
     pending: usize,
     breaks: KnownBreaks,
@@ -51,6 +50,7 @@ impl<'a> Model for LineStart<'a> {
 
     ghost invariant = { λ s.
         (s.place ≤ length s.bytes.now)
+        × (s.column ≤ 4 * s.place + 3)
         × (s.pending < 4)
         × AreTrueBreaks s.bytes.now s.breaks s.place };
 }
@@ -99,7 +99,7 @@ impl<'a> LineStart<'a> {
         }
         Some(LineStart {
             bytes,
-            column: phase,
+            column: phase as u128,
             place,
             pending,
             breaks: KnownBreaks::new(),
@@ -127,7 +127,7 @@ impl<'a> LineStart<'a> {
         ensures phase { result ≡ self.now.phase }
         ensures within { result < 4 }
     {
-        self.column % 4
+        (self.column % 4) as usize
     }
 
     // The same place again.
@@ -167,7 +167,7 @@ impl<'a> LineStart<'a> {
         ensures { self.new ≡ bytes_further count self.old }
     {
         self.place += count;
-        self.column = self.column.wrapping_add(count);
+        self.column += count as u128;
     }
 
     // Passes the byte at the place as one column.
@@ -176,7 +176,7 @@ impl<'a> LineStart<'a> {
         ensures { self.new ≡ bytes_further 1 self.old }
     {
         self.place += 1;
-        self.column = self.column.wrapping_add(1);
+        self.column += 1;
     }
 
     /// Whether a line ending, or the end of the bytes, stands at the place. Pending columns are
@@ -211,14 +211,14 @@ impl<'a> LineStart<'a> {
         let rest = &self.bytes[self.place..];
         let spaces = scan_ch_repeat(&rest[..left.min(rest.len())], b' ');
         self.place += spaces;
-        self.column = self.column.wrapping_add(spaces);
+        self.column += spaces as u128;
         left -= spaces;
         while left > 0 && self.place < self.bytes.len() {
             match self.bytes[self.place] {
                 b'\t' => {
-                    let width = tab_width(self.column as u128);
+                    let width = tab_width(self.column);
                     self.place += 1;
-                    self.column = self.column.wrapping_add(width);
+                    self.column += width as u128;
                     if width > left {
                         self.pending = width - left;
                         return n;
@@ -227,7 +227,7 @@ impl<'a> LineStart<'a> {
                 }
                 b' ' => {
                     self.place += 1;
-                    self.column = self.column.wrapping_add(1);
+                    self.column += 1;
                     left -= 1;
                 }
                 _ => break,
@@ -264,13 +264,13 @@ impl<'a> LineStart<'a> {
         match self.bytes[self.place] {
             b' ' => {
                 self.place += 1;
-                self.column = self.column.wrapping_add(1);
+                self.column += 1;
                 true
             }
             b'\t' => {
-                let width = tab_width(self.column as u128);
+                let width = tab_width(self.column);
                 self.place += 1;
-                self.column = self.column.wrapping_add(width);
+                self.column += width as u128;
                 self.pending = width - 1;
                 true
             }

@@ -1,5 +1,5 @@
 -- The lines that are taken make a block.
-use Rattle.std.proofs.Common.{ℕ, List, [], ◌∷◌, ◌++◌, ◌≡◌, drop, inl, inr, refl, sym, ◌∙◌, subst}
+use Rattle.std.proofs.Common.{ℕ, List, [], ◌∷◌, ◌++◌, ◌≡◌, ◌⊎◌, drop, inl, inr, refl, sym, ap, ◌∙◌, subst}
 use Rattle.std.proofs.lemmas.List.{append_cancel_left}
 use Rattle.markdown_values.specs.declared.values.HeadingLevel.{HeadingLevel}
 use Rattle.markdown_scanners_tree.specs.declared.scanners.html_kinds.HtmlBlockKind.{HtmlBlockKind}
@@ -11,9 +11,9 @@ use Rattle.markdown_blocks.specs.declared.blocks.BlockKind.TheVariants.{Html, Se
 use Rattle.markdown_blocks.specs.declared.taken.Taken.{Taken}
 use Rattle.markdown_blocks.specs.taken.Lines.{IsTaken, IsNext}
 use Rattle.markdown_blocks.specs.blocks.Leaves.{Begins, IsBlank, Underlines, OutOr, LeavesBehind, ClosesFence}
-use Rattle.markdown_blocks.specs.blocks.Leaves.{OnFirst, EndsAsHtml, GoesOnIndented, IsHead, IsRow, BeginsNoTable}
+use Rattle.markdown_blocks.specs.blocks.Leaves.{OnFirst, EndsAsHtml, GoesOnIndented, IsHead, IsRow, BeginsNoTable, BeginsTable, EndParagraph, NoneBehind}
 use Rattle.markdown_blocks.specs.blocks.Pages.{IsBlockOf}
-use Rattle.markdown_blocks.proofs.blocks.ParagraphLemmas.{Reached}
+use Rattle.markdown_blocks.proofs.blocks.ParagraphLemmas.{Reached, ReachedLast}
 use Rattle.markdown_blocks.proofs.taken.TakenLemmas.{Until, Through, taken-next}
 
 module _ (text : List ℕ) (outer : Outer) (line : List ℕ) (rest : Rest) (first : Taken) (h : IsTaken text first (line ∷ [])) where
@@ -63,20 +63,20 @@ module _ (text : List ℕ) (outer : Outer) (line : List ℕ) (rest : Rest) (firs
       let g = goes (line ∷ []) h in record { later = g.0; taken = g.1; leaf = (begins, g.2) }
 
   -- the lines after the first
-  behind_first : (taken : Taken) (more : List (List ℕ)) → IsTaken text taken (line ∷ more)
+  after_first : (taken : Taken) (more : List (List ℕ)) → IsTaken text taken (line ∷ more)
       → lines_of (drop first.bytes text) ≡ more ++ lines_of (drop taken.bytes text)
-  behind_first taken more t = append_cancel_left (line ∷ []) (lines_of (drop first.bytes text)) (more ++ lines_of (drop taken.bytes text))
+  after_first taken more t = append_cancel_left (line ∷ []) (lines_of (drop first.bytes text)) (more ++ lines_of (drop taken.bytes text))
       (sym h.parts ∙ t.parts)
 
   -- a paragraph, and a paragraph whose next line is an underline, where it begins no table
   module _ (no_table : BeginsNoTable outer rest (lines_of (drop first.bytes text))) (begins : Begins Paragraph rest) where
     none_in : (taken : Taken) (more : List (List ℕ)) → IsTaken text taken (line ∷ more)
         → BeginsNoTable outer rest (more ++ lines_of (drop taken.bytes text))
-    none_in taken more t = subst (BeginsNoTable outer rest) (behind_first taken more t) no_table
+    none_in taken more t = subst (BeginsNoTable outer rest) (after_first taken more t) no_table
 
     pub paragraph_block : (taken : Taken) → Reached outer rest.text text first taken
         → ((later : List (List ℕ)) → IsTaken text taken (line ∷ later)
-        → OnFirst (LeavesBehind outer rest.text later) (lines_of (drop taken.bytes text))
+        → ((lines_of (drop taken.bytes text) ≡ []) ⊎ EndParagraph outer rest.text later (lines_of (drop taken.bytes text)))
         × OnFirst (λ l. (level : HeadingLevel) → ¬ Underlines outer.containers rest.text later level l) (lines_of (drop taken.bytes text)))
         → IsBlockOf text outer line rest (record { kind = Paragraph; taken = taken })
     paragraph_block taken reached stops =
@@ -87,6 +87,42 @@ module _ (text : List ℕ) (outer : Outer) (line : List ℕ) (rest : Rest) (firs
           taken = r.1;
           leaf = (begins, none_in taken r.0 r.1, record { none = r.2; stopped = s.0 }, s.1);
         }
+
+    -- a paragraph with which its next line doesn't go on
+    pub ended_block : (taken more : Taken) (next : List ℕ) → Reached outer rest.text text first taken → IsNext text taken next more
+        → ((later : List (List ℕ)) → IsTaken text taken (line ∷ later) → LeavesBehind outer rest.text later next
+        × ((level : HeadingLevel) → ¬ Underlines outer.containers rest.text later level next))
+        → IsBlockOf text outer line rest (record { kind = Paragraph; taken = taken })
+    ended_block taken more next reached n ends = paragraph_block taken reached (λ later all. (
+      inr (subst (EndParagraph outer rest.text later) (sym n.parts) (inl (ends later all).0)),
+      subst (OnFirst (λ l. (level : HeadingLevel) → ¬ Underlines outer.containers rest.text later level l)) (sym n.parts) (ends later all).1,
+    ))
+
+    -- a paragraph whose next line is the header row of a table
+    pub headed_block : (before taken more : Taken) (next : List ℕ) → ReachedLast outer rest.text text first before taken → IsNext text taken next more
+        → ((last : List ℕ) (lines : List (List ℕ)) → lines_of (drop before.bytes text) ≡ last ∷ next ∷ lines → BeginsTable outer (last ∷ next ∷ lines))
+        → IsBlockOf text outer line rest (record { kind = Paragraph; taken = before })
+    headed_block before taken more next reached n table = by (reached line h)
+      where
+        by : (later : List (List ℕ)) × (last : List ℕ) × IsTaken text before (line ∷ later) × IsNext text before last taken
+            × NoneBehind (EndParagraph outer rest.text) [] later (lines_of (drop before.bytes text)) × (¬ LeavesBehind outer rest.text later last)
+            → IsBlockOf text outer line rest (record { kind = Paragraph; taken = before })
+        by (later, last, all, m, none, goes) =
+            let two : lines_of (drop before.bytes text) ≡ last ∷ next ∷ lines_of (drop more.bytes text) = m.parts ∙ ap (λ ls. last ∷ ls) n.parts in
+            record {
+              later = later;
+              taken = all;
+              leaf = (
+                begins,
+                none_in before later all,
+                record {
+                  none = none;
+                  stopped = inr (subst (EndParagraph outer rest.text later) (sym two) (inr (table last (lines_of (drop more.bytes text)) two)));
+                },
+                subst (OnFirst (λ l. (level : HeadingLevel) → ¬ Underlines outer.containers rest.text later level l)) (sym two)
+                    (λ level under. goes (inr (under.0.0, inr (inl (inl (level, under.0.1), under.1))))),
+              );
+            }
 
     pub setext_block : (last : List ℕ) (level : HeadingLevel) (taken more : Taken) → Reached outer rest.text text first taken
         → IsNext text taken last more
@@ -105,7 +141,10 @@ module _ (text : List ℕ) (outer : Outer) (line : List ℕ) (rest : Rest) (firs
             last,
             refl,
             none_in more (r.0 ++ last ∷ []) all,
-            record { none = r.2; stopped = inr (u.0.0, inr (inl (inl (level, u.0.1), u.1))) },
+            record {
+              none = subst (NoneBehind (EndParagraph outer rest.text) [] r.0) next.parts r.2;
+              stopped = inr (inl (inr (u.0.0, inr (inl (inl (level, u.0.1), u.1)))));
+            },
             u,
           );
         }

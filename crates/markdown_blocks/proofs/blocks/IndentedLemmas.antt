@@ -4,8 +4,8 @@ use Rattle.std.specs.List.{AllByRecursion}
 use Rattle.std.proofs.lemmas.Bool.{cases_Bool}
 use Rattle.std.proofs.lemmas.Bool.Decides.{eqb_tells}
 use Rattle.std.proofs.Math.Dec.{eqb}
-use Rattle.markdown_scanners_tree.specs.Bytes.{is_blank}
 use Rattle.markdown_scanners_tree.specs.scanners.TextLines.{lines_of}
+use Rattle.markdown_blocks.specs.blank_lines.BlankLines.{is_blank}
 use Rattle.markdown_blocks.specs.containers.Containers.{Outer, behind, IsInside, rest_in}
 use Rattle.markdown_blocks.specs.declared.blocks.Ending.TheVariants.{Text}
 use Rattle.markdown_blocks.specs.declared.taken.Taken.{Taken}

@@ -12,12 +12,12 @@ use Rattle.markdown_scanners_tree.specs.declared.scanners.html_kinds.HtmlBlockKi
 use Rattle.markdown_scanners_tree.specs.scanners.Breaks.{is_break_marker, is_break_byte, IsThematicBreak, is_break_head}
 use Rattle.markdown_scanners_tree.specs.scanners.Fences.{is_fence_byte, IsCodeFence}
 use Rattle.markdown_scanners_tree.specs.scanners.Headings.{IsAtxHeading}
-use Rattle.markdown_scanners_tree.specs.scanners.html_kinds.HtmlKinds.{IsHtmlBlockStart, begins_with_text}
+use Rattle.markdown_scanners_tree.specs.scanners.html_kinds.HtmlKinds.{begins_with_text}
 use Rattle.markdown_scanners_tree.proofs.ForCallers.{is_thematic_break-found, none_unopened, one_atx_heading, one_code_fence, one_html_block_start}
 use Rattle.markdown_blocks.specs.containers.Containers.{Rest}
 use Rattle.markdown_blocks.specs.declared.blocks.BlockKind.{BlockKind}
 use Rattle.markdown_blocks.specs.declared.blocks.BlockKind.TheVariants.{Blank, Break, Heading, Setext, Indented, Fenced, Html, Table, Definition, Paragraph}
-use Rattle.markdown_blocks.specs.blocks.Leaves.{IsBlank, HasIndent, Begins, BeginsAt}
+use Rattle.markdown_blocks.specs.blocks.Leaves.{IsBlank, HasIndent, Begins, BeginsAt, IsHeading, IsHtmlStart}
 
 first_byte : List ℕ → ℕ
 first_byte [] = 0
@@ -63,10 +63,10 @@ unfolding first_byte
 opened [] h = cc
 opened (b ∷ bs) h = eqb-true b less_than_sign (and_parts _ _ h).0
 
-html_front : (bytes : List ℕ) (kind : HtmlBlockKind) → IsHtmlBlockStart bytes kind → first_byte bytes ≡ less_than_sign
+html_front : (bytes : List ℕ) (kind : HtmlBlockKind) → IsHtmlStart kind bytes → first_byte bytes ≡ less_than_sign
 html_front bytes kind is = elim (cases_Bool (begins_with_text (codes "<") bytes)) [
   | inl opens ↦ opened bytes opens
-  | inr other ↦ absurd (none_unopened bytes other kind is)
+  | inr other ↦ absurd (none_unopened bytes other kind is.0)
 ]
 
 -- what a block begins with, by its first byte, and by its kind
@@ -91,14 +91,14 @@ marked_fence b h = elim (cases_Bool (b == backtick)) [
 break_family : (bytes : List ℕ) → IsThematicBreak bytes → family (first_byte bytes) ≡ 1
 break_family bytes is = marked_break _ (break_front bytes is)
 
-heading_family : (bytes : List ℕ) (level : HeadingLevel) → IsAtxHeading bytes level → family (first_byte bytes) ≡ 2
+heading_family : (bytes : List ℕ) (level : HeadingLevel) → IsHeading level bytes → family (first_byte bytes) ≡ 2
 unfolding family
-heading_family bytes level is = rw (heading_front bytes level is) refl
+heading_family bytes level is = rw (heading_front bytes level is.0) refl
 
 fence_family : (bytes : List ℕ) (n byte : ℕ) → IsCodeFence bytes n byte → family (first_byte bytes) ≡ 3
 fence_family bytes n byte is = marked_fence _ (fence_front bytes n byte is)
 
-html_family : (bytes : List ℕ) (kind : HtmlBlockKind) → IsHtmlBlockStart bytes kind → family (first_byte bytes) ≡ 4
+html_family : (bytes : List ℕ) (kind : HtmlBlockKind) → IsHtmlStart kind bytes → family (first_byte bytes) ≡ 4
 unfolding family
 html_family bytes kind is = rw (html_front bytes kind is) refl
 
@@ -123,7 +123,7 @@ one_at Break (Fenced n byte) text h h' = differ (first_byte text) 1 3 (break_fam
 one_at Break (Html html) text h h' = differ (first_byte text) 1 4 (break_family text h) (html_family text html h') (λ e. cc)
 one_at Break Paragraph text h h' = absurd (h'.0 h)
 one_at (Heading level) Break text h h' = differ (first_byte text) 2 1 (heading_family text level h) (break_family text h') (λ e. cc)
-one_at (Heading level) (Heading level') text h h' = ap Heading (one_atx_heading text level level' h h')
+one_at (Heading level) (Heading level') text h h' = ap Heading (one_atx_heading text level level' h.0 h'.0)
 one_at (Heading level) (Fenced n byte) text h h' =
     differ (first_byte text) 2 3 (heading_family text level h) (fence_family text n byte h') (λ e. cc)
 one_at (Heading level) (Html html) text h h' =
@@ -139,7 +139,7 @@ one_at (Html html) Break text h h' = differ (first_byte text) 4 1 (html_family t
 one_at (Html html) (Heading level) text h h' =
     differ (first_byte text) 4 2 (html_family text html h) (heading_family text level h') (λ e. cc)
 one_at (Html html) (Fenced n byte) text h h' = differ (first_byte text) 4 3 (html_family text html h) (fence_family text n byte h') (λ e. cc)
-one_at (Html html) (Html html') text h h' = ap Html (one_html_block_start text html html' h h')
+one_at (Html html) (Html html') text h h' = ap Html (one_html_block_start text html html' h.0 h'.0)
 one_at (Html html) Paragraph text h h' = absurd (h'.3 html h)
 one_at Paragraph Break text h h' = absurd (h.0 h')
 one_at Paragraph (Heading level) text h h' = absurd (h.1 level h')

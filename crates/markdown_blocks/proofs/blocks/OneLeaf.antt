@@ -27,27 +27,31 @@ one_stop P (x ∷ a) (y ∷ b) rest rest' same s s' =
     (record { none = s'.none.1; stopped = s'.stopped }) in
     (rw (first, more.0) refl, more.1)
 
--- all lines up to the first that has a property after those before it
-one_at : (P : List (List ℕ) → List ℕ → Type 0) (before a b rest rest' : List (List ℕ)) → a ++ rest ≡ b ++ rest' → NoneBehind P before a
-    → OnFirst (P (before ++ a)) rest → NoneBehind P before b → OnFirst (P (before ++ b)) rest' → (a ≡ b) × (rest ≡ rest')
+-- all lines up to the first from which on lines have a property after those before it
+no_start : (P : List (List ℕ) → List (List ℕ) → Type 0) (before : List (List ℕ)) (line : List ℕ) (lines rest : List (List ℕ)) → rest ≡ line ∷ lines
+    → (rest ≡ []) ⊎ P (before ++ []) rest → ¬ (¬ P before (line ∷ lines))
+no_start P before line lines rest is (inl none) other = cc
+no_start P before line lines rest is (inr here) other = other (subst (P before) is (rw append-nil at here))
+
+one_at : (P : List (List ℕ) → List (List ℕ) → Type 0) (before a b rest rest' : List (List ℕ)) → a ++ rest ≡ b ++ rest'
+    → NoneBehind P before a rest → (rest ≡ []) ⊎ P (before ++ a) rest → NoneBehind P before b rest' → (rest' ≡ []) ⊎ P (before ++ b) rest'
+    → (a ≡ b) × (rest ≡ rest')
 one_at P before [] [] rest rest' same none stops none' stops' = (refl, same)
-one_at P before [] (y ∷ b) rest rest' same none stops none' stops' =
-    let here : OnFirst (P before) (y ∷ (b ++ rest')) = subst (OnFirst (P before)) same (rw append-nil at stops) in absurd (none'.0 here)
-one_at P before (x ∷ a) [] rest rest' same none stops none' stops' =
-    let here : OnFirst (P before) (x ∷ (a ++ rest)) = subst (OnFirst (P before)) (sym same) (rw append-nil at stops') in absurd (none.0 here)
+one_at P before [] (y ∷ b) rest rest' same none stops none' stops' = absurd (no_start P before y (b ++ rest') rest same stops none'.0)
+one_at P before (x ∷ a) [] rest rest' same none stops none' stops' = absurd (no_start P before x (a ++ rest) rest' (sym same) stops' none.0)
 one_at P before (x ∷ a) (y ∷ b) rest rest' same none stops none' stops' =
     let first : x ≡ y = cc in
     let tails : a ++ rest ≡ b ++ rest' = cc in
     let behind : (ls : List (List ℕ)) → before ++ x ∷ ls ≡ (before ++ x ∷ []) ++ ls = λ ls. sym (append_assoc before (x ∷ []) ls) in
     let front : before ++ y ∷ [] ≡ before ++ x ∷ [] = ap (λ l. before ++ l ∷ []) (sym first) in
-    let here : OnFirst (P ((before ++ x ∷ []) ++ b)) rest' =
-    subst (λ ls. OnFirst (P ls) rest') (ap (λ l. before ++ l ∷ b) (sym first) ∙ behind b) stops' in
-    let more = one_at P (before ++ x ∷ []) a b rest rest' tails none.1 (subst (λ ls. OnFirst (P ls) rest) (behind a) stops)
-    (subst (λ ls. NoneBehind P ls b) front none'.1) here in
+    let here : (rest' ≡ []) ⊎ P ((before ++ x ∷ []) ++ b) rest' =
+    subst (λ ls. (rest' ≡ []) ⊎ P ls rest') (ap (λ l. before ++ l ∷ b) (sym first) ∙ behind b) stops' in
+    let more = one_at P (before ++ x ∷ []) a b rest rest' tails none.1 (subst (λ ls. (rest ≡ []) ⊎ P ls rest) (behind a) stops)
+    (subst (λ ls. NoneBehind P ls b rest') front none'.1) here in
     (rw (first, more.0) refl, more.1)
 
-pub one_end : (P : List (List ℕ) → List ℕ → Type 0) (a b rest rest' : List (List ℕ)) → a ++ rest ≡ b ++ rest' → StopsAt P a rest → StopsAt P b rest'
-    → (a ≡ b) × (rest ≡ rest')
+pub one_end : (P : List (List ℕ) → List (List ℕ) → Type 0) (a b rest rest' : List (List ℕ)) → a ++ rest ≡ b ++ rest' → StopsAt P a rest
+    → StopsAt P b rest' → (a ≡ b) × (rest ≡ rest')
 one_end P a b rest rest' same s s' = one_at P [] a b rest rest' same s.none s.stopped s'.none s'.stopped
 
 -- and that line too, where it stands in the containers
@@ -55,22 +59,22 @@ module _ (outer : List Container) where
   with_last : (before lines rest : List (List ℕ)) (last : List ℕ) → lines ≡ before ++ last ∷ [] → lines ++ rest ≡ before ++ last ∷ rest
   with_last before lines rest last is = ap (λ ls. ls ++ rest) is ∙ append_assoc before (last ∷ []) rest
 
-  one_behind : (P : List ℕ → Type 0) (a b rest rest' : List (List ℕ)) → a ++ rest ≡ b ++ rest' → StopsBehind outer P a rest
+  one_through : (P : List ℕ → Type 0) (a b rest rest' : List (List ℕ)) → a ++ rest ≡ b ++ rest' → StopsBehind outer P a rest
       → StopsBehind outer P b rest' → a ≡ b
-  one_behind P a b rest rest' same (inl h) (inl h') =
+  one_through P a b rest rest' same (inl h) (inl h') =
       let one = one_stop P h.0 h'.0 (h.1 ∷ rest) (h'.1 ∷ rest')
       (sym (with_last h.0 a rest h.1 h.2) ∙ same ∙ with_last h'.0 b rest' h'.1 h'.2) h.3 h'.3 in
       let last : h.1 ≡ h'.1 = let rests = one.1 in cc in
       h.2 ∙ ap (λ ls. ls ++ h.1 ∷ []) one.0 ∙ ap (λ l. h'.0 ++ l ∷ []) last ∙ sym h'.2
-  one_behind P a b rest rest' same (inl h) (inr h') =
+  one_through P a b rest rest' same (inl h) (inr h') =
       let one = one_stop P h.0 b (h.1 ∷ rest) rest' (sym (with_last h.0 a rest h.1 h.2) ∙ same) h.3 h'.0 in
       let out : OnFirst (λ line. ¬ IsInside outer line) (h.1 ∷ rest) = subst (OnFirst _) (sym one.1) h'.1 in
       absurd (out h.4)
-  one_behind P a b rest rest' same (inr h) (inl h') =
+  one_through P a b rest rest' same (inr h) (inl h') =
       let one = one_stop P a h'.0 rest (h'.1 ∷ rest') (same ∙ with_last h'.0 b rest' h'.1 h'.2) h.0 h'.3 in
       let out : OnFirst (λ line. ¬ IsInside outer line) (h'.1 ∷ rest') = subst (OnFirst _) one.1 h.1 in
       absurd (out h'.4)
-  one_behind P a b rest rest' same (inr h) (inr h') = (one_stop P a b rest rest' same h.0 h'.0).0
+  one_through P a b rest rest' same (inr h) (inr h') = (one_stop P a b rest rest' same h.0 h'.0).0
 
   -- indented code
   no_more : (line : List ℕ) (lines rest : List (List ℕ)) → NoMoreIndented outer (line ∷ (lines ++ rest))
@@ -110,7 +114,7 @@ module _ (outer : List Container) where
       by (inl e) (inl e') = e.1 ∙ sym e'.1
       by (inl e) (inr e') = absurd (e'.0 e.0)
       by (inr e) (inl e') = absurd (e.0 e'.0)
-      by (inr e) (inr e') = one_behind _ a b rest rest' same e.1 e'.1
+      by (inr e) (inr e') = one_through _ a b rest rest' same e.1 e'.1
 
 -- blocks that begin as a paragraph does
 unfoldable pub is_text : BlockKind → Bool
@@ -173,7 +177,7 @@ module _ (outer : Outer) (first : Rest) where
     one_other (Heading level) h leaf leaf' = leaf.1 ∙ sym leaf'.1
     one_other (Setext level) h leaf leaf' = cc
     one_other Indented h leaf leaf' = one_indented outer.containers a b rest rest' same leaf.1 leaf'.1
-    one_other (Fenced n byte) h leaf leaf' = one_behind outer.containers _ a b rest rest' same leaf.1 leaf'.1
+    one_other (Fenced n byte) h leaf leaf' = one_through outer.containers _ a b rest rest' same leaf.1 leaf'.1
     one_other (Html html) h leaf leaf' = one_html outer.containers html first a b rest rest' same leaf.1 leaf'.1
     one_other (Table columns) h leaf leaf' = cc
     one_other Definition h leaf leaf' = leaf.1 ∙ sym leaf'.1

@@ -12,7 +12,7 @@ use Rattle.markdown_blocks.specs.declared.blocks.BlockKind.TheVariants.{Blank, B
 use Rattle.markdown_blocks.specs.declared.blocks.BlockKind.TheVariants.{Fenced, Html, Table, Definition, Paragraph}
 use Rattle.markdown_blocks.specs.declared.containers.BlockExtensions.{BlockExtensions}
 use Rattle.markdown_blocks.specs.declared.containers.Container.{Container}
-use Rattle.markdown_blocks.specs.blocks.Leaves.{In, IsUnderline, IsHead, IsRow, BeginsNoTable, OnFirst, StopsAt, LeavesBehind, Underlines, IsLeaf}
+use Rattle.markdown_blocks.specs.blocks.Leaves.{In, IsUnderline, IsHead, IsRow, BeginsNoTable, OnFirst, StopsAt, EndParagraph, Underlines, IsLeaf}
 use Rattle.markdown_blocks.specs.blocks.Pages.{Piece, lines_in, containers_of, outer_of, open_behind, AreOpened, IsTerm, IsPiece, AreBlocks}
 use Rattle.markdown_blocks.specs.definitions.Content.{content_in}
 use Rattle.markdown_blocks.proofs.blocks.OneFirst.{one_first}
@@ -39,10 +39,10 @@ module _ (outer : Outer) (first : Rest) where
 
   -- a paragraph is no setext heading
   underlined : (level : HeadingLevel) (lines middle rest rest' : List (List ℕ)) (last : List ℕ) → lines ++ rest ≡ middle ++ last ∷ rest'
-      → StopsAt (LeavesBehind outer first.text) lines rest → OnFirst (λ l. (n : HeadingLevel) → ¬ Underlines outer.containers first.text lines n l) rest
-      → StopsAt (LeavesBehind outer first.text) middle (last ∷ rest') → Underlines outer.containers first.text middle level last → ⊥
+      → StopsAt (EndParagraph outer first.text) lines rest → OnFirst (λ l. (n : HeadingLevel) → ¬ Underlines outer.containers first.text lines n l) rest
+      → StopsAt (EndParagraph outer first.text) middle (last ∷ rest') → Underlines outer.containers first.text middle level last → ⊥
   underlined level lines middle rest rest' last same stops plain stops' under =
-      let one = one_end (LeavesBehind outer first.text) lines middle rest (last ∷ rest') same stops stops' in
+      let one = one_end (EndParagraph outer first.text) lines middle rest (last ∷ rest') same stops stops' in
       let none : OnFirst (λ l. (n : HeadingLevel) → ¬ Underlines outer.containers first.text lines n l) (last ∷ rest') = subst (OnFirst _) one.1 plain in
       none level (subst (λ ls. Underlines outer.containers first.text ls level last) (sym one.0) under)
 
@@ -75,7 +75,7 @@ module _ (outer : Outer) (first : Rest) where
     one_text (Setext level) Paragraph t t' leaf leaf' =
         absurd (underlined level b leaf.1 rest' rest leaf.2 (sym same ∙ joined leaf.1 a rest leaf.2 leaf.3) leaf'.2 leaf'.3 leaf.5 leaf.6)
     one_text (Setext level) (Setext level') t t' leaf leaf' =
-        let one = one_end (LeavesBehind outer first.text) leaf.1 leaf'.1 (leaf.2 ∷ rest) (leaf'.2 ∷ rest')
+        let one = one_end (EndParagraph outer first.text) leaf.1 leaf'.1 (leaf.2 ∷ rest) (leaf'.2 ∷ rest')
         (sym (joined leaf.1 a rest leaf.2 leaf.3) ∙ same ∙ joined leaf'.1 b rest' leaf'.2 leaf'.3) leaf.5 leaf'.5 in
         let last : leaf.2 ≡ leaf'.2 = let rests = one.1 in cc in
         let level_is : level ≡ level' = same_level level level' leaf'.2 (subst (In outer.containers (IsUnderline level)) last leaf.6.0) leaf'.6.0 in

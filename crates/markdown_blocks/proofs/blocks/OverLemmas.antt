@@ -1,6 +1,6 @@
 -- A block whose end is seen is a block whatever lines follow.
 use Rattle.std.proofs.Common.{ℕ, List, [], ◌∷◌, ◌++◌, ◌≡◌, ◌≢◌, ◌⊎◌, Bool, true}
-use Rattle.std.proofs.Common.{false, IsTrue, inl, inr, refl, sym, ◌∙◌, append_assoc, append-nil, drop, Bor}
+use Rattle.std.proofs.Common.{false, IsTrue, inl, inr, refl, sym, ◌∙◌, append_assoc, append-nil, drop, subst, Bor}
 use Rattle.std.specs.Prelude.{MatchBool, Option, Some, None, IfSome, IfNone, is_some}
 use Rattle.std.specs.List.{AllByRecursion}
 use Rattle.std.proofs.lemmas.List.{append_cancel_left}
@@ -16,7 +16,7 @@ use Rattle.markdown_blocks.specs.declared.taken.Taken.{Taken}
 use Rattle.markdown_blocks.specs.taken.Lines.{IsTaken, IsNext}
 use Rattle.markdown_blocks.specs.blocks.Endings.{IsEnd}
 use Rattle.markdown_blocks.specs.blocks.Leaves.{BeginsNoTable, IsBlankIn, OnFirst, StopsBefore, StopsBehind, NoMoreIndented, EndsAsHtml, OutOr, IsLeaf}
-use Rattle.markdown_blocks.specs.blocks.Leaves.{EndsHtml}
+use Rattle.markdown_blocks.specs.blocks.Leaves.{BeginsTable, EndParagraph, EndsHtml, NoneBehind, StopsAt}
 use Rattle.markdown_blocks.specs.blocks.Over.{ShowEnd, IsOver}
 use Rattle.markdown_blocks.proofs.blocks.IndentedLemmas.{blank_given}
 
@@ -28,10 +28,10 @@ module _ (outer : Outer) (more : List (List ℕ)) where
   before-over : (P : List ℕ → Type 0) (lines rest : List (List ℕ)) → rest ≢ [] → StopsBefore P lines rest → StopsBefore P lines (rest ++ more)
   before-over P lines rest some s = record { none = s.none; stopped = first-over P rest some s.stopped }
 
-  behind-over : (P : List ℕ → Type 0) (lines rest : List (List ℕ)) → rest ≢ [] → StopsBehind outer.containers P lines rest
+  through-over : (P : List ℕ → Type 0) (lines rest : List (List ℕ)) → rest ≢ [] → StopsBehind outer.containers P lines rest
       → StopsBehind outer.containers P lines (rest ++ more)
-  behind-over P lines rest some (inl h) = inl (h.0, h.1, h.2, record { none = h.3.none; stopped = h.3.stopped }, h.4)
-  behind-over P lines rest some (inr h) = inr (before-over P lines rest some h.0, first-over (λ line. ¬ IsInside outer.containers line) rest some h.1)
+  through-over P lines rest some (inl h) = inl (h.0, h.1, h.2, record { none = h.3.none; stopped = h.3.stopped }, h.4)
+  through-over P lines rest some (inr h) = inr (before-over P lines rest some h.0, first-over (λ line. ¬ IsInside outer.containers line) rest some h.1)
 
   indented-over : (rest : List (List ℕ)) → ¬ AllByRecursion (IsBlankIn outer.containers) rest → NoMoreIndented outer.containers rest
       → NoMoreIndented outer.containers (rest ++ more)
@@ -52,12 +52,44 @@ module _ (outer : Outer) (more : List (List ℕ)) where
           → (EndsHtml kind first × (later ≡ [])) ⊎ ((¬ EndsHtml kind first)
           × StopsBehind outer.containers (OutOr outer.containers (EndsHtml kind)) later (rest ++ more))
       by (inl h) = inl h
-      by (inr h) = inr (h.0, behind-over (OutOr outer.containers (EndsHtml kind)) later rest some h.1)
+      by (inr h) = inr (h.0, through-over (OutOr outer.containers (EndsHtml kind)) later rest some h.1)
 
   table-over : (first : Rest) (later rest : List (List ℕ)) → rest ≢ [] → BeginsNoTable outer first (later ++ rest)
       → BeginsNoTable outer first (later ++ (rest ++ more))
   table-over first [] rest some h = first-over _ rest some h
   table-over first (line ∷ later) rest some h = h
+
+  -- a paragraph, also before a table
+  some-after : (lines rest : List (List ℕ)) → rest ≢ [] → lines ++ rest ≢ []
+  some-after [] rest some none = some none
+  some-after (line ∷ lines) rest some none = cc
+
+  begins-over : (line : List ℕ) (rest : List (List ℕ)) → rest ≢ [] → BeginsTable outer (line ∷ (rest ++ more)) → BeginsTable outer (line ∷ rest)
+  begins-over line [] some table = absurd (some refl)
+  begins-over line (next ∷ rest) some table = table
+
+  none-over : (text : List ℕ) (before lines rest : List (List ℕ)) → rest ≢ [] → NoneBehind (EndParagraph outer text) before lines rest
+      → NoneBehind (EndParagraph outer text) before lines (rest ++ more)
+  none-over text before [] rest some none = tt
+  none-over text before (line ∷ lines) rest some none = (by, none-over text (before ++ line ∷ []) lines rest some none.1)
+    where
+      by : ¬ EndParagraph outer text before (line ∷ (lines ++ (rest ++ more)))
+      by (inl leaves) = none.0 (inl leaves)
+      by (inr table) = none.0 (inr (begins-over line (lines ++ rest) (some-after lines rest some)
+          (subst (λ ls. BeginsTable outer (line ∷ ls)) (sym (append_assoc lines rest more)) table)))
+
+  stopped-over : (text : List ℕ) (lines rest : List (List ℕ)) → rest ≢ [] → (rest ≡ []) ⊎ EndParagraph outer text lines rest
+      → ((rest ++ more) ≡ []) ⊎ EndParagraph outer text lines (rest ++ more)
+  stopped-over text lines [] some stops = absurd (some refl)
+  stopped-over text lines (line ∷ rest) some (inl none) = cc
+  stopped-over text lines (line ∷ rest) some (inr (inl leaves)) = inr (inl leaves)
+  stopped-over text lines (line ∷ []) some (inr (inr table)) = absurd table
+  stopped-over text lines (line ∷ next ∷ rest) some (inr (inr table)) = inr (inr table)
+
+  at-over : (text : List ℕ) (lines rest : List (List ℕ)) → rest ≢ [] → StopsAt (EndParagraph outer text) lines rest
+      → StopsAt (EndParagraph outer text) lines (rest ++ more)
+  at-over text lines rest some stops =
+      record { none = none-over text [] lines rest some stops.none; stopped = stopped-over text lines rest some stops.stopped }
 
   -- the block ends there
   pub leaf-over : (kind : BlockKind) (first : Rest) (later rest : List (List ℕ)) → ShowEnd outer.containers kind rest → IsLeaf outer kind first later rest
@@ -65,18 +97,18 @@ module _ (outer : Outer) (more : List (List ℕ)) where
   leaf-over Blank first later rest some leaf = (leaf.0, before-over _ later rest some leaf.1)
   leaf-over Indented first later rest some leaf =
       (leaf.0, record { inside = leaf.1.inside; last = leaf.1.last; stopped = indented-over rest some leaf.1.stopped })
-  leaf-over (Fenced count byte) first later rest some leaf = (leaf.0, behind-over _ later rest some leaf.1)
+  leaf-over (Fenced count byte) first later rest some leaf = (leaf.0, through-over _ later rest some leaf.1)
   leaf-over (Html kind) first later rest some leaf = (leaf.0, html-over kind first later rest some leaf.1)
   leaf-over (Table columns) first later rest some leaf =
       (leaf.0, leaf.1, leaf.2, leaf.3, leaf.4, before-over _ leaf.2 rest some leaf.5)
   leaf-over Paragraph first later rest some leaf = (
     leaf.0,
     table-over first later rest some leaf.1,
-    record { none = leaf.2.none; stopped = first-over _ rest some leaf.2.stopped },
+    at-over first.text later rest some leaf.2,
     first-over _ rest some leaf.3,
   )
   leaf-over (Setext level) first later rest some leaf =
-      (leaf.0, leaf.1, leaf.2, leaf.3, table-over first later rest some leaf.4, record { none = leaf.5.none; stopped = leaf.5.stopped }, leaf.6)
+      (leaf.0, leaf.1, leaf.2, leaf.3, table-over first later rest some leaf.4, at-over first.text leaf.1 (leaf.2 ∷ rest) (λ none. cc) leaf.5, leaf.6)
   leaf-over Break first later rest some leaf = leaf
   leaf-over (Heading level) first later rest some leaf = leaf
   leaf-over Definition first later rest some leaf = leaf

@@ -1,13 +1,15 @@
 -- The lines of a paragraph, up to the first that ends it after those before it.
-use Rattle.std.proofs.Common.{ℕ, true, false, ◌⊎◌, List, [], ◌∷◌, ◌++◌, ◌≡◌, inl, inr, refl, sym, ap}
-use Rattle.std.proofs.Common.{◌∙◌, subst, append_assoc, append-nil, IsTrue, Option, Some, None, ◌==◌, ◌≤◌, length, arith, suc, take, not, ◌+◌}
+use Rattle.std.proofs.Common.{ℕ, Bool, true, false, ◌⊎◌, List, [], ◌∷◌, ◌++◌, ◌≡◌, inl, inr, refl, sym, ap}
+use Rattle.std.proofs.Common.{◌∙◌, subst, append_assoc, append-nil, IsTrue, Option, Some, None, ◌==◌, ◌≤◌, length, arith, suc, take, drop, not, ◌+◌}
 use Rattle.std.specs.List.{list_all, prefix_len}
 use Rattle.std.proofs.lemmas.Bool.{and_parts, eqb-true}
 use Rattle.markdown_values.specs.declared.values.HeadingLevel.{HeadingLevel}
 use Rattle.markdown_values.specs.declared.values.HeadingLevel.TheVariants.{H1, H2, H3, H4, H5, H6}
 use Rattle.markdown_scanners_tree.specs.Ascii.{colon, equals_sign, hyphen}
-use Rattle.markdown_scanners_tree.specs.Bytes.{begins_with, is_blank, is_line_ending, is_white_space_in_line}
+use Rattle.markdown_scanners_tree.specs.Bytes.{begins_with, is_line_ending, is_space_or_tab}
 use Rattle.markdown_scanners_tree.specs.scanners.Headings.{underline_byte}
+use Rattle.markdown_scanners_tree.specs.scanners.TextLines.{lines_of}
+use Rattle.markdown_blocks.specs.blank_lines.BlankLines.{is_blank}
 use Rattle.markdown_blocks.specs.declared.blocks.TextEnd.{TextEnd}
 use Rattle.markdown_blocks.specs.declared.containers.BlockExtensions.{BlockExtensions}
 use Rattle.markdown_blocks.specs.declared.taken.Taken.{Taken}
@@ -16,19 +18,23 @@ use Rattle.markdown_blocks.specs.definitions.Definitions.{HasText}
 use Rattle.markdown_blocks.specs.containers.Containers.{Outer, Rest, rest_in}
 use Rattle.markdown_blocks.specs.taken.Lines.{IsTaken, IsNext}
 use Rattle.markdown_blocks.specs.blocks.Endings.{EndsText, IsUnderOrDefines}
-use Rattle.markdown_blocks.specs.blocks.Leaves.{IsBlank, HasIndent, DefinesTerm, In, IsUnderline, LeavesParagraph, LeavesBehind, Underlines, NoneBehind}
+use Rattle.markdown_blocks.specs.blocks.Leaves.{IsBlank, HasIndent, DefinesTerm, In, IsUnderline, LeavesParagraph, LeavesBehind, Underlines}
+use Rattle.markdown_blocks.specs.blocks.Leaves.{BeginsTable, EndParagraph, NoneBehind}
 use Rattle.markdown_blocks.proofs.taken.TakenLemmas.{taken-next}
 
-none-append : (P : List (List ℕ) → List ℕ → Type 0) (before xs ys : List (List ℕ)) → NoneBehind P before xs → NoneBehind P (before ++ xs) ys
-    → NoneBehind P before (xs ++ ys)
-none-append P before [] ys none more = rw append-nil at more
-none-append P before (x ∷ xs) ys none more = (none.0, none-append P (before ++ x ∷ []) xs ys none.1 (rw append_assoc more))
+none-append : (P : List (List ℕ) → List (List ℕ) → Type 0) (before xs ys rest : List (List ℕ)) → NoneBehind P before xs (ys ++ rest)
+    → NoneBehind P (before ++ xs) ys rest → NoneBehind P before (xs ++ ys) rest
+none-append P before [] ys rest none more = rw append-nil at more
+none-append P before (x ∷ xs) ys rest none more = (
+  subst (λ ls. ¬ P before (x ∷ ls)) (sym (append_assoc xs ys rest)) none.0,
+  none-append P (before ++ x ∷ []) xs ys rest none.1 (rw append_assoc more),
+)
 
 -- an underline is not blank
-head_marked : (n m b : ℕ) (bs : List ℕ) → m ≡ suc n → is_white_space_in_line b ≡ false → list_all is_white_space_in_line (take m (b ∷ bs)) ≡ false
+head_marked : (n m b : ℕ) (bs : List ℕ) → m ≡ suc n → is_space_or_tab b ≡ false → list_all is_space_or_tab (take m (b ∷ bs)) ≡ false
 head_marked n m b bs some text =
-    let here : list_all is_white_space_in_line (b ∷ take n bs) ≡ false = rw text refl in
-    subst (λ k. list_all is_white_space_in_line (take k (b ∷ bs)) ≡ false) (sym some) here
+    let here : list_all is_space_or_tab (b ∷ take n bs) ≡ false = rw text refl in
+    subst (λ k. list_all is_space_or_tab (take k (b ∷ bs)) ≡ false) (sym some) here
 
 marked : (b : ℕ) (bs : List ℕ) → (b ≡ equals_sign) ⊎ (b ≡ hyphen) → is_blank (b ∷ bs) ≡ false
 marked b bs (inl is) =
@@ -135,25 +141,69 @@ module _ (outer : Outer) (words : List ℕ) (before : List (List ℕ)) (line : L
         )
 
 module _ (outer : Outer) (words : List ℕ) where
-  -- the lines after the first that go on with the paragraph
   module _ (text : List ℕ) (first : Taken) where
+    -- the lines after the first, with none of which on the paragraph ends
     abbrev pub Reached : Taken → Type 0
     Reached taken =
         (line : List ℕ) → IsTaken text first (line ∷ [])
-        → (later : List (List ℕ)) × IsTaken text taken (line ∷ later) × NoneBehind (LeavesBehind outer words) [] later
+        → (later : List (List ℕ)) × IsTaken text taken (line ∷ later)
+        × NoneBehind (EndParagraph outer words) [] later (lines_of (drop taken.bytes text))
+
+    -- and one line more, which goes on with the paragraph, if no table begins with it
+    abbrev pub ReachedLast : Taken → Taken → Type 0
+    ReachedLast before taken =
+        (line : List ℕ) → IsTaken text first (line ∷ [])
+        → (later : List (List ℕ)) × (last : List ℕ) × IsTaken text before (line ∷ later) × IsNext text before last taken
+        × NoneBehind (EndParagraph outer words) [] later (lines_of (drop before.bytes text)) × (¬ LeavesBehind outer words later last)
 
     pub reached-first : Reached first
     reached-first line h = ([], h, tt)
 
-    pub reached-second : (second : Taken) (l : List ℕ) → IsNext text first l second → ¬ LeavesBehind outer words [] l → Reached second
-    reached-second second l n goes line h = (l ∷ [], taken-next text first second (line ∷ []) l h n, (goes, tt))
+    pub reached-second : (second : Taken) (l : List ℕ) → IsNext text first l second → ¬ LeavesBehind outer words [] l → ReachedLast first second
+    reached-second second l n goes line h = ([], l, h, n, tt, goes)
 
     pub reached-more : (taken more : Taken) (l : List ℕ) → Reached taken → IsNext text taken l more
         → ((line : List ℕ) (later : List (List ℕ)) → IsTaken text first (line ∷ []) → IsTaken text taken (line ∷ later) → ¬ LeavesBehind outer words later l)
-        → Reached more
+        → ReachedLast taken more
     reached-more taken more l reached n goes line h =
-        let r = reached line h in (
-          r.0 ++ l ∷ [],
-          taken-next text taken more (line ∷ r.0) l r.1 n,
-          none-append (LeavesBehind outer words) [] r.0 (l ∷ []) r.2 (goes line r.0 h r.1, tt),
+        let r = reached line h in (r.0, l, r.1, n, r.2, goes line r.0 h r.1)
+
+    -- no table begins with that line
+    pub reached-last : (before taken : Taken) → ReachedLast before taken
+        → ((last : List ℕ) → lines_of (drop before.bytes text) ≡ last ∷ lines_of (drop taken.bytes text)
+        → ¬ BeginsTable outer (last ∷ lines_of (drop taken.bytes text)))
+        → Reached taken
+    reached-last before taken reached no_table line h = by (reached line h)
+      where
+        by : (later : List (List ℕ)) × (last : List ℕ) × IsTaken text before (line ∷ later) × IsNext text before last taken
+            × NoneBehind (EndParagraph outer words) [] later (lines_of (drop before.bytes text)) × (¬ LeavesBehind outer words later last)
+            → (later : List (List ℕ)) × IsTaken text taken (line ∷ later)
+            × NoneBehind (EndParagraph outer words) [] later (lines_of (drop taken.bytes text))
+        by (later, last, all, next, none, goes) = (
+          later ++ last ∷ [],
+          taken-next text before taken (line ∷ later) last all next,
+          none-append (EndParagraph outer words) [] later (last ∷ []) (lines_of (drop taken.bytes text))
+              (subst (NoneBehind (EndParagraph outer words) [] later) next.parts none) (stays, tt),
         )
+          where
+            stays : ¬ EndParagraph outer words later (last ∷ lines_of (drop taken.bytes text))
+            stays (inl leaves) = goes leaves
+            stays (inr table) = no_table last next.parts table
+
+    pub reached-tested : (before taken more : Taken) (l : List ℕ) (begins : Bool) → ReachedLast before taken → IsNext text taken l more → begins ≡ false
+        → ((last : List ℕ) (lines : List (List ℕ)) → lines_of (drop before.bytes text) ≡ last ∷ l ∷ lines
+        → (IsTrue begins → BeginsTable outer (last ∷ l ∷ lines)) × (BeginsTable outer (last ∷ l ∷ lines) → IsTrue begins))
+        → Reached taken
+    reached-tested before taken more l begins reached n not_so tells = reached-last before taken reached none
+      where
+        none : (last : List ℕ) → lines_of (drop before.bytes text) ≡ last ∷ lines_of (drop taken.bytes text)
+            → ¬ BeginsTable outer (last ∷ lines_of (drop taken.bytes text))
+        none last parts table =
+            let two : lines_of (drop before.bytes text) ≡ last ∷ l ∷ lines_of (drop more.bytes text) = parts ∙ ap (λ ls. last ∷ ls) n.parts in
+            let passes : begins ≡ true =
+            (tells last (lines_of (drop more.bytes text)) two).1 (subst (λ ls. BeginsTable outer (last ∷ ls)) n.parts table) in
+            let both : true ≡ false = sym passes ∙ not_so in cc
+
+    pub reached-end : (before taken : Taken) → ReachedLast before taken → lines_of (drop taken.bytes text) ≡ [] → Reached taken
+    reached-end before taken reached end =
+        reached-last before taken reached (λ last parts table. subst (λ ls. BeginsTable outer (last ∷ ls)) end table)

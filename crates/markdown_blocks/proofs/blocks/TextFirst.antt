@@ -5,13 +5,14 @@ use Rattle.std.specs.List.{list_all}
 use Rattle.std.proofs.lemmas.Bool.{cases_Bool, eqb-true, eqb-false}
 use Rattle.std.proofs.lemmas.Bool.Decides.{nat_tests}
 use Rattle.markdown_scanners_tree.specs.Ascii.{greater_than_sign}
-use Rattle.markdown_scanners_tree.specs.Bytes.{begins_with, is_blank, is_line_ending, is_space_or_tab, is_white_space_in_line, line_head}
+use Rattle.markdown_scanners_tree.specs.Bytes.{begins_with, is_line_ending, is_space_or_tab, line_head}
 use Rattle.markdown_scanners_tree.specs.line.ItemRules.{start_of}
 use Rattle.markdown_scanners_tree.specs.line.State.{LineState, unscanned, rest_of, leading_spaces, space_within, after_space, columns_further}
 use Rattle.markdown_scanners_tree.specs.scanners.TextLines.{lines_of, with_first}
 use Rattle.markdown_scanners_tree.proofs.line.SpaceLemmas.{none_at_front}
 use Rattle.markdown_scanners_tree.proofs.line.StepLemmas.{no_space_taken, rest-none}
 use Rattle.markdown_scanners_tree.proofs.line.WrittenLemmas.{head-cons}
+use Rattle.markdown_blocks.specs.blank_lines.BlankLines.{is_blank}
 use Rattle.markdown_blocks.specs.blocks.Endings.{IsEnd, is_text_byte}
 use Rattle.markdown_blocks.specs.blocks.Leaves.{OnFirst}
 use Rattle.markdown_blocks.specs.containers.Containers.{Behind, Outer, behind, behind_quote, go_on, rest_in, within, within_quote, within_width}
@@ -78,7 +79,7 @@ module _ (outer : Outer) (b : ℕ) (text : is_text_byte b ≡ true) where
   no_ending : is_line_ending b ≡ false
   no_ending = grind (arith, nat_tests, text)
 
-  no_white : is_white_space_in_line b ≡ false
+  no_white : is_space_or_tab b ≡ false
   no_white = grind (arith, nat_tests, text)
 
   no_marker : (b == greater_than_sign) ≡ false
@@ -86,8 +87,8 @@ module _ (outer : Outer) (b : ℕ) (text : is_text_byte b ≡ true) where
 
   not_blank : (bs : List ℕ) → is_blank (b ∷ bs) ≡ false
   not_blank bs =
-      ap (list_all is_white_space_in_line) (head-cons b bs no_ending)
-      ∙ ap (λ white. white && list_all is_white_space_in_line (line_head bs)) no_white
+      ap (list_all is_space_or_tab) (head-cons b bs no_ending)
+      ∙ ap (λ white. white && list_all is_space_or_tab (line_head bs)) no_white
 
   ends_there : (line : List ℕ) → IsEnd outer Text (b ∷ line)
   ends_there line =

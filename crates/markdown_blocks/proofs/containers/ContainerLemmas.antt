@@ -5,13 +5,15 @@ use Rattle.std.proofs.Common.{true, false, not, ◌&&◌, ◌==◌, ◌≡◌, �
 use Rattle.std.specs.List.{list_all}
 use Rattle.std.proofs.lemmas.Bool.{eqb-true}
 use Rattle.markdown_scanners_tree.specs.Ascii.{colon, greater_than_sign}
-use Rattle.markdown_scanners_tree.specs.Bytes.{begins_with, is_blank}
-use Rattle.markdown_scanners_tree.specs.line.Outcome.{Outcome, after_quote, definition_outcome, item_outcome, not_found}
+use Rattle.markdown_scanners_tree.specs.Bytes.{begins_with}
+use Rattle.markdown_scanners_tree.specs.line.Outcome.{Outcome, after_quote, definition_outcome, not_found}
 use Rattle.markdown_scanners_tree.specs.line.State.{LineState, unscanned, space_within, after_space}
+use Rattle.markdown_blocks.specs.blank_lines.BlankLines.{is_blank}
+use Rattle.markdown_blocks.specs.containers.ItemMarkers.{item_outcome}
 use Rattle.markdown_blocks.specs.declared.containers.Container.TheVariants.{Quote, Item, Footnote, TermDefinition}
 use Rattle.markdown_blocks.specs.declared.containers.BlockExtensions.{BlockExtensions}
 use Rattle.markdown_blocks.specs.declared.containers.Container.{Container}
-use Rattle.markdown_blocks.proofs.taken.TakenLemmas.{slice_behind}
+use Rattle.markdown_blocks.proofs.taken.TakenLemmas.{slice_after}
 use Rattle.markdown_blocks.specs.containers.Containers.{goes_on_blank, go_on, Behind, behind_quote, all_extensions, begun_at}
 use Rattle.markdown_blocks.specs.containers.Containers.{begun_behind, either_begun, extension_of, footnote_by, item_of}
 use Rattle.markdown_blocks.specs.containers.Containers.{term_definition_by, within_quote, within_width}
@@ -113,7 +115,7 @@ no_quote s after other is = rw other at is
 
 -- what is left of the line from a position on
 pub rest_at_place : (line : List ℕ) (s : LineState) (p : ℕ) → s.bytes ≡ line → p ≡ s.place → unscanned s ≡ take (length line - p) (drop p line)
-rest_at_place line s p same place = sym (slice_behind line p ∙ rw (same, place) refl)
+rest_at_place line s p same place = sym (slice_after line p ∙ rw (same, place) refl)
 
 -- that is blank
 pub blank_at : (line : List ℕ) (s : LineState) (p : ℕ) (blank : Bool) → s.bytes ≡ line → p ≡ s.place → blank ≡ is_blank (take (length line - p) (drop p line))

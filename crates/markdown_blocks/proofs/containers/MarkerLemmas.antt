@@ -4,13 +4,14 @@ use Rattle.std.specs.Prelude.{◌&&◌, drop, if◌then◌else◌, length, not, 
 use Rattle.std.proofs.lemmas.Bool.{cases_Bool, eqb-true}
 use Rattle.markdown_scanners_tree.specs.Ascii.{colon, greater_than_sign, left_bracket}
 use Rattle.markdown_scanners_tree.specs.Bytes.{begins_with, is_digit}
-use Rattle.markdown_scanners_tree.specs.line.Outcome.{definition_outcome, item_outcome, item_outcome_by, not_found}
+use Rattle.markdown_scanners_tree.specs.line.Outcome.{definition_outcome, not_found}
 use Rattle.markdown_scanners_tree.specs.line.State.{LineState, unscanned}
 use Rattle.markdown_scanners_tree.specs.scanners.list_items.ListMarker.{Marker, bullet_marker, is_bullet, list_marker, ordered_marker, ordered_marker_of}
 use Rattle.markdown_scanners_tree.specs.scanners.Breaks.{is_thematic_break}
 use Rattle.markdown_blocks.specs.containers.Containers.{begun_behind, either_begun, extension_of, footnote_by, footnote_of, item_of}
 use Rattle.markdown_blocks.specs.containers.Containers.{term_definition_by, term_definition_of}
 use Rattle.markdown_blocks.specs.containers.Footnotes.{footnote_label}
+use Rattle.markdown_blocks.specs.containers.ItemMarkers.{item_outcome, item_outcome_by}
 use Rattle.markdown_blocks.specs.containers.private.Markers.{is_item_byte, is_other_byte}
 use Rattle.markdown_blocks.specs.declared.containers.BlockExtensions.{BlockExtensions}
 use Rattle.markdown_blocks.specs.declared.containers.Container.{Container}

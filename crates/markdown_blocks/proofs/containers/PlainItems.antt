@@ -1,20 +1,21 @@
 -- Items that begin with a bullet, one space and text.
-use Rattle.std.proofs.Common.{ℕ, Bool, true, false, ◌==◌, ◌≡◌, ◌<◌, ◌≤◌, ◌+◌, ◌-◌, ◌%◌, List, []}
-use Rattle.std.proofs.Common.{◌∷◌, length, drop, get_or, Option, Some, None, refl, sym, ap, ◌∙◌, inl, arith}
+use Rattle.std.proofs.Common.{ℕ, Bool, true, false, ◌==◌, ◌≡◌, ◌<◌, ◌+◌, ◌%◌, List}
+use Rattle.std.proofs.Common.{◌∷◌, length, drop, get_or, Option, Some, None, refl, sym, subst, ap, ◌∙◌, inl, arith}
 use Rattle.std.specs.Prelude.{IfSome, is_some, nat_lt, not, ◌||◌, ◌&&◌, if◌then◌else◌}
 use Rattle.std.specs.List.{list_all}
 use Rattle.std.proofs.lemmas.Bool.{eqb-true}
 use Rattle.std.proofs.lemmas.Bool.Decides.{nat_tests}
 use Rattle.std.proofs.lemmas.List.{drop-drop, drop_more, length-drop}
-use Rattle.markdown_scanners_tree.specs.Bytes.{is_blank, is_digit, is_line_ending, line_head, is_space_or_tab, is_white_space_in_line, begins_with}
-use Rattle.markdown_scanners_tree.specs.Columns.{written_out}
-use Rattle.markdown_scanners_tree.specs.line.Outcome.{Outcome, further_spaces, item_outcome, item_outcome_after, item_outcome_by, space_or_end_follows}
+use Rattle.markdown_scanners_tree.specs.Bytes.{is_digit, is_line_ending, line_head, is_space_or_tab, begins_with}
+use Rattle.markdown_scanners_tree.specs.line.Outcome.{Outcome, space_or_end_follows}
 use Rattle.markdown_scanners_tree.specs.line.State.{LineState, after_space, bytes_further, leading_spaces, rest_of, space_within, unscanned}
 use Rattle.markdown_scanners_tree.specs.scanners.Breaks.{is_break_head, is_thematic_break}
 use Rattle.markdown_scanners_tree.specs.scanners.list_items.ListMarker.{Marker, bullet_marker, is_bullet, list_marker, ordered_marker}
 use Rattle.markdown_scanners_tree.proofs.line.SpaceLemmas.{IsTaken, none_at_front, none_of_byte, one_of_byte, state_of}
 use Rattle.markdown_scanners_tree.proofs.line.WrittenLemmas.{head-cons}
+use Rattle.markdown_blocks.specs.blank_lines.BlankLines.{is_blank}
 use Rattle.markdown_blocks.specs.containers.Containers.{begun_behind, item_of}
+use Rattle.markdown_blocks.specs.containers.ItemMarkers.{further_spaces, item_outcome, item_outcome_after, item_outcome_by}
 use Rattle.markdown_blocks.specs.containers.private.Markers.{IsPlainBullet, is_item_byte}
 use Rattle.markdown_blocks.specs.declared.containers.Container.TheVariants.{Item}
 use Rattle.markdown_blocks.specs.declared.containers.BlockExtensions.{BlockExtensions}
@@ -26,7 +27,7 @@ record Word (byte : ℕ) : Type 0 where
   space : (byte == 32) ≡ false
   tab : (byte == 9) ≡ false
   goes : is_line_ending byte ≡ false
-  in_line : is_white_space_in_line byte ≡ false
+  in_line : is_space_or_tab byte ≡ false
 
 word : (byte : ℕ) → 62 < byte → Word byte
 word byte more = record {
@@ -111,8 +112,9 @@ module _ (indent : ℕ) (s : LineState) (bullet byte : ℕ) (rest : List ℕ) (i
   one_space : IsTaken 1 1 past_marker past_space
   one_space =
       let there = byte_there s.bytes (s.place + 1) 32 (byte ∷ rest) space_there in
-      one_of_byte s.bytes (s.place + 1) (s.phase + 1) s.pending 32 1 (s.phase + 2) 0 none there.0 there.1 (inl (refl, refl))
-      (ap (λ n. n % 4) (let sum : s.phase + 2 ≡ s.phase + 1 + 1 = omega arith in sum)) refl
+      let sum : s.phase + 1 + 1 ≡ s.phase + 2 = omega arith in
+      subst (λ (c : ℕ). IsTaken 1 1 past_marker (state_of s.bytes (s.place + 1 + 1) 0 c)) sum
+      (one_of_byte s.bytes (s.place + 1) (s.phase + 1) s.pending 32 1 0 none there.0 there.1 (inl (refl, refl)) refl)
 
   text_front : begins_with is_space_or_tab (unscanned past_space) ≡ false
   text_front = ap (begins_with is_space_or_tab) word_there ∙ (let w = word byte more in rw (w.space, w.tab) refl)
@@ -126,8 +128,8 @@ module _ (indent : ℕ) (s : LineState) (bullet byte : ℕ) (rest : List ℕ) (i
   pub not_blank : is_blank (unscanned past_space) ≡ false
   not_blank =
       let w = word byte more in
-      ap is_blank word_there ∙ ap (list_all is_white_space_in_line) (head-cons byte rest w.goes)
-      ∙ ap (λ t. t && list_all is_white_space_in_line (line_head rest)) w.in_line
+      ap is_blank word_there ∙ ap (list_all is_space_or_tab) (head-cons byte rest w.goes)
+      ∙ ap (λ t. t && list_all is_space_or_tab (line_head rest)) w.in_line
 
   -- one space follows the marker
   follows : space_or_end_follows past_marker ≡ true

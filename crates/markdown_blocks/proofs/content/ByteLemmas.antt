@@ -1,8 +1,9 @@
 -- The bytes of a content stand in the lines at their places.
-use Rattle.std.proofs.Common.{ℕ, zero, suc, ◌+◌, ◌-◌, ◌<◌, ◌≤◌, ◌≡◌, List, [], ◌∷◌, ◌++◌, length, take, drop, get_or, replicate}
+use Rattle.std.proofs.Common.{ℕ, zero, suc, true, ◌==◌, ◌⊎◌, ◌+◌, ◌-◌, ◌<◌, ◌≤◌, ◌≡◌, List, [], ◌∷◌, ◌++◌, length, take, drop, get_or, replicate}
 use Rattle.std.proofs.Common.{refl, sym, ap, ◌∙◌, subst, inl, inr, arith, append_assoc, append-nil, length-append}
 use Rattle.std.specs.Prelude.{⊤}
 use Rattle.std.specs.List.{AllByRecursion, concat, flat_map, range_with_len}
+use Rattle.std.proofs.lemmas.Bool.{cases_Bool, eqb-true}
 use Rattle.std.proofs.lemmas.Bool.Decides.{leb_tells}
 use Rattle.std.proofs.lemmas.List.{drop-append-le, drop-drop, drop_all, get_or-append_right}
 use Rattle.std.proofs.lemmas.List.{get_or-drop, get_or-replicate, get_or-take, get_or_append_left}
@@ -10,7 +11,8 @@ use Rattle.std.proofs.lemmas.List.{length-drop, length-replicate, length-take}
 use Rattle.std.proofs.lemmas.List.Folds.{concat-append}
 use Rattle.std.proofs.lemmas.List.FromFn.{get_or-range_with_len, length-range_with_len}
 use Rattle.std.proofs.Math.Seq.{drop-append_seam}
-use Rattle.markdown_scanners_tree.specs.Ascii.{number_sign, space, tab}
+use Rattle.markdown_scanners_tree.specs.Ascii.{carriage_return, line_feed, number_sign, space, tab}
+use Rattle.markdown_scanners_tree.specs.Bytes.{is_line_ending, line_head}
 use Rattle.markdown_scanners_tree.specs.line.Outcome.{after_all_space}
 use Rattle.markdown_scanners_tree.specs.line.State.{LineState, after_space, space_within, unscanned}
 use Rattle.markdown_scanners_tree.specs.scanners.TextLines.{lines_of}
@@ -18,20 +20,26 @@ use Rattle.markdown_scanners_tree.proofs.ForCallers.{lines_joined}
 use Rattle.markdown_blocks.specs.content.Bytes.{AreBytesOf, IsByteAt}
 use Rattle.markdown_blocks.specs.content.Content.{IsContent, Placed, content_len, joined, places_of, text_of}
 use Rattle.markdown_blocks.specs.content.Parts.{AreInner, AreParts, ArePartsAt, Part, first_place}
-use Rattle.markdown_blocks.specs.content.Parts.{heading_part, later_parts, later_place, moved, part_at, text_place}
+use Rattle.markdown_blocks.specs.content.Parts.{ended, ending_of, has_return, heading_part, later_parts, later_place, moved, part_at, text_place, written}
 use Rattle.markdown_blocks.specs.content.Seen.{IsIn}
 use Rattle.markdown_blocks.specs.declared.blocks.BlockKind.{BlockKind}
 use Rattle.markdown_blocks.specs.declared.blocks.BlockKind.TheVariants.{Blank, Break, Heading, Setext, Indented}
 use Rattle.markdown_blocks.specs.declared.blocks.BlockKind.TheVariants.{Fenced, Html, Table, Definition, Paragraph}
 use Rattle.markdown_blocks.specs.declared.containers.Container.{Container}
 use Rattle.markdown_blocks.specs.info.Info.{behind_fence, without_front}
+use Rattle.markdown_blocks.proofs.content.EndingLemmas.{EndsWell, all_both, all_first, ending_inside, head_inside, head_less, lines_well}
+use Rattle.markdown_blocks.proofs.content.EndingLemmas.{well_drop, written_all}
 use Rattle.markdown_blocks.proofs.content.ReachedLemmas.{Reached, after_all, after_some}
 use Rattle.markdown_blocks.proofs.content.ReachedPlaces.{first_reached, later_reached, text_reached}
 use Rattle.markdown_blocks.proofs.content.parts.HeadingLemmas.{heading_in, heading_is}
 
--- a part's bytes stand in the lines at its place, and directly before them the tab of its columns, if it has any
+-- columns of this filler may stand in place of this byte
+abbrev pub IsFillerOf : ℕ → ℕ → Type 0
+IsFillerOf byte filler = ((filler ≡ space) × (byte ≡ tab)) ⊎ ((filler ≡ line_feed) × (is_line_ending byte ≡ true))
+
+-- a part's bytes stand in the lines at its place, and directly before them the byte that its columns replace, if it has any
 abbrev pub IsPartIn : List ℕ → Part → Type 0
-IsPartIn lines p = IsIn lines p × (0 < p.columns → (0 < p.place) × (get_or lines (p.place - 1) 0 ≡ tab))
+IsPartIn lines p = IsIn lines p × (0 < p.columns → (0 < p.place) × IsFillerOf (get_or lines (p.place - 1) 0) p.filler)
 
 -- what is left of a line
 pub left_in : (line : List ℕ) (s : LineState) → Reached line s → IsPartIn line (part_at s)
@@ -44,7 +52,7 @@ left_in line s r =
         ap (drop s.place) (sym r.of_line) ∙ sym (append-nil (unscanned s))
             ∙ ap (λ t. unscanned s ++ t) (sym (drop_all (s.place + length (unscanned s)) line end)),
       ),
-      r.behind_tab,
+      λ some. ((r.behind_tab some).0, inl (refl, (r.behind_tab some).1)),
     )
 
 -- what stands in a line stands in the text, before whose line so many bytes stand
@@ -64,34 +72,57 @@ moved_in text line rest before within stands p is =
             ∙ ap (λ n. drop n text) (sym at)),
       ),
       λ some.
-          let tab_there = is.1 some in
-          let behind = tab_there.0 in
-          let place : before + p.place - 1 ≡ before + (p.place - 1) = omega (arith, behind) in (
-            omega (arith, behind),
-            ap (λ n. get_or text n 0) place ∙ sym (get_or-drop before text (p.place - 1) 0) ∙ ap (λ t. get_or t (p.place - 1) 0) stands
-                ∙ get_or_append_left line rest 0 (p.place - 1) (omega (arith, behind, low)) ∙ tab_there.1,
+          let there = is.1 some in
+          let after = there.0 in
+          let place : before + p.place - 1 ≡ before + (p.place - 1) = omega (arith, after) in (
+            omega (arith, after),
+            subst (λ b. IsFillerOf b p.filler) (sym (ap (λ n. get_or text n 0) place ∙ sym (get_or-drop before text (p.place - 1) 0)
+                ∙ ap (λ t. get_or t (p.place - 1) 0) stands ∙ get_or_append_left line rest 0 (p.place - 1) (omega (arith, after, low)))) there.1,
           ),
     )
 
 pub first_in : (text line rest : List ℕ) → text ≡ line ++ rest → (p : Part) → IsPartIn line p → IsPartIn text p
 first_in text line rest stands p is =
     let at : 0 + p.place ≡ p.place = omega arith in
-    subst (λ n. IsPartIn text (record { columns = p.columns; place = n; bytes = p.bytes })) at (moved_in text line rest 0 (omega arith) stands p is)
+    subst (λ n. IsPartIn text (record { columns = p.columns; filler = p.filler; place = n; bytes = p.bytes })) at
+    (moved_in text line rest 0 (omega arith) stands p is)
+
+-- what is written of a part that stands in the lines and ends as one of them
+pub written_in : (lines : List ℕ) (kind : BlockKind) (p : Part) → IsPartIn lines p → EndsWell p.bytes → AllByRecursion (IsPartIn lines) (written kind p)
+written_in lines kind p is well = written_all (IsPartIn lines) kind p is (λ returns.
+    let few = head_less p.bytes returns in
+    let n = length p.bytes in
+    let last : get_or lines (p.place + n - 1) 0 ≡ get_or p.bytes (n - 1) 0 =
+    ap (λ k. get_or lines k 0) (omega (arith, few)) ∙ sym (get_or-drop p.place lines (n - 1) 0) ∙ ap (λ t. get_or t (n - 1) 0) is.0.1
+    ∙ get_or_append_left p.bytes (drop (p.place + n) lines) 0 (n - 1) (omega (arith, few)) in (
+      (head_inside lines p is.0, is.1),
+      (
+        ending_inside lines p is.0,
+        λ some. (omega (arith, few), inr (refl, subst (λ b. is_line_ending b ≡ true) (sym last) (well returns))),
+      ),
+    ))
+
+-- the rest of a line ends as it does
+rest_well : (line : List ℕ) (s : LineState) → Reached line s → EndsWell line → EndsWell (unscanned s)
+rest_well line s r well = subst (λ (l : List ℕ). EndsWell (drop s.place l)) (sym r.of_line) (well_drop s.place line well)
 
 -- the parts of lines that stand in the text
 later_in : (kind : BlockKind) (outer : List Container) (indent before : ℕ) (lines : List (List ℕ)) (rest text : List ℕ) → before ≤ length text
-    → drop before text ≡ concat lines ++ rest → AllByRecursion (IsPartIn text) (later_parts kind outer indent before lines)
-later_in kind outer indent before [] rest text within stands = tt
-later_in kind outer indent before (line ∷ lines) rest text within stands =
+    → drop before text ≡ concat lines ++ rest → AllByRecursion EndsWell lines
+    → AllByRecursion (IsPartIn text) (later_parts kind outer indent before lines)
+later_in kind outer indent before [] rest text within stands well = tt
+later_in kind outer indent before (line ∷ lines) rest text within stands well =
     let here : drop before text ≡ line ++ (concat lines ++ rest) = stands ∙ append_assoc line (concat lines) rest in
     let size : length text - before ≡ length line + length (concat lines ++ rest) =
     sym (length-drop before text) ∙ ap length here ∙ length-append line (concat lines ++ rest) in
     let later : drop (before + length line) text ≡ concat lines ++ rest =
-    sym (drop-drop (length line) before text) ∙ ap (drop (length line)) here ∙ drop-append_seam line (concat lines ++ rest) in (
-      moved_in text line (concat lines ++ rest) before within here _
-          (left_in line _ (text_reached line kind indent (later_place kind outer line) (later_reached line kind outer))),
-      later_in kind outer indent (before + length line) lines rest text (omega (arith, within, size)) later,
-    )
+    sym (drop-drop (length line) before text) ∙ ap (drop (length line)) here ∙ drop-append_seam line (concat lines ++ rest) in
+    let s = text_place kind indent (later_place kind outer line) in
+    let r = text_reached line kind indent (later_place kind outer line) (later_reached line kind outer) in
+    all_both (IsPartIn text) (written kind (moved before (part_at s))) (later_parts kind outer indent (before + length line) lines)
+    (written_in text kind (moved before (part_at s)) (moved_in text line (concat lines ++ rest) before within here (part_at s) (left_in line s r))
+    (rest_well line s r well.0))
+    (later_in kind outer indent (before + length line) lines rest text (omega (arith, within, size)) later well.1)
 
 -- the lines that are content are the first of the later ones
 pub inner_first : (kind : BlockKind) (outer : List Container) (later inner : List (List ℕ)) → AreInner kind outer later inner
@@ -99,7 +130,8 @@ pub inner_first : (kind : BlockKind) (outer : List Container) (later inner : Lis
 inner_first kind outer later inner (inl (last, is, out)) = (last ∷ [], is)
 inner_first kind outer later inner (inr (is, none)) = ([], sym is ∙ sym (append-nil inner))
 
-module _ (text line : List ℕ) (later : List (List ℕ)) (stands : text ≡ line ++ concat later) (outer : List Container) where
+module _ (text line : List ℕ) (later : List (List ℕ)) (stands : text ≡ line ++ concat later) (outer : List Container) (own : EndsWell line)
+    (well : AllByRecursion EndsWell later) where
   inner_in : (kind : BlockKind) (indent : ℕ) (inner : List (List ℕ)) → AreInner kind outer later inner
       → AllByRecursion (IsPartIn text) (later_parts kind outer indent (length line) inner)
   inner_in kind indent inner are =
@@ -108,14 +140,19 @@ module _ (text line : List ℕ) (later : List (List ℕ)) (stands : text ≡ lin
       ap (drop (length line)) stands ∙ drop-append_seam line (concat later) ∙ ap concat front.1 ∙ concat-append inner front.0 in
       let size = ap length stands ∙ length-append line (concat later) in
       later_in kind outer indent (length line) inner (concat front.0) text (omega (arith, size)) rest
+      (all_first EndsWell inner front.0 (subst (AllByRecursion EndsWell) front.1 well))
 
   text_in : (kind : BlockKind) (s : LineState) → Reached line s → (parts : List Part)
       → (inner : List (List ℕ)) × AreInner kind outer later inner
-      × (parts ≡ part_at (text_place kind 0 s) ∷ later_parts kind outer 0 (length line) inner)
+      × (parts ≡ written kind (part_at (text_place kind 0 s)) ++ later_parts kind outer 0 (length line) inner)
       → AllByRecursion (IsPartIn text) parts
   text_in kind s r parts (inner, are, is) =
+      let p = part_at (text_place kind 0 s) in
+      let reached = text_reached line kind 0 s r in
       subst (AllByRecursion (IsPartIn text)) (sym is)
-      (first_in text line (concat later) stands _ (left_in line _ (text_reached line kind 0 s r)), inner_in kind 0 inner are)
+      (all_both (IsPartIn text) (written kind p) (later_parts kind outer 0 (length line) inner)
+      (written_in text kind p (first_in text line (concat later) stands p (left_in line _ reached)) (rest_well line _ reached own))
+      (inner_in kind 0 inner are))
 
   none_in : (parts : List Part) → parts ≡ [] → AllByRecursion (IsPartIn text) parts
   none_in parts none = subst (AllByRecursion (IsPartIn text)) (sym none) tt
@@ -145,21 +182,31 @@ module _ (text line : List ℕ) (later : List (List ℕ)) (stands : text ≡ lin
   at_first Definition s r parts are = text_in Definition s r parts are
   at_first Paragraph s r parts are = text_in Paragraph s r parts are
 
-pub parts_in : (kind : BlockKind) (outer : List Container) (kept : ℕ) (text : List ℕ) (lines : List (List ℕ)) → text ≡ concat lines → (parts : List Part)
-    → AreParts kind outer kept lines parts → AllByRecursion (IsPartIn text) parts
-parts_in kind outer kept text [] stands parts none = subst (AllByRecursion (IsPartIn text)) (sym none) tt
-parts_in kind outer kept text (line ∷ later) stands parts are =
-    at_first text line later stands outer kind (first_place kept outer line) (first_reached line kept outer) parts are
+pub parts_in : (kind : BlockKind) (outer : List Container) (kept : ℕ) (text : List ℕ) (lines : List (List ℕ)) → text ≡ concat lines
+    → AllByRecursion EndsWell lines → (parts : List Part) → AreParts kind outer kept lines parts → AllByRecursion (IsPartIn text) parts
+parts_in kind outer kept text [] stands well parts none = subst (AllByRecursion (IsPartIn text)) (sym none) tt
+parts_in kind outer kept text (line ∷ later) stands well parts are =
+    at_first text line later stands outer well.0 well.1 kind (first_place kept outer line) (first_reached line kept outer) parts are
 
 -- how many bytes a part has, and as many places
 pub text_size : (p : Part) → length (text_of p) ≡ p.columns + length p.bytes
-text_size p = length-append (replicate p.columns space) p.bytes ∙ ap (λ n. n + length p.bytes) (length-replicate p.columns space)
+text_size p = length-append (replicate p.columns p.filler) p.bytes ∙ ap (λ n. n + length p.bytes) (length-replicate p.columns p.filler)
 
 pub places_size : (p : Part) → length (places_of p) ≡ length (text_of p)
 places_size p =
     length-append (replicate p.columns (p.place - 1)) (range_with_len p.place (length p.bytes))
     ∙ ap (λ n. n + length (range_with_len p.place (length p.bytes))) (length-replicate p.columns (p.place - 1))
     ∙ ap (λ n. p.columns + n) (length-range_with_len p.place (length p.bytes)) ∙ sym (text_size p)
+
+-- a column is its byte where it stands, or written in place of that
+filled_byte : (b filler there byte : ℕ) → b ≡ filler → there ≡ byte → IsFillerOf byte filler
+    → (b ≡ there) ⊎ (((b ≡ space) × (there ≡ tab)) ⊎ ((b ≡ line_feed) × (there ≡ carriage_return)))
+filled_byte b filler there byte is at (inl (spaced, tabbed)) = inr (inl (is ∙ spaced, at ∙ tabbed))
+filled_byte b filler there byte is at (inr (feed, ends)) = elim (cases_Bool (byte == line_feed)) [
+  | inl same ↦ inl (is ∙ feed ∙ sym (at ∙ eqb-true byte line_feed same))
+  | inr other ↦ (let returns : (byte == carriage_return) ≡ true = rw other at ends in
+      inr (inr (is ∙ feed, at ∙ eqb-true byte carriage_return returns)))
+]
 
 -- the bytes of a part
 byte_in : (lines : List ℕ) (p : Part) → IsPartIn lines p → (i : ℕ) → i < length (text_of p)
@@ -171,7 +218,7 @@ byte_in lines p is i low =
       | inl far ↦ (let j = i - p.columns in
           let fits : j < length p.bytes = omega (arith, low, size, far.1) in
           let byte : get_or (text_of p) i 0 ≡ get_or p.bytes j 0 =
-          get_or-append_right (replicate p.columns space) p.bytes p.columns i 0 (length-replicate p.columns space) far.1 in
+          get_or-append_right (replicate p.columns p.filler) p.bytes p.columns i 0 (length-replicate p.columns p.filler) far.1 in
           let place : get_or (places_of p) i 0 ≡ p.place + j =
           get_or-append_right (replicate p.columns (p.place - 1)) (range_with_len p.place (length p.bytes)) p.columns i 0
           (length-replicate p.columns (p.place - 1)) far.1 ∙ get_or-range_with_len p.place (length p.bytes) j 0 fits in
@@ -181,17 +228,17 @@ byte_in lines p is i low =
             omega (arith, place, fits, inside),
             inl (byte ∙ sym there ∙ ap (λ n. get_or lines n 0) (sym place)),
           ))
-      | inr near ↦ (let behind = is.1 (omega (arith, near.1)) in
-          let before = behind.0 in
-          let byte : get_or (text_of p) i 0 ≡ space =
-          get_or_append_left (replicate p.columns space) p.bytes 0 i (omega (arith, near.1, length-replicate p.columns space))
-          ∙ get_or-replicate p.columns i space 0 near.1 in
+      | inr near ↦ (let after = is.1 (omega (arith, near.1)) in
+          let before = after.0 in
+          let byte : get_or (text_of p) i 0 ≡ p.filler =
+          get_or_append_left (replicate p.columns p.filler) p.bytes 0 i (omega (arith, near.1, length-replicate p.columns p.filler))
+          ∙ get_or-replicate p.columns i p.filler 0 near.1 in
           let place : get_or (places_of p) i 0 ≡ p.place - 1 =
           get_or_append_left (replicate p.columns (p.place - 1)) (range_with_len p.place (length p.bytes)) 0 i
           (omega (arith, near.1, length-replicate p.columns (p.place - 1)))
           ∙ get_or-replicate p.columns i (p.place - 1) 0 near.1 in (
             omega (arith, place, before, inside),
-            inr (byte, ap (λ n. get_or lines n 0) place ∙ behind.1),
+            filled_byte _ _ _ _ byte (ap (λ n. get_or lines n 0) place) after.1,
           ))
     ]
 
@@ -222,7 +269,7 @@ content_bytes kind outer kept lines content is offset low =
     let size : length content.text ≡ length (take n text) = ap (λ (c : Placed). length c.text) is.is_content in
     let few = length-take n text in
     let in_front : offset < n = omega (arith, low, size, few) in
-    let all = parts_in kind outer kept lines (lines_of lines) (sym (lines_joined lines)) is.parts is.are_parts in
+    let all = parts_in kind outer kept lines (lines_of lines) (sym (lines_joined lines)) (lines_well lines) is.parts is.are_parts in
     let here = bytes_in lines is.parts all offset (omega (arith, low, size, few)) in
     subst (λ (c : Placed). IsByteAt lines (get_or c.text offset 0) (get_or c.places offset 0)) (sym is.is_content)
     (subst (λ b. IsByteAt lines b (get_or (take n places) offset 0)) (sym (get_or-take n text offset 0 in_front))
@@ -252,11 +299,12 @@ abbrev pub DoNotFall : ℕ → List ℕ → Type 0
 DoNotFall from [] = ⊤
 DoNotFall from (place ∷ places) = (from ≤ place) × DoNotFall place places
 
--- each part stands after the one before it
+-- each part stands after the one before it, and where columns are no spaces, there is one at most
 abbrev pub StandBehind : ℕ → List Part → Type 0
 StandBehind from [] = ⊤
 StandBehind from (p ∷ parts) =
-    (from ≤ p.place) × (0 < p.columns → from < p.place) × StandBehind (p.place + length p.bytes) parts
+    (from ≤ p.place) × (0 < p.columns → from < p.place) × ((p.filler ≡ space) ⊎ (p.columns ≤ 1))
+    × StandBehind (p.place + length p.bytes) parts
 
 earlier_places : (from to : ℕ) (places : List ℕ) → from ≤ to → DoNotFall to places → DoNotFall from places
 earlier_places from to [] less rise = tt
@@ -276,11 +324,11 @@ same_rise (suc n) place rest rise = (omega arith, same_rise n place rest rise)
 
 part_rises : (from : ℕ) (p : Part) (rest : List ℕ) → from ≤ p.place → (0 < p.columns → from < p.place)
     → DoNotFall (p.place + length p.bytes) rest → DoNotFall from (places_of p ++ rest)
-part_rises from p rest low behind rise =
+part_rises from p rest low after rise =
     let run = run_rises (length p.bytes) p.place rest rise in
     subst (DoNotFall from) (sym (append_assoc (replicate p.columns (p.place - 1)) (range_with_len p.place (length p.bytes)) rest))
     (elim (leb_tells 1 p.columns) [
-      | inl some ↦ earlier_places from (p.place - 1) _ (omega (arith, behind (omega (arith, some.1))))
+      | inl some ↦ earlier_places from (p.place - 1) _ (omega (arith, after (omega (arith, some.1))))
           (same_rise p.columns (p.place - 1) _ (earlier_places (p.place - 1) p.place _ (omega arith) run))
       | inr none ↦ (let zero_columns : p.columns ≡ 0 = omega (arith, none.1) in
           subst (λ n. DoNotFall from (replicate n (p.place - 1) ++ (range_with_len p.place (length p.bytes) ++ rest))) (sym zero_columns)
@@ -288,9 +336,9 @@ part_rises from p rest low behind rise =
     ])
 
 pub parts_rise : (from : ℕ) (parts : List Part) → StandBehind from parts → DoNotFall from (flat_map places_of parts)
-parts_rise from [] behind = tt
-parts_rise from (p ∷ parts) behind =
-    part_rises from p (flat_map places_of parts) behind.0 behind.1 (parts_rise (p.place + length p.bytes) parts behind.2)
+parts_rise from [] after = tt
+parts_rise from (p ∷ parts) after =
+    part_rises from p (flat_map places_of parts) after.0 after.1 (parts_rise (p.place + length p.bytes) parts after.3)
 
 pub front_rises : (n from : ℕ) (places : List ℕ) → DoNotFall from places → DoNotFall from (take n places)
 front_rises zero from places rise = tt
@@ -298,19 +346,44 @@ front_rises (suc n) from [] rise = tt
 front_rises (suc n) from (place ∷ places) rise = (rise.0, front_rises n place places rise.1)
 
 pub earlier_parts : (from to : ℕ) (parts : List Part) → from ≤ to → StandBehind to parts → StandBehind from parts
-earlier_parts from to [] less behind = tt
-earlier_parts from to (p ∷ parts) less behind = (omega (arith, less, behind.0), λ some. omega (arith, less, behind.1 some), behind.2)
+earlier_parts from to [] less after = tt
+earlier_parts from to (p ∷ parts) less after = (omega (arith, less, after.0), λ some. omega (arith, less, after.1 some), after.2, after.3)
+
+-- what is written of a part stands where the part does
+module _ (p : Part) (from : ℕ) (rest : List Part) (low : from ≤ p.place) (after : 0 < p.columns → from < p.place) (spaces : p.filler ≡ space)
+    (more : StandBehind (p.place + length p.bytes) rest) where
+  ended_stands : StandBehind from (ended p ++ rest)
+  ended_stands = elim (cases_Bool (has_return p.bytes)) [
+    | inl returns ↦ (let few = head_less p.bytes returns in
+        let end : p.place + length p.bytes ≡ p.place + length p.bytes + 0 = omega arith in
+        let feed : StandBehind (p.place + length (line_head p.bytes)) (ending_of p ∷ rest) =
+        (omega (arith, few), (λ some. omega (arith, few)), inr (omega arith), subst (λ n. StandBehind n rest) end more) in
+        rw returns (low, after, inl spaces, feed))
+    | inr none ↦ rw none (low, after, inl spaces, more)
+  ]
+
+  pub written_stands : (kind : BlockKind) → StandBehind from (written kind p ++ rest)
+  written_stands Blank = (low, after, inl spaces, more)
+  written_stands Break = (low, after, inl spaces, more)
+  written_stands (Heading level) = (low, after, inl spaces, more)
+  written_stands (Setext level) = (low, after, inl spaces, more)
+  written_stands (Table columns) = (low, after, inl spaces, more)
+  written_stands Definition = (low, after, inl spaces, more)
+  written_stands Paragraph = (low, after, inl spaces, more)
+  written_stands Indented = ended_stands
+  written_stands (Fenced count byte) = ended_stands
+  written_stands (Html kind) = ended_stands
 
 pub later_behind : (kind : BlockKind) (outer : List Container) (indent before : ℕ) (lines : List (List ℕ))
     → StandBehind before (later_parts kind outer indent before lines)
 later_behind kind outer indent before [] = tt
 later_behind kind outer indent before (line ∷ lines) =
-    let there = left_in line _ (text_reached line kind indent (later_place kind outer line) (later_reached line kind outer)) in (
-      omega arith,
-      λ some. omega (arith, (there.1 some).0),
-      earlier_parts _ (before + length line) (later_parts kind outer indent (before + length line) lines) (omega (arith, there.0.0))
-          (later_behind kind outer indent (before + length line) lines),
-    )
+    let s = text_place kind indent (later_place kind outer line) in
+    let there = left_in line s (text_reached line kind indent (later_place kind outer line) (later_reached line kind outer)) in
+    written_stands (moved before (part_at s)) before (later_parts kind outer indent (before + length line) lines) (omega arith)
+    (λ some. omega (arith, (there.1 some).0)) refl
+    (earlier_parts _ (before + length line) (later_parts kind outer indent (before + length line) lines) (omega (arith, there.0.0))
+    (later_behind kind outer indent (before + length line) lines)) kind
 
 module _ (line : List ℕ) (later : List (List ℕ)) (outer : List Container) where
   none_behind : (parts : List Part) → parts ≡ [] → StandBehind 0 parts
@@ -318,21 +391,19 @@ module _ (line : List ℕ) (later : List (List ℕ)) (outer : List Container) wh
 
   text_behind : (kind : BlockKind) (s : LineState) → Reached line s → (parts : List Part)
       → (inner : List (List ℕ)) × AreInner kind outer later inner
-      × (parts ≡ part_at (text_place kind 0 s) ∷ later_parts kind outer 0 (length line) inner) → StandBehind 0 parts
+      × (parts ≡ written kind (part_at (text_place kind 0 s)) ++ later_parts kind outer 0 (length line) inner) → StandBehind 0 parts
   text_behind kind s r parts (inner, are, is) =
       let there = left_in line _ (text_reached line kind 0 s r) in
-      subst (StandBehind 0) (sym is) (
-        omega arith,
-        λ some. (there.1 some).0,
-        earlier_parts _ (length line) (later_parts kind outer 0 (length line) inner) there.0.0 (later_behind kind outer 0 (length line) inner),
-      )
+      subst (StandBehind 0) (sym is)
+      (written_stands (part_at (text_place kind 0 s)) 0 (later_parts kind outer 0 (length line) inner) (omega arith) (λ some. (there.1 some).0) refl
+      (earlier_parts _ (length line) (later_parts kind outer 0 (length line) inner) there.0.0 (later_behind kind outer 0 (length line) inner)) kind)
 
   first_behind : (kind : BlockKind) (s : LineState) → Reached line s → (parts : List Part) → ArePartsAt kind outer s (length line) later parts
       → StandBehind 0 parts
   first_behind Blank s r parts none = none_behind parts none
   first_behind Break s r parts none = none_behind parts none
   first_behind (Table columns) s r parts none = none_behind parts none
-  first_behind (Heading level) s r parts is = subst (StandBehind 0) (sym is) (omega arith, λ some. absurd (omega (arith, some)), tt)
+  first_behind (Heading level) s r parts is = subst (StandBehind 0) (sym is) (omega arith, λ some. absurd (omega (arith, some)), inl refl, tt)
   first_behind (Fenced count byte) s r parts (inner, are, is) =
       subst (StandBehind 0) (sym is) (earlier_parts 0 (length line) _ (omega arith)
       (later_behind (Fenced count byte) outer (space_within 4 s) (length line) inner))

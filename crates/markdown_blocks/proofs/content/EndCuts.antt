@@ -4,13 +4,12 @@ use Rattle.std.proofs.Common.{refl, sym, ap, ◌∙◌, subst, arith}
 use Rattle.std.specs.Prelude.{slice_index}
 use Rattle.std.specs.List.{AllByRecursion, flat_map, range_with_len}
 use Rattle.std.specs.Str.{IsUtf8, IsCharBoundary}
-use Rattle.std.proofs.lemmas.Bool.Decides.{leb_tells}
+use Rattle.std.proofs.lemmas.Bool.Decides.{leb_tells, nat_tests}
 use Rattle.std.proofs.lemmas.List.{get_or-append_right, get_or-drop, get_or-replicate, get_or-take, get_or_append_left}
 use Rattle.std.proofs.lemmas.List.{length-append, length-replicate, length-take, take-take}
 use Rattle.std.proofs.lemmas.List.FromFn.{get_or-range_with_len}
 use Rattle.std.proofs.lemmas.Str.{IsCharBoundary-after_ascii, IsCharBoundary-from_rest, IsCharBoundary-from_take}
 use Rattle.std.proofs.lemmas.Str.{IsCharBoundary-start, IsUtf8-drop, IsUtf8-take}
-use Rattle.markdown_scanners_tree.specs.Ascii.{space}
 use Rattle.markdown_scanners_tree.specs.scanners.TextLines.{lines_of}
 use Rattle.markdown_scanners_tree.proofs.ForCallers.{lines_joined}
 use Rattle.markdown_blocks.specs.content.Content.{IsContent, Placed, content_len, joined, places_of, text_of}
@@ -18,10 +17,11 @@ use Rattle.markdown_blocks.specs.content.Parts.{Part}
 use Rattle.markdown_blocks.specs.content.Seen.{IsIn}
 use Rattle.markdown_blocks.specs.declared.blocks.BlockKind.{BlockKind}
 use Rattle.markdown_blocks.specs.declared.containers.Container.{Container}
-use Rattle.markdown_blocks.proofs.content.ByteLemmas.{IsPartIn, parts_in, places_size, text_size}
+use Rattle.markdown_blocks.proofs.content.ByteLemmas.{IsFillerOf, IsPartIn, parts_in, places_size, text_size}
+use Rattle.markdown_blocks.proofs.content.EndingLemmas.{lines_well}
 use Rattle.markdown_blocks.proofs.content.CutMoves.{cut_of_first}
 pub use Rattle.markdown_blocks.proofs.content.cell.EscapeLemmas.{cell_bytes}
-use Rattle.markdown_blocks.proofs.content.Utf8Lemmas.{AreUtf8, block_parts_are, content_utf8, joined_utf8}
+use Rattle.markdown_blocks.proofs.content.Utf8Lemmas.{AreUtf8, IsUtf8Part, block_parts_are, content_utf8, joined_utf8}
 use Rattle.markdown_blocks.proofs.taken.LineCuts.{lines_utf8}
 
 -- where two texts may be cut together, so may the first or the second
@@ -41,6 +41,11 @@ cut_in_second xs ys n i size far cut =
           let same = get_or-append_right xs ys n i 0 size far in
           subst (λ b. 192 ≤ b) same (cut.1 (omega (arith, low, size, far, length-append xs ys)) (subst (λ b. 128 ≤ b) (sym same) high)),
     )
+
+-- a byte in place of which columns stand is ASCII
+filled_low : (byte filler : ℕ) → IsFillerOf byte filler → byte < 128
+filled_low byte filler (inl (spaced, tabbed)) = omega (arith, tabbed)
+filled_low byte filler (inr (feed, ends)) = grind (arith, nat_tests)
 
 module _ (lines : List ℕ) (utf8 : IsUtf8 lines) where
   -- bytes that are UTF-8 and stand in the lines
@@ -63,11 +68,11 @@ module _ (lines : List ℕ) (utf8 : IsUtf8 lines) where
       (cut_of_first p.bytes rest (j + 1) (subst IsUtf8 is.1 (IsUtf8-drop lines p.place utf8 begins)) own cut))
 
   -- a part, which may have columns of a tab before its bytes
-  part_cut : (p : Part) → IsPartIn lines p → IsUtf8 p.bytes → (i : ℕ) → i < length (text_of p) → IsCharBoundary (text_of p) (i + 1)
+  part_cut : (p : Part) → IsPartIn lines p → IsUtf8Part p → (i : ℕ) → i < length (text_of p) → IsCharBoundary (text_of p) (i + 1)
       → IsCharBoundary lines (get_or (places_of p) i 0 + 1)
   part_cut p is own i low cut =
       let size = text_size p in
-      let spaces = length-replicate p.columns space in
+      let spaces = length-replicate p.columns p.filler in
       elim (leb_tells p.columns i) [
         | inl far ↦ (let j = i - p.columns in
             let fits : j < length p.bytes = omega (arith, low, size, far.1) in
@@ -76,18 +81,18 @@ module _ (lines : List ℕ) (utf8 : IsUtf8 lines) where
             (length-replicate p.columns (p.place - 1)) far.1 ∙ get_or-range_with_len p.place (length p.bytes) j 0 fits in
             let at : i + 1 - p.columns ≡ j + 1 = omega (arith, far.1) in
             let inner = subst (IsCharBoundary p.bytes) at
-            (cut_in_second (replicate p.columns space) p.bytes p.columns (i + 1) spaces (omega (arith, far.1)) cut) in
+            (cut_in_second (replicate p.columns p.filler) p.bytes p.columns (i + 1) spaces (omega (arith, far.1)) cut) in
             let end : p.place + (j + 1) ≡ get_or (places_of p) i 0 + 1 = omega (arith, place) in
-            subst (IsCharBoundary lines) end (bytes_cut p is.0 own j fits inner))
-        | inr near ↦ (let behind = is.1 (omega (arith, near.1)) in
-            let before = behind.0 in
+            subst (IsCharBoundary lines) end (bytes_cut p is.0 own.1 j fits inner))
+        | inr near ↦ (let after = is.1 (omega (arith, near.1)) in
+            let before = after.0 in
             let inside = is.0.0 in
             let place : get_or (places_of p) i 0 ≡ p.place - 1 =
             get_or_append_left (replicate p.columns (p.place - 1)) (range_with_len p.place (length p.bytes)) 0 i
             (omega (arith, near.1, length-replicate p.columns (p.place - 1)))
             ∙ get_or-replicate p.columns i (p.place - 1) 0 near.1 in
             subst (λ n. IsCharBoundary lines (n + 1)) (sym place)
-            (IsCharBoundary-after_ascii lines (p.place - 1) utf8 (omega (arith, before, inside)) (omega (arith, behind.1))))
+            (IsCharBoundary-after_ascii lines (p.place - 1) utf8 (omega (arith, before, inside)) (filled_low _ _ after.1)))
       ]
 
   parts_cut : (parts : List Part) → AllByRecursion (IsPartIn lines) parts → AreUtf8 parts → (i : ℕ) → i < length (flat_map text_of parts)
@@ -125,7 +130,7 @@ content_ends kind outer kept lines content is utf8 offset low cut =
     let joined_cut : IsCharBoundary text (offset + 1) =
     IsCharBoundary-from_take text (offset + 1) (joined_utf8 is.parts own) (omega (arith, inside, few))
     (subst IsUtf8 front (IsUtf8-take content.text (offset + 1) (content_utf8 kind outer kept lines content is utf8) cut)) in
-    let all = parts_in kind outer kept lines (lines_of lines) (sym (lines_joined lines)) is.parts is.are_parts in
+    let all = parts_in kind outer kept lines (lines_of lines) (sym (lines_joined lines)) (lines_well lines) is.parts is.are_parts in
     let here = parts_cut lines utf8 is.parts all own offset (omega (arith, inside, few)) joined_cut in
     subst (λ (c : Placed). IsCharBoundary lines (get_or c.places offset 0 + 1)) (sym is.is_content)
     (subst (λ k. IsCharBoundary lines (k + 1)) (sym (get_or-take n places offset 0 in_front)) here)

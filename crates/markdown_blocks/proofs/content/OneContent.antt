@@ -1,9 +1,9 @@
 -- A block has one content.
-use Rattle.std.proofs.Common.{ℕ, List, [], ◌∷◌, ◌≡◌, length, sym, ap, ◌∙◌, inl, inr}
+use Rattle.std.proofs.Common.{ℕ, List, [], ◌∷◌, ◌++◌, ◌≡◌, length, sym, ap, ◌∙◌, inl, inr}
 use Rattle.std.proofs.lemmas.List.{same_from_push}
 use Rattle.markdown_scanners_tree.specs.line.State.{LineState, space_within}
 use Rattle.markdown_blocks.specs.content.Content.{IsContent, Placed, content_with}
-use Rattle.markdown_blocks.specs.content.Parts.{AreInner, AreParts, ArePartsAt, Part, first_place, later_parts, part_at, text_place}
+use Rattle.markdown_blocks.specs.content.Parts.{AreInner, AreParts, ArePartsAt, Part, first_place, later_parts, part_at, text_place, written}
 use Rattle.markdown_blocks.specs.declared.blocks.BlockKind.{BlockKind}
 use Rattle.markdown_blocks.specs.declared.blocks.BlockKind.TheVariants.{Blank, Break, Heading, Setext, Indented, Fenced, Html, Table, Definition, Paragraph}
 use Rattle.markdown_blocks.specs.declared.containers.Container.{Container}
@@ -16,11 +16,14 @@ one_inner kind outer later inner other (inr h) (inl g) = absurd (h.1 other g.0 g
 one_inner kind outer later inner other (inr h) (inr g) = h.0 ∙ sym g.0
 
 text_parts : (kind : BlockKind) (outer : List Container) (s : LineState) (before : ℕ) (later : List (List ℕ)) (parts other : List Part)
-    → (inner : List (List ℕ)) × AreInner kind outer later inner × (parts ≡ part_at (text_place kind 0 s) ∷ later_parts kind outer 0 before inner)
-    → (inner : List (List ℕ)) × AreInner kind outer later inner × (other ≡ part_at (text_place kind 0 s) ∷ later_parts kind outer 0 before inner)
+    → (inner : List (List ℕ)) × AreInner kind outer later inner
+    × (parts ≡ written kind (part_at (text_place kind 0 s)) ++ later_parts kind outer 0 before inner)
+    → (inner : List (List ℕ)) × AreInner kind outer later inner
+    × (other ≡ written kind (part_at (text_place kind 0 s)) ++ later_parts kind outer 0 before inner)
     → parts ≡ other
 text_parts kind outer s before later parts other h g =
-    h.2 ∙ ap (λ inner. part_at (text_place kind 0 s) ∷ later_parts kind outer 0 before inner) (one_inner kind outer later h.0 g.0 h.1 g.1) ∙ sym g.2
+    h.2 ∙ ap (λ inner. written kind (part_at (text_place kind 0 s)) ++ later_parts kind outer 0 before inner)
+    (one_inner kind outer later h.0 g.0 h.1 g.1) ∙ sym g.2
 
 one_list_at : (kind : BlockKind) (outer : List Container) (s : LineState) (before : ℕ) (later : List (List ℕ)) (parts other : List Part)
     → ArePartsAt kind outer s before later parts → ArePartsAt kind outer s before later other → parts ≡ other

@@ -1,6 +1,6 @@
 -- The places of a content rise.
 use Rattle.std.proofs.Common.{ℕ, zero, suc, Bool, true, false, ◌==◌, ◌+◌, ◌-◌, ◌<◌, ◌≤◌, ◌≡◌, List, [], ◌∷◌, ◌++◌, length, take, replicate, if◌then◌else◌}
-use Rattle.std.proofs.Common.{refl, sym, subst, inl, inr, arith, append_assoc}
+use Rattle.std.proofs.Common.{refl, sym, ap, subst, inl, inr, arith, append_assoc, ◌⊎◌}
 use Rattle.std.specs.Prelude.{⊤, slice_index}
 use Rattle.markdown_values.specs.declared.values.HeadingLevel.{HeadingLevel}
 use Rattle.std.specs.List.{flat_map, range_with_len}
@@ -19,56 +19,73 @@ use Rattle.markdown_blocks.proofs.content.ByteLemmas.{StandBehind, parts_behind}
 abbrev pub RisePast : ℕ → List ℕ → List ℕ → Type 0
 RisePast from [] places = ⊤
 RisePast from (b ∷ bytes) [] = ⊤
-RisePast from (b ∷ bytes) (place ∷ places) = (from ≤ place) × RisePast (if b == space then place else suc place) bytes places
+RisePast from (b ∷ bytes) (offset ∷ places) = (from ≤ offset) × RisePast (if b == space then offset else suc offset) bytes places
 
 earlier_past : (from to : ℕ) (bytes places : List ℕ) → from ≤ to → RisePast to bytes places → RisePast from bytes places
 earlier_past from to [] places less rise = tt
 earlier_past from to (b ∷ bytes) [] less rise = tt
-earlier_past from to (b ∷ bytes) (place ∷ places) less rise = (omega (arith, less, rise.0), rise.1)
+earlier_past from to (b ∷ bytes) (offset ∷ places) less rise = (omega (arith, less, rise.0), rise.1)
 
-at_most_next : (test : Bool) (place : ℕ) → (if test then place else suc place) ≤ place + 1
-at_most_next true place = omega arith
-at_most_next false place = omega arith
+at_most_next : (test : Bool) (offset : ℕ) → (if test then offset else suc offset) ≤ offset + 1
+at_most_next true offset = omega arith
+at_most_next false offset = omega arith
 
-run_past : (bytes : List ℕ) (place : ℕ) (more rest : List ℕ) → RisePast (place + length bytes) more rest
-    → RisePast place (bytes ++ more) (range_with_len place (length bytes) ++ rest)
-run_past [] place more rest rise = earlier_past place (place + 0) more rest (omega arith) rise
-run_past (b ∷ bytes) place more rest rise = (
+run_past : (bytes : List ℕ) (offset : ℕ) (more rest : List ℕ) → RisePast (offset + length bytes) more rest
+    → RisePast offset (bytes ++ more) (range_with_len offset (length bytes) ++ rest)
+run_past [] offset more rest rise = earlier_past offset (offset + 0) more rest (omega arith) rise
+run_past (b ∷ bytes) offset more rest rise = (
   omega arith,
-  earlier_past (if b == space then place else suc place) (place + 1) (bytes ++ more) _ (at_most_next (b == space) place)
-      (run_past bytes (place + 1) more rest (subst (λ n. RisePast n more rest) (omega arith) rise)),
+  earlier_past (if b == space then offset else suc offset) (offset + 1) (bytes ++ more) _ (at_most_next (b == space) offset)
+      (run_past bytes (offset + 1) more rest (subst (λ n. RisePast n more rest) (omega arith) rise)),
 )
 
-columns_past : (n place : ℕ) (more rest : List ℕ) → RisePast place more rest → RisePast place (replicate n space ++ more) (replicate n place ++ rest)
-columns_past zero place more rest rise = rise
-columns_past (suc n) place more rest rise = (omega arith, columns_past n place more rest rise)
+-- so many columns, of which one that is no space stands alone
+columns_past : (n filler offset : ℕ) (more rest : List ℕ) → (filler ≡ space) ⊎ (n ≤ 1) → RisePast (suc offset) more rest
+    → RisePast offset (replicate n filler ++ more) (replicate n offset ++ rest)
+columns_past zero filler offset more rest are rise = earlier_past offset (suc offset) more rest (omega arith) rise
+columns_past (suc n) filler offset more rest (inl spaces) rise =
+    let next : (filler == space) ≡ true = ap (λ f. f == space) spaces in
+    (omega arith, rw next (columns_past n filler offset more rest (inl spaces) rise))
+columns_past (suc n) filler offset more rest (inr one) rise =
+    let none : n ≡ 0 = omega (arith, one) in
+    let last : RisePast (if filler == space then offset else suc offset) more rest =
+    earlier_past (if filler == space then offset else suc offset) (suc offset) more rest (at_most (filler == space)) rise in
+    (omega arith, subst (λ m. RisePast (if filler == space then offset else suc offset) (replicate m filler ++ more) (replicate m offset ++ rest)) (sym none) last)
+  where
+    at_most : (test : Bool) → (if test then offset else suc offset) ≤ suc offset
+    at_most true = omega arith
+    at_most false = omega arith
 
 part_past : (from : ℕ) (p : Part) (more rest : List ℕ) → from ≤ p.place → (0 < p.columns → from < p.place)
+    → (p.filler ≡ space) ⊎ (p.columns ≤ 1)
     → RisePast (p.place + length p.bytes) more rest → RisePast from (text_of p ++ more) (places_of p ++ rest)
-part_past from p more rest low behind rise =
+part_past from p more rest low after are rise =
+    let columns = replicate p.columns p.filler in
     let run = run_past p.bytes p.place more rest rise in
-    subst (λ (t : List ℕ). RisePast from t (places_of p ++ rest)) (sym (append_assoc (replicate p.columns space) p.bytes more))
-    (subst (RisePast from (replicate p.columns space ++ (p.bytes ++ more)))
+    subst (λ (t : List ℕ). RisePast from t (places_of p ++ rest)) (sym (append_assoc columns p.bytes more))
+    (subst (RisePast from (columns ++ (p.bytes ++ more)))
     (sym (append_assoc (replicate p.columns (p.place - 1)) (range_with_len p.place (length p.bytes)) rest))
     (elim (leb_tells 1 p.columns) [
-      | inl some ↦ earlier_past from (p.place - 1) _ _ (omega (arith, behind (omega (arith, some.1))))
-          (columns_past p.columns (p.place - 1) _ _ (earlier_past (p.place - 1) p.place _ _ (omega arith) run))
+      | inl some ↦ (let later = after (omega (arith, some.1)) in
+          earlier_past from (p.place - 1) _ _ (omega (arith, later))
+          (columns_past p.columns p.filler (p.place - 1) _ _ are (earlier_past (suc (p.place - 1)) p.place _ _ (omega (arith, later)) run)))
       | inr none ↦ (let zero_columns : p.columns ≡ 0 = omega (arith, none.1) in
-          subst (λ n. RisePast from (replicate n space ++ (p.bytes ++ more))
+          subst (λ n. RisePast from (replicate n p.filler ++ (p.bytes ++ more))
           (replicate n (p.place - 1) ++ (range_with_len p.place (length p.bytes) ++ rest))) (sym zero_columns)
           (earlier_past from p.place _ _ low run))
     ]))
 
 parts_past : (from : ℕ) (parts : List Part) → StandBehind from parts → RisePast from (flat_map text_of parts) (flat_map places_of parts)
-parts_past from [] behind = tt
-parts_past from (p ∷ parts) behind =
-    part_past from p (flat_map text_of parts) (flat_map places_of parts) behind.0 behind.1 (parts_past (p.place + length p.bytes) parts behind.2)
+parts_past from [] after = tt
+parts_past from (p ∷ parts) after =
+    part_past from p (flat_map text_of parts) (flat_map places_of parts) after.0 after.1 after.2
+    (parts_past (p.place + length p.bytes) parts after.3)
 
 front_past : (n from : ℕ) (bytes places : List ℕ) → RisePast from bytes places → RisePast from (take n bytes) (take n places)
 front_past zero from bytes places rise = tt
 front_past (suc n) from [] places rise = tt
 front_past (suc n) from (b ∷ bytes) [] rise = tt
-front_past (suc n) from (b ∷ bytes) (place ∷ places) rise = (rise.0, front_past n _ bytes places rise.1)
+front_past (suc n) from (b ∷ bytes) (offset ∷ places) rise = (rise.0, front_past n _ bytes places rise.1)
 
 -- the places of a content rise
 pub content_past : (kind : BlockKind) (outer : List Container) (kept : ℕ) (lines : List (List ℕ)) (content : Placed)
@@ -84,11 +101,11 @@ past_from : (bytes places : List ℕ) (from j : ℕ) → RisePast from bytes pla
     → from ≤ slice_index places j
 past_from [] places from j rise each low = absurd (omega (arith, each, low))
 past_from (b ∷ bytes) [] from j rise each low = absurd (omega (arith, low))
-past_from (b ∷ bytes) (place ∷ places) from zero rise each low = rise.0
-past_from (b ∷ bytes) (place ∷ places) from (suc j) rise each low =
+past_from (b ∷ bytes) (offset ∷ places) from zero rise each low = rise.0
+past_from (b ∷ bytes) (offset ∷ places) from (suc j) rise each low =
     omega (arith, rise.0, past_from bytes places _ j rise.1 (omega (arith, each)) (omega (arith, low)), least (b == space))
   where
-    least : (test : Bool) → place ≤ (if test then place else suc place)
+    least : (test : Bool) → offset ≤ (if test then offset else suc offset)
     least true = omega arith
     least false = omega arith
 
@@ -97,15 +114,15 @@ pub places_past : (bytes places : List ℕ) (from i j : ℕ) → RisePast from b
     → j < length places → ¬ (slice_index bytes i ≡ space) → slice_index places i < slice_index places j
 places_past [] places from i j rise each less low other = absurd (omega (arith, each, low))
 places_past (b ∷ bytes) [] from i j rise each less low other = absurd (omega (arith, low))
-places_past (b ∷ bytes) (place ∷ places) from i zero rise each less low other = absurd (omega (arith, less))
-places_past (b ∷ bytes) (place ∷ places) from (suc i) (suc j) rise each less low other =
+places_past (b ∷ bytes) (offset ∷ places) from i zero rise each less low other = absurd (omega (arith, less))
+places_past (b ∷ bytes) (offset ∷ places) from (suc i) (suc j) rise each less low other =
     places_past bytes places _ i j rise.1 (omega (arith, each)) (omega (arith, less)) (omega (arith, low)) other
-places_past (b ∷ bytes) (place ∷ places) from zero (suc j) rise each less low other = by (b == space) refl rise.1
+places_past (b ∷ bytes) (offset ∷ places) from zero (suc j) rise each less low other = by (b == space) refl rise.1
   where
-    by : (test : Bool) → (b == space) ≡ test → RisePast (if test then place else suc place) bytes places → place < slice_index places j
+    by : (test : Bool) → (b == space) ≡ test → RisePast (if test then offset else suc offset) bytes places → offset < slice_index places j
     by true is rest = absurd (other (eqb-true b space is))
     by false is rest =
-        let there = past_from bytes places (suc place) j rest (omega (arith, each)) (omega (arith, low)) in
+        let there = past_from bytes places (suc offset) j rest (omega (arith, each)) (omega (arith, low)) in
         omega (arith, there)
 
 -- ---- text in which no tab is cut
@@ -113,18 +130,18 @@ places_past (b ∷ bytes) (place ∷ places) from zero (suc j) rise each less lo
 -- each place stands after the one before it, and none before this one
 abbrev pub RiseStrictly : ℕ → List ℕ → Type 0
 RiseStrictly from [] = ⊤
-RiseStrictly from (place ∷ places) = (from ≤ place) × RiseStrictly (suc place) places
+RiseStrictly from (offset ∷ places) = (from ≤ offset) × RiseStrictly (suc offset) places
 
 earlier_strictly : (from to : ℕ) (places : List ℕ) → from ≤ to → RiseStrictly to places → RiseStrictly from places
 earlier_strictly from to [] less rise = tt
-earlier_strictly from to (place ∷ places) less rise = (omega (arith, less, rise.0), rise.1)
+earlier_strictly from to (offset ∷ places) less rise = (omega (arith, less, rise.0), rise.1)
 
-run_strictly : (n place : ℕ) (rest : List ℕ) → RiseStrictly (place + n) rest → RiseStrictly place (range_with_len place n ++ rest)
-run_strictly zero place rest rise = earlier_strictly place (place + 0) rest (omega arith) rise
-run_strictly (suc n) place rest rise = (
+run_strictly : (n offset : ℕ) (rest : List ℕ) → RiseStrictly (offset + n) rest → RiseStrictly offset (range_with_len offset n ++ rest)
+run_strictly zero offset rest rise = earlier_strictly offset (offset + 0) rest (omega arith) rise
+run_strictly (suc n) offset rest rise = (
   omega arith,
-  earlier_strictly (suc place) (place + 1) _ (omega arith)
-      (run_strictly n (place + 1) rest (subst (λ k. RiseStrictly k rest) (omega arith) rise)),
+  earlier_strictly (suc offset) (offset + 1) _ (omega arith)
+      (run_strictly n (offset + 1) rest (subst (λ k. RiseStrictly k rest) (omega arith) rise)),
 )
 
 abbrev AreUncut : List Part → Type 0
@@ -132,17 +149,17 @@ AreUncut [] = ⊤
 AreUncut (p ∷ parts) = (p.columns ≡ 0) × AreUncut parts
 
 parts_strictly : (parts : List Part) (from : ℕ) → StandBehind from parts → AreUncut parts → RiseStrictly from (flat_map places_of parts)
-parts_strictly [] from behind uncut = tt
-parts_strictly (p ∷ parts) from behind uncut =
-    let rest = parts_strictly parts (p.place + length p.bytes) behind.2 uncut.1 in
+parts_strictly [] from after uncut = tt
+parts_strictly (p ∷ parts) from after uncut =
+    let rest = parts_strictly parts (p.place + length p.bytes) after.3 uncut.1 in
     let run = run_strictly (length p.bytes) p.place (flat_map places_of parts) rest in
     subst (λ n. RiseStrictly from ((replicate n (p.place - 1) ++ range_with_len p.place (length p.bytes)) ++ flat_map places_of parts)) (sym uncut.0)
-    (earlier_strictly from p.place _ behind.0 run)
+    (earlier_strictly from p.place _ after.0 run)
 
 front_strictly : (n : ℕ) (places : List ℕ) (from : ℕ) → RiseStrictly from places → RiseStrictly from (take n places)
 front_strictly zero places from rise = tt
 front_strictly (suc n) [] from rise = tt
-front_strictly (suc n) (place ∷ places) from rise = (rise.0, front_strictly n places (suc place) rise.1)
+front_strictly (suc n) (offset ∷ places) from rise = (rise.0, front_strictly n places (suc offset) rise.1)
 
 -- a block whose content is inlines
 abbrev pub HasInlines : BlockKind → Type 0

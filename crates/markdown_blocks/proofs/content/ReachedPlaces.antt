@@ -8,19 +8,21 @@ use Rattle.std.specs.List.{prefix_len}
 use Rattle.std.proofs.lemmas.List.{get_or-drop, length-drop, length-take}
 use Rattle.std.proofs.lemmas.List.Sums.{prefix_len-le-length}
 use Rattle.markdown_scanners_tree.specs.Ascii.{colon, greater_than_sign, left_bracket}
-use Rattle.markdown_scanners_tree.specs.Bytes.{begins_with, is_blank, is_digit}
+use Rattle.markdown_scanners_tree.specs.Bytes.{begins_with, is_digit}
 use Rattle.markdown_scanners_tree.specs.line.ItemRules.{start_of}
-use Rattle.markdown_scanners_tree.specs.line.Outcome.{after_all_space, definition_outcome, further_spaces, item_outcome}
-use Rattle.markdown_scanners_tree.specs.line.Outcome.{item_outcome_by, space_or_end_follows}
+use Rattle.markdown_scanners_tree.specs.line.Outcome.{after_all_space, definition_outcome}
+use Rattle.markdown_scanners_tree.specs.line.Outcome.{space_or_end_follows}
 use Rattle.markdown_scanners_tree.specs.line.PlainStep.{definition_spaces}
 use Rattle.markdown_scanners_tree.specs.line.State.{LineState, after_space, bytes_further, leading_spaces, rest_of, space_within, unscanned}
 use Rattle.markdown_scanners_tree.specs.scanners.Breaks.{is_thematic_break}
 use Rattle.markdown_scanners_tree.specs.scanners.list_items.ListMarker.{Marker, bullet_marker, is_bullet}
 use Rattle.markdown_scanners_tree.specs.scanners.list_items.ListMarker.{is_delimiter, list_marker, ordered_marker_of}
 use Rattle.markdown_scanners_tree.proofs.line.ColumnLemmas.{bool_cases}
+use Rattle.markdown_blocks.specs.blank_lines.BlankLines.{is_blank}
 use Rattle.markdown_blocks.specs.containers.Containers.{all_extensions, begun_at, behind, either_begun, extension_of}
 use Rattle.markdown_blocks.specs.containers.Containers.{footnote_by, footnote_of, go_on, item_of, term_definition_by, term_definition_of, within, within_width}
 use Rattle.markdown_blocks.specs.containers.Footnotes.{circumflex, closes_label, footnote_label, is_label_byte}
+use Rattle.markdown_blocks.specs.containers.ItemMarkers.{further_spaces, item_outcome, item_outcome_by}
 use Rattle.markdown_blocks.specs.content.Parts.{after_containers, after_indent, after_markers, after_width, first_place, later_place, text_place}
 use Rattle.markdown_blocks.specs.declared.blocks.BlockKind.{BlockKind}
 use Rattle.markdown_blocks.specs.declared.blocks.BlockKind.TheVariants.{Blank, Break, Heading, Setext, Indented}

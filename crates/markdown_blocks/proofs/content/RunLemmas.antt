@@ -23,7 +23,7 @@ run_more lines bytes begin end low stands =
 
 -- a part without columns
 pub plain_part : (p : Part) → p.columns ≡ 0 → text_of p ≡ p.bytes
-plain_part p none = ap (λ n. replicate n space ++ p.bytes) none
+plain_part p none = ap (λ n. replicate n p.filler ++ p.bytes) none
 
 pub range_on : (k m n : ℕ) → range_with_len k m ++ range_with_len (k + m) n ≡ range_with_len k (m + n)
 range_on k zero n =
@@ -111,7 +111,7 @@ places_next all left rest p begin end none at low is so_far =
 
 -- a run as one part
 abbrev pub run_part : List ℕ → ℕ → ℕ → Part
-run_part lines begin end = record { columns = 0; place = begin; bytes = take (end - begin) (drop begin lines) }
+run_part lines begin end = record { columns = 0; filler = space; place = begin; bytes = take (end - begin) (drop begin lines) }
 
 run_size : (lines : List ℕ) (begin end : ℕ) → begin ≤ end → end ≤ length lines → length (take (end - begin) (drop begin lines)) ≡ end - begin
 run_size lines begin end low within =

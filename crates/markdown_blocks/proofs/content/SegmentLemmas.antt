@@ -1,10 +1,10 @@
 -- Segments, and the places of bytes in them.
-use Rattle.std.proofs.Common.{ℕ, zero, suc, true, false, ◌+◌, ◌-◌, ◌^◌, ◌<◌, ◌≤◌, ◌≡◌, nat_le, List, [], ◌∷◌, ◌++◌, length, take, drop, map, replicate, get_or}
+use Rattle.std.proofs.Common.{ℕ, zero, suc, true, ◌+◌, ◌-◌, ◌^◌, ◌<◌, ◌≤◌, ◌≡◌, List, [], ◌∷◌, ◌++◌, length, take, drop, map, replicate, get_or}
 use Rattle.std.proofs.Common.{refl, sym, ap, ◌∙◌, subst, inl, inr, arith, length-append}
 use Rattle.std.specs.List.{AllByRecursion, flat_map, range_with_len}
 use Rattle.std.proofs.lemmas.Bool.{eqb-true, le-leb, lt-leb, lt-ltb, le-ltb}
 use Rattle.std.proofs.lemmas.Bool.Decides.{leb_tells}
-use Rattle.std.specs.Prelude.{slice_index, ◌==◌, ◌⊎◌}
+use Rattle.std.specs.Prelude.{slice_index, ◌==◌}
 use Rattle.std.proofs.lemmas.List.{drop-drop, drop_all, drop_more, get_or_default, length-replicate, length-take-le, map-append}
 use Rattle.std.proofs.lemmas.List.FromFn.{get_or-map-range_with_len, take-map-range_with_len}
 use Rattle.markdown_scanners_tree.specs.Ascii.{space}
@@ -124,7 +124,7 @@ abbrev segment_of : ℕ → Part → Segment
 segment_of offset p = record { offset = offset; columns = p.columns; place = p.place }
 
 text_size : (p : Part) → length (text_of p) ≡ p.columns + length p.bytes
-text_size p = length-append (replicate p.columns space) p.bytes ∙ ap (λ n. n + length p.bytes) (length-replicate p.columns space)
+text_size p = length-append (replicate p.columns p.filler) p.bytes ∙ ap (λ n. n + length p.bytes) (length-replicate p.columns p.filler)
 
 in_columns : (k i : ℕ) (p : Part) → k ≤ i → i < k + p.columns → place_in (segment_of k p) i ≡ p.place - 1
 in_columns k i p low high = rw (lt-ltb (i - k) p.columns (omega arith)) refl
@@ -305,7 +305,7 @@ lent_seen run place n parts low h =
     let counts : n ≤ length (flat_map text_of parts) = omega (arith, low, ap length h.0) in
     let alone : (k : ℕ) → map (place_at (start place) []) (range_with_len 0 k) ≡ range_with_len place k =
     λ k. range_same (place_at (start place) []) (λ i. place + (i - 0)) 0 k (λ i a b.
-    in_bytes 0 i (record { columns = 0; place = place; bytes = [] }) (omega arith)
+    in_bytes 0 i (record { columns = 0; filler = space; place = place; bytes = [] }) (omega arith)
     ∙ ap (λ m. place + m) (omega arith)) ∙ range_moved place 0 k in
     ap (λ t. record { text = t; places = map (place_at (start place) []) (range_with_len 0 (length (take n run))) }) (ap (take n) (sym h.0))
     ∙ ap (λ m. record { text = take n (flat_map text_of parts); places = map (place_at (start place) []) (range_with_len 0 m) }) size

@@ -6,7 +6,7 @@ use Rattle.std.specs.List.{AllByRecursion, flat_map}
 use Rattle.std.specs.Str.{IsUtf8, IsCharBoundary}
 use Rattle.std.proofs.lemmas.List.{take_all}
 use Rattle.std.proofs.lemmas.Str.{IsCharBoundary-start, IsUtf8-append, IsUtf8-drop, IsUtf8-from_ascii, IsUtf8-nil}
-use Rattle.markdown_scanners_tree.specs.Ascii.{number_sign, space, tab}
+use Rattle.markdown_scanners_tree.specs.Ascii.{carriage_return, line_feed, number_sign, space, tab}
 use Rattle.markdown_scanners_tree.specs.Bytes.{line_head}
 use Rattle.markdown_scanners_tree.specs.line.Outcome.{after_all_space}
 use Rattle.markdown_scanners_tree.specs.line.State.{LineState, after_space, space_within, unscanned}
@@ -15,7 +15,7 @@ use Rattle.markdown_scanners_tree.proofs.ForCallers.{cut_behind_ascii}
 use Rattle.markdown_blocks.specs.content.Bytes.{AreBytesOf}
 use Rattle.markdown_blocks.specs.content.Content.{IsContent, Placed, content_len, joined, text_of}
 use Rattle.markdown_blocks.specs.content.Parts.{AreInner, AreParts, ArePartsAt, Part, first_place}
-use Rattle.markdown_blocks.specs.content.Parts.{heading_part, later_parts, later_place, part_at, text_place}
+use Rattle.markdown_blocks.specs.content.Parts.{heading_part, later_parts, later_place, moved, part_at, text_place, written}
 use Rattle.markdown_blocks.specs.declared.blocks.BlockKind.{BlockKind}
 use Rattle.markdown_blocks.specs.declared.blocks.BlockKind.TheVariants.{Blank, Break, Heading, Setext, Indented}
 use Rattle.markdown_blocks.specs.declared.blocks.BlockKind.TheVariants.{Fenced, Html, Table, Definition, Paragraph}
@@ -23,14 +23,15 @@ use Rattle.markdown_blocks.specs.declared.containers.Container.{Container}
 use Rattle.markdown_blocks.specs.info.Info.{behind_fence, without_end, without_front}
 use Rattle.markdown_blocks.proofs.content.AsciiCuts.{closing_utf8, end_utf8, fence_utf8, front_utf8, head_utf8, words_utf8}
 use Rattle.markdown_blocks.proofs.content.ByteLemmas.{inner_first}
+use Rattle.markdown_blocks.proofs.content.EndingLemmas.{all_both, all_first, written_all}
 use Rattle.markdown_blocks.proofs.content.ReachedLemmas.{Reached, after_all, after_some}
 use Rattle.markdown_blocks.proofs.content.ReachedPlaces.{first_reached, later_reached, text_reached}
 use Rattle.markdown_blocks.proofs.taken.LineCuts.{lines_utf8}
 
-spaces_ascii : (n i : ℕ) → get_or (replicate n space) i 0 < 128
-spaces_ascii zero i = omega arith
-spaces_ascii (suc n) zero = omega arith
-spaces_ascii (suc n) (suc i) = spaces_ascii n i
+filler_ascii : (filler : ℕ) → filler < 128 → (n i : ℕ) → get_or (replicate n filler) i 0 < 128
+filler_ascii filler low zero i = omega arith
+filler_ascii filler low (suc n) zero = low
+filler_ascii filler low (suc n) (suc i) = filler_ascii filler low n i
 
 -- ---- parts of a line
 
@@ -54,22 +55,25 @@ module _ (line : List ℕ) (utf8 : IsUtf8 line) where
       closing_utf8 (without_end (line_head after))
       (end_utf8 (line_head after) (head_utf8 after (front_utf8 (behind_fence number_sign text) (fence_utf8 number_sign (omega arith) text whole))))
 
--- the bytes of each part are UTF-8
+-- a byte of ASCII fills each part, and its bytes are UTF-8
+abbrev pub IsUtf8Part : Part → Type 0
+IsUtf8Part p = (p.filler < 128) × IsUtf8 p.bytes
+
 abbrev pub AreUtf8 : List Part → Type 0
-AreUtf8 parts = AllByRecursion (λ p. IsUtf8 p.bytes) parts
+AreUtf8 parts = AllByRecursion IsUtf8Part parts
+
+written_are : (kind : BlockKind) (p : Part) → IsUtf8Part p → AreUtf8 (written kind p)
+written_are kind p is = written_all IsUtf8Part kind p is (λ returns. ((is.0, head_utf8 p.bytes is.1), (omega arith, IsUtf8-nil)))
 
 later_are : (kind : BlockKind) (outer : List Container) (indent before : ℕ) (lines : List (List ℕ)) → AllByRecursion IsUtf8 lines
     → AreUtf8 (later_parts kind outer indent before lines)
 later_are kind outer indent before [] all = tt
-later_are kind outer indent before (line ∷ lines) all = (
-  rest_utf8 line all.0 (text_place kind indent (later_place kind outer line))
-      (text_reached line kind indent (later_place kind outer line) (later_reached line kind outer)),
-  later_are kind outer indent (before + length line) lines all.1,
-)
-
-first_ones : (lines rest : List (List ℕ)) → AllByRecursion IsUtf8 (lines ++ rest) → AllByRecursion IsUtf8 lines
-first_ones [] rest all = tt
-first_ones (line ∷ lines) rest all = (all.0, first_ones lines rest all.1)
+later_are kind outer indent before (line ∷ lines) all =
+    let s = text_place kind indent (later_place kind outer line) in
+    let r = text_reached line kind indent (later_place kind outer line) (later_reached line kind outer) in
+    all_both IsUtf8Part (written kind (moved before (part_at s))) (later_parts kind outer indent (before + length line) lines)
+    (written_are kind (moved before (part_at s)) (omega arith, rest_utf8 line all.0 s r))
+    (later_are kind outer indent (before + length line) lines all.1)
 
 -- ---- the parts of a block
 
@@ -78,13 +82,16 @@ module _ (line : List ℕ) (later : List (List ℕ)) (outer : List Container) (u
       → AreUtf8 (later_parts kind outer indent (length line) inner)
   inner_are kind indent inner are =
       let front = inner_first kind outer later inner are in
-      later_are kind outer indent (length line) inner (first_ones inner front.0 (subst (AllByRecursion IsUtf8) front.1 all))
+      later_are kind outer indent (length line) inner (all_first IsUtf8 inner front.0 (subst (AllByRecursion IsUtf8) front.1 all))
 
   text_are : (kind : BlockKind) (s : LineState) → Reached line s → (parts : List Part)
       → (inner : List (List ℕ)) × AreInner kind outer later inner
-      × (parts ≡ part_at (text_place kind 0 s) ∷ later_parts kind outer 0 (length line) inner) → AreUtf8 parts
+      × (parts ≡ written kind (part_at (text_place kind 0 s)) ++ later_parts kind outer 0 (length line) inner) → AreUtf8 parts
   text_are kind s r parts (inner, are, is) =
-      subst AreUtf8 (sym is) (rest_utf8 line utf8 (text_place kind 0 s) (text_reached line kind 0 s r), inner_are kind 0 inner are)
+      let p = part_at (text_place kind 0 s) in
+      subst AreUtf8 (sym is)
+      (all_both IsUtf8Part (written kind p) (later_parts kind outer 0 (length line) inner)
+      (written_are kind p (omega arith, rest_utf8 line utf8 (text_place kind 0 s) (text_reached line kind 0 s r))) (inner_are kind 0 inner are))
 
   none_are : (parts : List Part) → parts ≡ [] → AreUtf8 parts
   none_are parts none = subst AreUtf8 (sym none) tt
@@ -94,7 +101,7 @@ module _ (line : List ℕ) (later : List (List ℕ)) (outer : List Container) (u
   parts_are Blank s r parts none = none_are parts none
   parts_are Break s r parts none = none_are parts none
   parts_are (Table columns) s r parts none = none_are parts none
-  parts_are (Heading level) s r parts is = subst AreUtf8 (sym is) (heading_utf8 line utf8 s r, tt)
+  parts_are (Heading level) s r parts is = subst AreUtf8 (sym is) ((omega arith, heading_utf8 line utf8 s r), tt)
   parts_are (Fenced count byte) s r parts (inner, are, is) =
       subst AreUtf8 (sym is) (inner_are (Fenced count byte) (space_within 4 s) inner are)
   parts_are (Setext level) s r parts are = text_are (Setext level) s r parts are
@@ -111,8 +118,10 @@ block_parts_are kind outer kept (line ∷ later) parts all are =
 
 -- ---- the content
 
-text_utf8 : (p : Part) → IsUtf8 p.bytes → IsUtf8 (text_of p)
-text_utf8 p utf8 = IsUtf8-append (replicate p.columns space) p.bytes (IsUtf8-from_ascii (replicate p.columns space) (spaces_ascii p.columns)) utf8
+text_utf8 : (p : Part) → IsUtf8Part p → IsUtf8 (text_of p)
+text_utf8 p is =
+    let columns = replicate p.columns p.filler in
+    IsUtf8-append columns p.bytes (IsUtf8-from_ascii columns (filler_ascii p.filler is.0 p.columns)) is.1
 
 pub joined_utf8 : (parts : List Part) → AreUtf8 parts → IsUtf8 (flat_map text_of parts)
 joined_utf8 [] all = IsUtf8-nil
@@ -146,14 +155,21 @@ pub content_cuts : (lines : List ℕ) (content : Placed) → AreBytesOf lines co
     → IsCharBoundary content.text offset ↔ IsCharBoundary lines (slice_index content.places offset)
 content_cuts lines content bytes offset inside = by (slice_index content.places offset) (bytes offset inside).0 (bytes offset inside).1
   where
+    ascii : (place : ℕ) → place < length lines → slice_index content.text offset < 128 → slice_index lines place < 128
+        → IsCharBoundary content.text offset ↔ IsCharBoundary lines place
+    ascii place within one other = (
+      λ cut. (omega (arith, within), λ low high. absurd (omega (arith, other, high))),
+      λ cut. (omega (arith, inside), λ low high. absurd (omega (arith, one, high))),
+    )
+
     by : (place : ℕ) → place < length lines
-        → (slice_index content.text offset ≡ slice_index lines place) ⊎ ((slice_index content.text offset ≡ space) × (slice_index lines place ≡ tab))
+        → (slice_index content.text offset ≡ slice_index lines place)
+        ⊎ (((slice_index content.text offset ≡ space) × (slice_index lines place ≡ tab))
+        ⊎ ((slice_index content.text offset ≡ line_feed) × (slice_index lines place ≡ carriage_return)))
         → IsCharBoundary content.text offset ↔ IsCharBoundary lines place
     by place within (inl same) = (
       λ cut. (omega (arith, within), λ low high. subst (λ b. 192 ≤ b) same (cut.1 inside (subst (λ b. 128 ≤ b) (sym same) high))),
       λ cut. (omega (arith, inside), λ low high. subst (λ b. 192 ≤ b) (sym same) (cut.1 within (subst (λ b. 128 ≤ b) same high))),
     )
-    by place within (inr (one, other)) = (
-      λ cut. (omega (arith, within), λ low high. absurd (omega (arith, other, high))),
-      λ cut. (omega (arith, inside), λ low high. absurd (omega (arith, one, high))),
-    )
+    by place within (inr (inl (one, other))) = ascii place within (omega (arith, one)) (omega (arith, other))
+    by place within (inr (inr (one, other))) = ascii place within (omega (arith, one)) (omega (arith, other))

@@ -6,6 +6,7 @@ use Rattle.std.specs.List.{concat}
 use Rattle.std.specs.Option.{option_map}
 use Rattle.std.proofs.lemmas.List.{drop_at, length-take}
 use Rattle.markdown_scanners_tree.specs.scanners.TextLines.{lines_of}
+use Rattle.markdown_blocks.specs.byte_order_mark.ByteOrderMark.{text_start}
 use Rattle.markdown_blocks.proofs.blocks.OneText.{one_page}
 use Rattle.markdown_blocks.proofs.block_events.GivenLemmas.{none_given}
 use Rattle.markdown_blocks.proofs.events.OneEvents.{one_list_of_blocks}
@@ -260,5 +261,6 @@ pub one_list_of_events : (asked : BlockExtensions) (page : List ℕ) (events oth
     → IsEventsOf asked page others → events ≡ others
 one_list_of_events asked page events others h h' =
     let pieces = one_page (root asked) h.0 h'.0 (h.2.joined ∙ sym h'.2.joined) h.2.each h'.2.each in
-    let blocks = one_list_of_blocks [] 0 0 h'.0 h.1 h'.1 (subst (λ ps. AreEvents [] 0 0 ps h.1) pieces h.3) h'.3 in
+    let start = text_start page in
+    let blocks = one_list_of_blocks [] 0 start h'.0 h.1 h'.1 (subst (λ ps. AreEvents [] 0 start ps h.1) pieces h.3) h'.3 in
     h.4 ∙ ap (λ es. es ++ replicate (open_after 0 h.0) ends) blocks ∙ ap (λ ps. h'.1 ++ replicate (open_after 0 ps) ends) pieces ∙ sym h'.4

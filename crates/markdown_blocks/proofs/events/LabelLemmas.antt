@@ -8,20 +8,23 @@ use Rattle.std.proofs.lemmas.List.{drop-append-le, drop-drop, drop_all}
 use Rattle.std.proofs.lemmas.List.Folds.{concat-append}
 use Rattle.std.proofs.Math.Seq.{drop-append_seam}
 use Rattle.markdown_scanners_tree.specs.Ascii.{colon, greater_than_sign, left_bracket}
-use Rattle.markdown_scanners_tree.specs.Bytes.{begins_with, is_blank}
+use Rattle.markdown_scanners_tree.specs.Bytes.{begins_with}
 use Rattle.markdown_scanners_tree.specs.line.ItemRules.{start_of}
-use Rattle.markdown_scanners_tree.specs.line.Outcome.{after_quote, definition_outcome, item_outcome, item_outcome_after}
-use Rattle.markdown_scanners_tree.specs.line.Outcome.{item_outcome_by, not_found, space_or_end_follows}
+use Rattle.markdown_scanners_tree.specs.line.Outcome.{after_quote, definition_outcome}
+use Rattle.markdown_scanners_tree.specs.line.Outcome.{not_found, space_or_end_follows}
 use Rattle.markdown_scanners_tree.specs.line.PlainStep.{definition_spaces}
 use Rattle.markdown_scanners_tree.specs.line.State.{LineState, unscanned, rest_of, leading_spaces, bytes_further, space_within, after_space}
 use Rattle.markdown_scanners_tree.specs.scanners.list_items.ListMarker.{Marker, list_marker}
 use Rattle.markdown_scanners_tree.proofs.ForCallers.{lines_joined}
+use Rattle.markdown_blocks.specs.byte_order_mark.ByteOrderMark.{text_of, text_start}
+use Rattle.markdown_blocks.specs.blank_lines.BlankLines.{is_blank}
 use Rattle.markdown_blocks.specs.blocks.Pages.{Piece, AreBlocks, lines_in, open_behind, root}
 use Rattle.markdown_blocks.specs.containers.Containers.{Between, after_marker, all_extensions, asked_between, begun_at}
 use Rattle.markdown_blocks.specs.containers.Containers.{behind, behind_quote, either_begun, extension_of, footnote_by, footnote_of, term_definition_by}
 use Rattle.markdown_blocks.specs.containers.Containers.{term_definition_of}
 use Rattle.markdown_blocks.specs.containers.Containers.{go_on, item_of, marker_place, within, within_quote, within_width, without_terms, Opens}
 use Rattle.markdown_blocks.specs.containers.Footnotes.{behind_footnote, circumflex, closes_label, footnote_label, is_label_byte}
+use Rattle.markdown_blocks.specs.containers.ItemMarkers.{item_outcome, item_outcome_after, item_outcome_by}
 use Rattle.markdown_blocks.specs.declared.containers.BlockExtensions.{BlockExtensions}
 use Rattle.markdown_blocks.specs.declared.containers.Container.{Container}
 use Rattle.markdown_blocks.specs.declared.containers.Container.TheVariants.{Quote, Item, Footnote, TermDefinition}
@@ -275,6 +278,6 @@ pieces_have page (piece ∷ later) before line start events each are stands =
 -- On each page a label stands where a footnote definition begins, and a colon where the definition of a term does.
 pub extensions_are_marked : (asked : BlockExtensions) (page : List ℕ) (events : List Event) → IsEventsOf asked page events → AreMarked page events
 extensions_are_marked asked page events h =
-    let whole : page ≡ concat (lines_in h.0) = sym (lines_joined page) ∙ ap concat (sym h.2.joined) in
+    let whole : text_of page ≡ concat (lines_in h.0) = sym (lines_joined (text_of page)) ∙ ap concat (sym h.2.joined) in
     subst (AreMarked page) (sym h.4) (both_have page h.1 (replicate (open_after 0 h.0) ends)
-    (pieces_have page h.0 (root asked) 0 0 h.1 h.2.each h.3 whole) (ends_have page (open_after 0 h.0)))
+    (pieces_have page h.0 (root asked) 0 (text_start page) h.1 h.2.each h.3 whole) (ends_have page (open_after 0 h.0)))

@@ -5,6 +5,7 @@ use Rattle.std.specs.List.{concat}
 use Rattle.std.proofs.lemmas.List.{drop-drop, map-append}
 use Rattle.markdown_scanners_tree.proofs.ForCallers.{one_reference_definition}
 use Rattle.markdown_scanners_tree.specs.declared.scanners.reference_definitions.ReferenceDefinition.{ReferenceDefinition}
+use Rattle.markdown_blocks.specs.byte_order_mark.ByteOrderMark.{text_start}
 use Rattle.markdown_blocks.specs.blocks.Pages.{Piece, root}
 use Rattle.markdown_blocks.specs.containers.Containers.{Between}
 use Rattle.markdown_blocks.specs.declared.containers.BlockExtensions.{BlockExtensions}
@@ -48,7 +49,7 @@ page_shown asked page shown (pieces, blocks, is, are, all) = (
   pieces,
   events_in blocks,
   is,
-  pieces_shown [] 0 0 pieces blocks are,
+  pieces_shown [] 0 (text_start page) pieces blocks are,
   ap events_in all ∙ map-append (λ (s : Shown). s.event) blocks (replicate (open_after 0 pieces) end_shown)
       ∙ ap (λ es. events_in blocks ++ es) (ends_in (open_after 0 pieces)),
 )
@@ -128,6 +129,7 @@ pub one_list_of_shown : (asked : BlockExtensions) (page : List ℕ) (shown other
     → IsShownOf asked page others → shown ≡ others
 one_list_of_shown asked page shown others (pieces, blocks, is, are, all) (pieces', blocks', is', are', all') =
     let same = one_page (root asked) pieces pieces' (is.joined ∙ sym is'.joined) is.each is'.each in
-    let front = one_shown [] 0 0 pieces' blocks blocks' (subst (λ ps. AreShownOf [] 0 0 ps blocks) same are) are' in
+    let start = text_start page in
+    let front = one_shown [] 0 start pieces' blocks blocks' (subst (λ ps. AreShownOf [] 0 start ps blocks) same are) are' in
     all ∙ ap (λ ss. ss ++ replicate (open_after 0 pieces) end_shown) front
     ∙ ap (λ ps. blocks' ++ replicate (open_after 0 ps) end_shown) same ∙ sym all'

@@ -11,21 +11,33 @@ use Rattle.markdown_scanners_tree.specs.line.Outcome.{Outcome, not_found, task_b
 use Rattle.markdown_scanners_tree.specs.line.State.{LineState, after_space, bytes_further, unscanned}
 use Rattle.markdown_blocks.specs.declared.first_blocks.Task.{Task}
 use Rattle.markdown_blocks.specs.events.Events.{LeafBlock}
-use Rattle.markdown_blocks.specs.first_blocks.Tasks.{task_of}
+use Rattle.markdown_blocks.specs.first_blocks.Tasks.{is_task_text, scanned_task, task_of}
 
-module _ (block : LeafBlock) (s : LineState) (here : s ≡ start_of block.text) where
+module _ (block : LeafBlock) (s : LineState) (here : s ≡ start_of block.text) (goes_on : is_task_text block.text ≡ true) where
   abbrev task_with : ℕ → Bool → Task
   task_with len checked = record { is_checked = checked; place = block.place; len = len }
 
   pub task_none : None ≡ (task_outcome s).answer → None ≡ task_of block
-  task_none none =
-      ap (option_map (task_with (task_outcome (start_of block.text)).state.place)) (none ∙ ap (λ s. (task_outcome s).answer) here)
+  task_none none = rw goes_on
+      (ap (option_map (task_with (task_outcome (start_of block.text)).state.place)) (none ∙ ap (λ s. (task_outcome s).answer) here))
 
   pub task_some : (checked : Bool) (len : ℕ) → Some checked ≡ (task_outcome s).answer → len ≡ (task_outcome s).state.place
       → Some (record { is_checked = checked; place = block.place; len = len }) ≡ task_of block
-  task_some checked len found place =
-      ap (λ l. Some (task_with l checked)) (place ∙ ap (λ s. (task_outcome s).state.place) here)
-      ∙ ap (option_map (task_with (task_outcome (start_of block.text)).state.place)) (found ∙ ap (λ s. (task_outcome s).answer) here)
+  task_some checked len found place = rw goes_on
+      (ap (λ l. Some (task_with l checked)) (place ∙ ap (λ s. (task_outcome s).state.place) here)
+      ∙ ap (option_map (task_with (task_outcome (start_of block.text)).state.place)) (found ∙ ap (λ s. (task_outcome s).answer) here))
+
+-- where its line does not go on after it, there is none
+pub task_alone : (block : LeafBlock) → is_task_text block.text ≡ false → None ≡ task_of block
+task_alone block ends = rw ends refl
+
+-- a task is what the scanner finds
+task_scanned : (block : LeafBlock) (task : Task) → task_of block ≡ Some task → scanned_task block ≡ Some task
+task_scanned block task is = by (is_task_text block.text) refl
+  where
+    by : (goes_on : Bool) → is_task_text block.text ≡ goes_on → scanned_task block ≡ Some task
+    by true goes_on = rw goes_on at is
+    by false goes_on = absurd (let none = rw goes_on at is in cc)
 
 -- ---- a marker stands in the text
 
@@ -77,7 +89,7 @@ module _ (block : LeafBlock) where
 
   -- The task list marker of a block ends with a right bracket.
   pub task_bracket : (task : Task) → task_of block ≡ Some task → (1 ≤ task.len) × (get_or block.text (task.len - 1) 0 ≡ right_bracket)
-  task_bracket task is = bracket_by task (task_box (unscanned behind_space)) refl is
+  task_bracket task is = bracket_by task (task_box (unscanned behind_space)) refl (task_scanned block task is)
 
   by_box : (task : Task) (box : Option Bool) → box ≡ task_box (unscanned behind_space) → task_by box ≡ Some task
       → (task.place ≡ block.place) × (task.len ≤ length block.text)
@@ -91,4 +103,4 @@ module _ (block : LeafBlock) where
 
   -- The task list marker of a block stands at the front of its text.
   pub task_within : (task : Task) → task_of block ≡ Some task → (task.place ≡ block.place) × (task.len ≤ length block.text)
-  task_within task is = by_box task (task_box (unscanned behind_space)) refl is
+  task_within task is = by_box task (task_box (unscanned behind_space)) refl (task_scanned block task is)

@@ -5,15 +5,17 @@ use Rattle.std.specs.Prelude.{if◌then◌else◌, nat_lt}
 use Rattle.std.proofs.lemmas.Bool.{cases_lt, lt-ltb}
 use Rattle.std.proofs.lemmas.List.{drop-drop}
 use Rattle.markdown_scanners_tree.specs.Ascii.{space, greater_than_sign}
-use Rattle.markdown_scanners_tree.specs.Bytes.{begins_with, is_blank, is_at_line_end, is_line_ending}
+use Rattle.markdown_scanners_tree.specs.Bytes.{begins_with, is_at_line_end, is_line_ending}
 use Rattle.markdown_scanners_tree.specs.Columns.{column_past, bytes_below, written_out}
-use Rattle.markdown_scanners_tree.specs.line.Outcome.{further_spaces, space_or_end_follows}
+use Rattle.markdown_scanners_tree.specs.line.Outcome.{space_or_end_follows}
 use Rattle.markdown_scanners_tree.specs.line.PlainStep.{marker_spaces}
 use Rattle.markdown_scanners_tree.specs.line.State.{LineState, unscanned, rest_of, leading_spaces}
 use Rattle.markdown_scanners_tree.specs.line.State.{bytes_further, bytes_for, columns_further, space_within, after_space}
 use Rattle.markdown_scanners_tree.proofs.PrefixLemmas.{both_true, list_all-drop}
 use Rattle.markdown_scanners_tree.proofs.line.ColumnLemmas.{bool_cases, below-cons, none_below, written-cons, written-end}
+use Rattle.markdown_blocks.specs.blank_lines.BlankLines.{is_blank}
 use Rattle.markdown_blocks.specs.containers.Containers.{Rest, rest_at}
+use Rattle.markdown_blocks.specs.containers.ItemMarkers.{further_spaces}
 use Rattle.markdown_blocks.specs.laws.Held.{has_no_tab}
 
 -- bytes with no tab are written out as they are, each of one column

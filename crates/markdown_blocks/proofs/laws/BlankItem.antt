@@ -4,13 +4,15 @@ use Rattle.std.proofs.Common.{take, drop, refl, sym, ap, ◌∙◌, subst, arith
 use Rattle.std.specs.Prelude.{nat_lt, IsTrue}
 use Rattle.std.specs.List.{list_all, AllZip}
 use Rattle.std.proofs.lemmas.Bool.Decides.{nat_tests}
-use Rattle.markdown_scanners_tree.specs.Bytes.{begins_with, is_at_line_end, is_blank, is_line_ending, is_space_or_tab}
-use Rattle.markdown_scanners_tree.specs.line.Outcome.{further_spaces, space_or_end_follows}
+use Rattle.markdown_scanners_tree.specs.Bytes.{begins_with, is_at_line_end, is_line_ending, is_space_or_tab}
+use Rattle.markdown_scanners_tree.specs.line.Outcome.{space_or_end_follows}
 use Rattle.markdown_scanners_tree.specs.line.State.{LineState, unscanned, rest_of, leading_spaces, after_space}
 use Rattle.markdown_scanners_tree.specs.scanners.Breaks.{is_thematic_break}
 use Rattle.markdown_scanners_tree.proofs.PrefixLemmas.{both_true, list_all-implies}
-use Rattle.markdown_scanners_tree.proofs.line.ItemSpaces.{end-blank, or_true}
+use Rattle.markdown_scanners_tree.proofs.line.ItemSpaces.{or_true}
+use Rattle.markdown_blocks.specs.blank_lines.BlankLines.{is_blank}
 use Rattle.markdown_blocks.specs.containers.Containers.{Rest, asked_first, behind, Opens, rest_at, rest_in, settled_last, without_terms}
+use Rattle.markdown_blocks.specs.containers.ItemMarkers.{further_spaces}
 use Rattle.markdown_blocks.specs.declared.blocks.BlockKind.{BlockKind}
 use Rattle.markdown_blocks.specs.declared.blocks.BlockKind.TheVariants.{Blank, Paragraph}
 use Rattle.markdown_blocks.specs.declared.containers.BlockExtensions.{BlockExtensions}
@@ -44,7 +46,7 @@ empty_line (b ∷ bs) all =
     record {
       ends = here;
       plain = other;
-      blank = end-blank (b ∷ bs) here;
+      blank = rw here refl;
       no_tab = list_all-implies is_line_ending (λ c. not (c == 9)) no_tab_ends (b ∷ bs) all;
     }
 

@@ -9,6 +9,8 @@ use Rattle.std.proofs.lemmas.Str.{IsCharBoundary-from_drop, IsCharBoundary-from_
 use Rattle.markdown_scanners_tree.specs.line.State.{LineState, after_space}
 use Rattle.markdown_scanners_tree.specs.scanners.TextLines.{lines_of}
 use Rattle.markdown_scanners_tree.proofs.ForCallers.{cut_behind_ascii, lines_joined}
+use Rattle.markdown_blocks.specs.byte_order_mark.ByteOrderMark.{text_start}
+use Rattle.markdown_blocks.proofs.byte_order_mark.MarkLemmas.{text_utf8, text_within}
 use Rattle.markdown_blocks.specs.blocks.Pages.{Piece, AreBlocks, lines_in, open_behind, root}
 use Rattle.markdown_blocks.specs.containers.Containers.{Between, Opens, Rest, after_marker, asked_between, behind, marker_place}
 use Rattle.markdown_blocks.specs.containers.Containers.{rest_at, without_terms}
@@ -207,6 +209,6 @@ pub page_cut_out : (asked : BlockExtensions) (page : List ℕ) (events : List Ev
     → AreCutOut page events
 page_cut_out asked page events (pieces, blocks, is_page, are, is) utf8 =
     subst (AreCutOut page) (sym is)
-    (pieces_cut page pieces (root asked) 0 0 blocks (replicate (open_after 0 pieces) ends) is_page.each are
-    (record { within = omega arith; stands = sym is_page.joined ∙ sym (append-nil (lines_in pieces)); utf8 = utf8 })
+    (pieces_cut page pieces (root asked) 0 (text_start page) blocks (replicate (open_after 0 pieces) ends) is_page.each are
+    (record { within = text_within page; stands = sym is_page.joined ∙ sym (append-nil (lines_in pieces)); utf8 = text_utf8 page utf8 })
     (all_ended page (open_after 0 pieces)))

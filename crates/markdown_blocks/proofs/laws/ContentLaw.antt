@@ -6,19 +6,21 @@ use Rattle.std.specs.List.{concat, flat_map, prefix_len}
 use Rattle.std.proofs.lemmas.List.{length-append, length-drop, length-map, length-take, map-append, take-append-drop, take-take, take_all}
 use Rattle.std.proofs.Math.Seq.{take-append_seam}
 use Rattle.markdown_scanners_tree.specs.Ascii.{number_sign}
-use Rattle.markdown_scanners_tree.specs.Bytes.{is_blank, is_space_or_tab}
+use Rattle.markdown_scanners_tree.specs.Bytes.{is_space_or_tab}
 use Rattle.markdown_scanners_tree.specs.declared.scanners.reference_definitions.ReferenceDefinition.{ReferenceDefinition}
 use Rattle.markdown_scanners_tree.specs.line.ItemRules.{start_of}
 use Rattle.markdown_scanners_tree.specs.line.Outcome.{after_all_space}
 use Rattle.markdown_scanners_tree.specs.line.State.{LineState, after_space, space_within, unscanned}
 use Rattle.markdown_scanners_tree.specs.scanners.TextLines.{lines_of}
 use Rattle.markdown_scanners_tree.proofs.ForCallers.{all_space_forward}
+use Rattle.markdown_blocks.specs.byte_order_mark.ByteOrderMark.{text_start}
+use Rattle.markdown_blocks.specs.blank_lines.BlankLines.{is_blank}
 use Rattle.markdown_blocks.specs.blocks.Leaves.{IsBlank, IsLeaf}
 use Rattle.markdown_blocks.specs.blocks.Pages.{IsPiece, Piece, AreBlocks, lines_in, open_behind, outer_of, root}
 use Rattle.markdown_blocks.specs.containers.Containers.{Between, Opens, Outer, Rest, after_marker, asked_between, behind, marker_place}
 use Rattle.markdown_blocks.specs.containers.Containers.{rest_at, rest_in, settled, without_terms}
 use Rattle.markdown_blocks.specs.content.Content.{IsContent, Placed, places_of}
-use Rattle.markdown_blocks.specs.content.Parts.{AreInner, ArePartsAt, Part as LinePart, after_markers, first_place, heading_part, later_parts, part_at}
+use Rattle.markdown_blocks.specs.content.Parts.{AreInner, ArePartsAt, Part as LinePart, after_markers, first_place, heading_part, later_parts, part_at, written}
 use Rattle.markdown_blocks.specs.content.Parts.{text_place}
 use Rattle.markdown_blocks.specs.declared.blocks.BlockKind.{BlockKind}
 use Rattle.markdown_blocks.specs.declared.blocks.BlockKind.TheVariants.{Blank, Break, Heading, Setext, Indented}
@@ -34,7 +36,7 @@ use Rattle.markdown_blocks.specs.info.Info.{behind_fence, without_front}
 use Rattle.markdown_blocks.specs.laws.Order.{ContentsStand, HoldsContent, HoldsText, content_from, passed_after}
 use Rattle.markdown_blocks.specs.lists.Lists.{Nodes, nothing, leaf_then, container_then, flatten}
 use Rattle.markdown_blocks.proofs.containers.ContainerLemmas.{begun_by_all}
-use Rattle.markdown_blocks.proofs.content.ByteLemmas.{DoNotFall, StandBehind, earlier_parts, front_rises, later_behind, parts_rise}
+use Rattle.markdown_blocks.proofs.content.ByteLemmas.{DoNotFall, StandBehind, earlier_parts, front_rises, later_behind, parts_rise, written_stands}
 use Rattle.markdown_blocks.proofs.content.ReachedLemmas.{Reached, after_all, after_some}
 use Rattle.markdown_blocks.proofs.content.ReachedPlaces.{begun_reached, behind_reached, text_reached}
 use Rattle.markdown_blocks.proofs.content.parts.PlaceLemmas.{marks-some}
@@ -58,14 +60,12 @@ module _ (line : List ℕ) (later : List (List ℕ)) (outer : List Container) (l
 
   text_from : (kind : BlockKind) (from : ℕ) → IsFurther from (text_place kind 0 s) → (parts : List LinePart)
       → (inner : List (List ℕ)) × AreInner kind outer later inner
-      × (parts ≡ part_at (text_place kind 0 s) ∷ later_parts kind outer 0 (length line) inner) → StandBehind from parts
+      × (parts ≡ written kind (part_at (text_place kind 0 s)) ++ later_parts kind outer 0 (length line) inner) → StandBehind from parts
   text_from kind from g parts (inner, are, is) =
-      subst (StandBehind from) (sym is) (
-        g.0,
-        g.1,
-        earlier_parts _ (length line) (later_parts kind outer 0 (length line) inner)
-            (omega (arith, all_left (text_place kind 0 s) (text_reached line kind 0 s r))) (later_behind kind outer 0 (length line) inner),
-      )
+      subst (StandBehind from) (sym is)
+      (written_stands (part_at (text_place kind 0 s)) from (later_parts kind outer 0 (length line) inner) g.0 g.1 refl
+      (earlier_parts _ (length line) (later_parts kind outer 0 (length line) inner)
+      (omega (arith, all_left (text_place kind 0 s) (text_reached line kind 0 s r))) (later_behind kind outer 0 (length line) inner)) kind)
 
   abbrev text : ℕ
   text = (after_space 4 s).place
@@ -103,7 +103,7 @@ module _ (line : List ℕ) (later : List (List ℕ)) (outer : List Container) (l
   parts_from Blank parts none = none_from text parts none
   parts_from Break parts none = none_from text parts none
   parts_from (Table columns) parts none = none_from text parts none
-  parts_from (Heading level) parts is = subst (StandBehind text) (sym is) (heading_from, λ some. absurd (omega (arith, some)), tt)
+  parts_from (Heading level) parts is = subst (StandBehind text) (sym is) (heading_from, λ some. absurd (omega (arith, some)), inl refl, tt)
   parts_from (Fenced count byte) parts (inner, are, is) =
       let there = after_some line s r 4 in
       subst (StandBehind text) (sym is) (earlier_parts text (length line) _ there.within
@@ -447,8 +447,9 @@ nodes_hold page (container_then container place inner later) outer kept passed r
 
 -- The contents of the leaf blocks of a page stand there in order.
 pub page_contents_stand : (asked : BlockExtensions) (page : List ℕ) (nodes : Nodes) → IsEventsOf asked page (flatten nodes)
-    → ContentsStand page [] 0 0 nodes
+    → ContentsStand page [] 0 (text_start page) nodes
 page_contents_stand asked page nodes (pieces, blocks, is_page, are, is) =
     let count = open_after 0 pieces in
-    let all = pieces_hold page (replicate count ends) (ends_any page count) pieces (root asked) 0 0 blocks tt is_page.each are (sym is_page.joined) in
-    (nodes_hold page nodes [] 0 0 [] (subst (EventsHold page [] 0 0) (sym is ∙ sym (append-nil (flatten nodes))) all)).0
+    let start = text_start page in
+    let all = pieces_hold page (replicate count ends) (ends_any page count) pieces (root asked) 0 start blocks tt is_page.each are (sym is_page.joined) in
+    (nodes_hold page nodes [] 0 start [] (subst (EventsHold page [] 0 start) (sym is ∙ sym (append-nil (flatten nodes))) all)).0

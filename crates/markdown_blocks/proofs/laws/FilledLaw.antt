@@ -3,6 +3,7 @@ use Rattle.std.proofs.Common.{ℕ, zero, suc, Bool, true, false, ◌-◌, ◌≡
 use Rattle.std.proofs.Common.{append_assoc, append-nil}
 use Rattle.std.specs.Prelude.{◌≢◌, ⊤}
 use Rattle.markdown_scanners_tree.specs.line.State.{LineState}
+use Rattle.markdown_blocks.specs.byte_order_mark.ByteOrderMark.{text_start}
 use Rattle.markdown_blocks.specs.blocks.Pages.{Piece}
 use Rattle.markdown_blocks.specs.containers.Containers.{after_marker, behind}
 use Rattle.markdown_blocks.specs.declared.blocks.BlockKind.{BlockKind}
@@ -72,5 +73,5 @@ pub containers_hold_some : (asked : BlockExtensions) (page : List ℕ) (nodes : 
 containers_hold_some asked page nodes (pieces, blocks, is_page, are, is) =
     let count = open_after 0 pieces in
     let none : AreFilled false (replicate count ends) = subst (AreFilled false) (append-nil (replicate count ends)) (ends_filled count [] tt) in
-    let all = pieces_filled pieces [] 0 0 blocks (replicate count ends) are none in
+    let all = pieces_filled pieces [] 0 (text_start page) blocks (replicate count ends) are none in
     (nodes_filled nodes false [] (subst (AreFilled false) (sym is ∙ sym (append-nil (flatten nodes))) all)).0

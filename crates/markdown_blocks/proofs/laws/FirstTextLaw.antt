@@ -4,6 +4,7 @@ use Rattle.std.proofs.Common.{inl, inr, refl, ap, arith, subst, sym, if◌then�
 use Rattle.std.specs.List.{concat, prefix_len}
 use Rattle.markdown_scanners_tree.specs.Bytes.{is_space_or_tab}
 use Rattle.markdown_scanners_tree.specs.line.State.{LineState, space_within}
+use Rattle.markdown_blocks.specs.byte_order_mark.ByteOrderMark.{text_start}
 use Rattle.markdown_blocks.specs.blocks.Leaves.{IsLeaf}
 use Rattle.markdown_blocks.specs.blocks.Pages.{AreBlocks, IsPiece, Piece, is_blank_kind, open_behind, outer_of, root}
 use Rattle.markdown_blocks.specs.containers.Containers.{Between, Rest, after_marker, behind}
@@ -99,4 +100,5 @@ pub page_firsts_begin_plain : (asked : BlockExtensions) (page : List ℕ) (event
     → FirstsBeginPlain None events
 page_firsts_begin_plain asked page events (pieces, blocks, is_page, are, is) =
     subst (FirstsBeginPlain None) (sym is)
-    (pieces_plain pieces (root asked) 0 0 blocks (replicate (open_after 0 pieces) ends) is_page.each are (all_ended (open_after 0 pieces)) None)
+    (pieces_plain pieces (root asked) 0 (text_start page) blocks (replicate (open_after 0 pieces) ends) is_page.each are (all_ended (open_after 0 pieces))
+    None)

@@ -3,8 +3,8 @@ use Rattle.std.proofs.Common.{ℕ, zero, suc, ◌==◌, ◌+◌, ◌-◌, ◌<�
 use Rattle.std.proofs.Common.{Option, Some, None, refl, ap, ◌∙◌, subst, arith}
 use Rattle.markdown_scanners_tree.specs.Ascii.{greater_than_sign}
 use Rattle.markdown_scanners_tree.specs.Bytes.{begins_with}
-use Rattle.markdown_scanners_tree.specs.line.Outcome.{after_all_space, definition_outcome, further_spaces, item_outcome}
-use Rattle.markdown_scanners_tree.specs.line.Outcome.{item_outcome_by, space_or_end_follows}
+use Rattle.markdown_scanners_tree.specs.line.Outcome.{after_all_space, definition_outcome}
+use Rattle.markdown_scanners_tree.specs.line.Outcome.{space_or_end_follows}
 use Rattle.markdown_scanners_tree.specs.line.PlainStep.{definition_spaces}
 use Rattle.markdown_scanners_tree.specs.line.State.{LineState, after_space, bytes_for, bytes_further, leading_spaces, rest_of, space_within, unscanned}
 use Rattle.markdown_scanners_tree.specs.scanners.list_items.ListMarker.{Marker}
@@ -13,6 +13,7 @@ use Rattle.markdown_scanners_tree.proofs.line.ColumnLemmas.{bool_cases}
 use Rattle.markdown_blocks.specs.containers.Containers.{all_extensions, begun_at, either_begun, extension_of}
 use Rattle.markdown_blocks.specs.containers.Containers.{footnote_by, footnote_of, item_of, term_definition_by, term_definition_of}
 use Rattle.markdown_blocks.specs.containers.Footnotes.{footnote_label}
+use Rattle.markdown_blocks.specs.containers.ItemMarkers.{further_spaces, item_outcome, item_outcome_by}
 use Rattle.markdown_blocks.specs.declared.containers.Container.{Container}
 use Rattle.markdown_blocks.specs.declared.containers.Container.TheVariants.{Quote}
 use Rattle.markdown_blocks.proofs.containers.ContainerLemmas.{definition_marked}

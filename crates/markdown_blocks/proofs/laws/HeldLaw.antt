@@ -2,6 +2,7 @@
 use Rattle.std.proofs.Common.{ℕ, suc, Bool, true, false, IsTrue, ◌&&◌, ◌||◌, ◌==◌, ◌≡◌, ◌⊎◌, ◌↔◌, List, [], ◌∷◌, ◌++◌, length, take, drop}
 use Rattle.std.proofs.Common.{Some, refl, sym, ap, ◌∙◌, subst, inl, inr, append_assoc, arith, eq-eqb}
 use Rattle.std.specs.List.{AllZip}
+use Rattle.std.specs.Prelude.{⊤}
 use Rattle.std.proofs.lemmas.Bool.{eqb-true}
 use Rattle.std.proofs.lemmas.Bool.Decides.{nat_tests}
 use Rattle.markdown_scanners_tree.specs.line.ItemRules.{start_of}
@@ -12,14 +13,16 @@ use Rattle.markdown_blocks.specs.declared.blocks.BlockKind.{BlockKind}
 use Rattle.markdown_blocks.specs.declared.blocks.BlockKind.TheVariants.{Paragraph}
 use Rattle.markdown_blocks.specs.declared.containers.BlockExtensions.{BlockExtensions}
 use Rattle.markdown_blocks.specs.declared.containers.Container.{Container}
-use Rattle.markdown_blocks.specs.blocks.Leaves.{IsLazy, IsLeaf}
-use Rattle.markdown_blocks.specs.blocks.Pages.{Piece, lines_in, root, containers_of, is_blank_kind, is_blank_between, open_behind}
+use Rattle.markdown_blocks.specs.blocks.Leaves.{BeginsTable, IsLazy, IsLeaf}
+use Rattle.markdown_blocks.specs.blocks.Pages.{Piece, lines_in, root, containers_of, is_blank_kind, is_blank_between, open_behind, outer_of}
 use Rattle.markdown_blocks.specs.blocks.Pages.{AreOpened, IsTerm, IsPiece, AreBlocks}
 use Rattle.markdown_blocks.specs.definitions.Content.{content_in, words_in}
 use Rattle.markdown_blocks.specs.laws.Held.{Change, HasSameWords, IsHeldIn, AreIn}
 use Rattle.markdown_blocks.proofs.laws.AlikeLemmas.{Alike, same_rest}
 use Rattle.markdown_blocks.proofs.laws.SameContainers.{same_opens}
-use Rattle.markdown_blocks.proofs.laws.LeafMoves.{Moves, FirstTwo, Follows, LaterMoves, leaf_moves, given_moves}
+use Rattle.markdown_blocks.proofs.laws.LeafMoves.{Moves, FirstTwo, Follows, LaterMoves, leaf_moves, given_moves, table_on}
+use Rattle.markdown_blocks.proofs.laws.TableAfter.{no_paragraph}
+use Rattle.markdown_blocks.proofs.tables.TableLemmas.{header_of}
 
 pub zip_map : (R S : Change) → ((line moved : List ℕ) → R line moved → S line moved) → (lines others : List (List ℕ))
     → AllZip R lines others → AllZip S lines others
@@ -115,6 +118,12 @@ module _ (asked : BlockExtensions) (c : Container) (First Later Lazy : Change) (
   abbrev IsNext : Piece → Piece → Type 0
   IsNext p q = IsHeldIn Later Later Lazy (c ∷ p.kept) p.begun p q
 
+  -- the first of the pieces is no paragraph where a table begins with its first line
+  abbrev IsNoParagraph : List Container → List Piece → Type 0
+  IsNoParagraph outer [] = ⊤
+  IsNoParagraph outer (p ∷ pieces) =
+      BeginsTable (opened asked outer) (p.first ∷ (p.later ++ (lines_in pieces ++ []))) → ¬ (p.kind ≡ Paragraph)
+
   abbrev IsLater : Piece → Piece → Change
   IsLater p q line changed =
       Later line changed
@@ -166,6 +175,30 @@ module _ (asked : BlockExtensions) (c : Container) (First Later Lazy : Change) (
         → Follows (opened asked outer) (opened asked (c ∷ outer)) (lines_in pieces ++ []) (lines_in others ++ [])
     follow pieces others z = record { first = follow_first pieces others z; each = follow_each pieces others z }
 
+    -- the lines after a first line with which a table begins: that is no paragraph's, and so none of them is a lazy one
+    two_next : (ls ms rest after : List (List ℕ)) (p q : Piece) → ¬ (p.kind ≡ Paragraph) → AllZip (IsLater p q) ls ms
+        → FirstTwo (Moves (opened asked outer) (opened asked (c ∷ outer))) rest after
+        → FirstTwo (Moves (opened asked outer) (opened asked (c ∷ outer))) (ls ++ rest) (ms ++ after)
+    two_next [] [] rest after p q plain z two = two
+    two_next [] (moved ∷ ms) rest after p q plain z two = absurd z
+    two_next (line ∷ ls) [] rest after p q plain z two = absurd z
+    two_next (line ∷ ls) (moved ∷ ms) rest after p q plain (inl h, z) two = moves asked c line moved (on line moved h) outer
+    two_next (line ∷ ls) (moved ∷ ms) rest after p q plain (inr lazy, z) two = absurd (plain lazy.0)
+
+    follow_table : (pieces others : List Piece) → AllZip IsNext pieces others → IsNoParagraph outer pieces
+        → BeginsTable (opened asked outer) (lines_in pieces ++ []) → BeginsTable (opened asked (c ∷ outer)) (lines_in others ++ [])
+    follow_table [] [] z plain table = absurd table
+    follow_table [] (q ∷ others) z plain table = absurd z
+    follow_table (p ∷ pieces) [] z plain table = absurd z
+    follow_table (p ∷ pieces) (q ∷ others) z plain table =
+        subst (λ ls. BeginsTable (opened asked (c ∷ outer)) (q.first ∷ ls)) (sym (append_assoc q.later (lines_in others) []))
+        (table_on (opened asked outer) (opened asked (c ∷ outer)) p.first q.first (p.later ++ (lines_in pieces ++ [])) (q.later ++ (lines_in others ++ []))
+        (moves asked c p.first q.first (on p.first q.first z.0.first) outer)
+        (two_next p.later q.later (lines_in pieces ++ []) (lines_in others ++ []) p q (plain here) z.0.later (follow_first pieces others z.1)) here)
+      where
+        here : BeginsTable (opened asked outer) (p.first ∷ (p.later ++ (lines_in pieces ++ [])))
+        here = subst (λ ls. BeginsTable (opened asked outer) (p.first ∷ ls)) (append_assoc p.later (lines_in pieces) []) table
+
   -- the block in the container
   module _ (p q : Piece) (pieces others : List Piece) (z : AllZip IsNext pieces others) where
     abbrev Given : Bool → BlockKind → List Container → Rest → List (List ℕ) → Type 0
@@ -190,15 +223,29 @@ module _ (asked : BlockExtensions) (c : Container) (First Later Lazy : Change) (
         (subst (λ w. Given p.term p.kind (containers_of q) w q.later) (sym i.words)
         (subst (λ cs. Given p.term p.kind cs p.words q.later) there moved)))
 
+    no_next : (before : Between) → before.extensions ≡ asked → IsPiece before p (lines_in pieces ++ []) → p.kind ≡ Paragraph
+        → AreBlocks (open_behind before p) pieces [] → IsNoParagraph (containers_of p) pieces
+    no_next before same h paragraph more = by pieces same h more
+      where
+        by : (ps : List Piece) → before.extensions ≡ asked → IsPiece before p (lines_in ps ++ []) → AreBlocks (open_behind before p) ps []
+            → IsNoParagraph (containers_of p) ps
+        by [] same h more = tt
+        by (next ∷ ps) same h more = λ table.
+            let there : BeginsTable (outer_of before p) (next.first ∷ (next.later ++ (lines_in ps ++ []))) =
+            subst (λ x. BeginsTable (opened x (containers_of p)) (next.first ∷ (next.later ++ (lines_in ps ++ [])))) (sym same) table in
+            no_paragraph before p (lines_in (next ∷ ps) ++ []) h paragraph next (lines_in ps ++ []) more.0 there
+            (header_of (outer_of before p) next.first (next.later ++ (lines_in ps ++ [])) there)
+
     leaf_in : (Start : Change) (kept begun : List Container) → IsHeldIn Start Later Lazy kept begun p q → kept ++ begun ≡ c ∷ containers_of p
+        → (p.kind ≡ Paragraph → IsNoParagraph (containers_of p) pieces)
         → IsLeaf (opened asked (p.kept ++ p.begun)) p.kind p.words p.later (lines_in pieces ++ [])
         → IsLeaf (opened asked (q.kept ++ q.begun)) q.kind q.words q.later (lines_in others ++ [])
-    leaf_in Start kept begun i open_now leaf =
+    leaf_in Start kept begun i open_now plain leaf =
         let outer = p.kept ++ p.begun in
         let there = there_by Start kept begun i open_now in
         let moved : IsLeaf (opened asked (c ∷ outer)) p.kind p.words q.later (lines_in others ++ []) =
         leaf_moves (opened asked outer) (opened asked (c ∷ outer)) p.words p.later q.later (lines_in pieces ++ []) (lines_in others ++ [])
-        (follow outer pieces others z) p.kind
+        (follow outer pieces others z) p.kind (λ paragraph table. follow_table outer pieces others z (plain paragraph) table)
         (zip_map (IsLater p q) (LaterMoves (opened asked outer) (opened asked (c ∷ outer)) p.kind)
         (later_moves outer p q refl there) p.later q.later i.later) leaf in
         subst (λ cs. IsLeaf (opened asked cs) q.kind q.words q.later (lines_in others ++ [])) there
@@ -206,8 +253,8 @@ module _ (asked : BlockExtensions) (c : Container) (First Later Lazy : Change) (
         (subst (λ k. IsLeaf (opened asked (c ∷ outer)) k p.words q.later (lines_in others ++ [])) (sym i.kind) moved))
 
     next_piece : (outer : List Container) (term : Bool) → IsNext p q → IsPiece (between asked outer term) p (lines_in pieces ++ [])
-        → IsPiece (between asked (c ∷ outer) term) q (lines_in others ++ [])
-    next_piece outer term i h =
+        → AreBlocks (open_behind (between asked outer term) p) pieces [] → IsPiece (between asked (c ∷ outer) term) q (lines_in others ++ [])
+    next_piece outer term i h more =
         let here = on p.first q.first i.first outer in
         let asks : asked_between (between asked outer term) p.first ≡ asked_between (between asked (c ∷ outer) term) q.first =
         ap (λ n. asked_first asked term (drop n (c ∷ outer))) (sym here.0) in
@@ -223,17 +270,18 @@ module _ (asked : BlockExtensions) (c : Container) (First Later Lazy : Change) (
                 opens.1);
             is_rest = i.words ∙ h.opened.is_rest ∙ same_rest h.opened.place opens.0 opens.2;
           };
-          leaf = leaf_in Later (c ∷ p.kept) p.begun i refl h.leaf;
+          leaf = leaf_in Later (c ∷ p.kept) p.begun i refl
+              (λ paragraph. no_next (between asked outer term) refl h paragraph more) h.leaf;
           is_term = given_in Later (c ∷ p.kept) p.begun i refl h.is_term;
         }
 
     first_piece : IsHeldIn First Later Lazy [] (c ∷ p.begun) p q → IsPiece (root asked) p (lines_in pieces ++ [])
-        → IsPiece (root asked) q (lines_in others ++ [])
-    first_piece i h =
+        → AreBlocks (open_behind (root asked) p) pieces [] → IsPiece (root asked) q (lines_in others ++ [])
+    first_piece i h more =
         let none = ap (λ cs. c ∷ (cs ++ p.begun)) (sym h.opened.goes_on) in
         record {
           opened = first_opened asked c First Later Lazy p q (begins p.first q.first i.first) i h.opened;
-          leaf = leaf_in First [] (c ∷ p.begun) i none h.leaf;
+          leaf = leaf_in First [] (c ∷ p.begun) i none (λ paragraph. no_next (root asked) refl h paragraph more) h.leaf;
           is_term = given_in First [] (c ∷ p.begun) i none h.is_term;
         }
 
@@ -263,7 +311,7 @@ module _ (asked : BlockExtensions) (c : Container) (First Later Lazy : Change) (
   next_blocks outer term [] (q ∷ others) z h = absurd z
   next_blocks outer term (p ∷ pieces) [] z h = absurd z
   next_blocks outer term (p ∷ pieces) (q ∷ others) z h = (
-    next_piece p q pieces others z.1 outer term z.0 h.0,
+    next_piece p q pieces others z.1 outer term z.0 h.0 h.1,
     subst (λ b. AreBlocks b others []) (behind_in p q pieces others z.1 outer term z.0)
         (next_blocks (containers_of p) (open_behind (between asked outer term) p).term pieces others z.1 h.1),
   )
@@ -277,7 +325,7 @@ module _ (asked : BlockExtensions) (c : Container) (First Later Lazy : Change) (
       let there = there_by p q pieces others z.1 First [] (c ∷ p.begun) z.0 none in
       let behind_first : between asked (c ∷ containers_of p) (open_behind (root asked) p).term ≡ open_behind (root asked) q =
       ap (λ cs. between asked cs (p.term || false)) there ∙ ap (λ t. between asked (containers_of q) (t || false)) (sym z.0.term) in (
-        first_piece p q pieces others z.1 z.0 h.0,
+        first_piece p q pieces others z.1 z.0 h.0 h.1,
         subst (λ b. AreBlocks b others []) behind_first
             (next_blocks (containers_of p) (open_behind (root asked) p).term pieces others z.1 h.1),
       )

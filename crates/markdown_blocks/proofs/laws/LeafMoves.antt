@@ -14,14 +14,14 @@ use Rattle.markdown_blocks.specs.declared.blocks.BlockKind.TheVariants.{Fenced, 
 use Rattle.markdown_blocks.specs.declared.containers.BlockExtensions.{BlockExtensions}
 use Rattle.markdown_blocks.specs.declared.containers.Container.{Container}
 use Rattle.markdown_blocks.specs.blocks.Pages.{IsTerm}
-use Rattle.markdown_blocks.specs.blocks.Tables.{IsDelimiter}
+use Rattle.markdown_blocks.specs.delimiter_rows.DelimiterRows.{IsDelimiter}
 use Rattle.markdown_blocks.specs.blocks.Leaves.{IsBlank, HasIndent, Begins, EndsParagraph, ClosesFence, EndsHtml}
 use Rattle.markdown_blocks.specs.blocks.Leaves.{IsUnderline, Interrupts, IsLazy, In, OutOr, Leaves}
-use Rattle.markdown_blocks.specs.blocks.Leaves.{EndsContent, LeavesParagraph, LeavesBehind, Underlines, IsHead, IsRow}
+use Rattle.markdown_blocks.specs.blocks.Leaves.{DefinesTerm, EndsContent, LeavesParagraph, Underlines, IsHead, IsRow}
 use Rattle.markdown_blocks.specs.info.Info.{without_front}
 use Rattle.markdown_blocks.specs.definitions.Content.{content_in, content_of, words_in}
 use Rattle.markdown_blocks.specs.definitions.Definitions.{HasText}
-use Rattle.markdown_blocks.specs.blocks.Leaves.{OnFirst, BeginsNoTable, NoneBehind, StopsAt, StopsBefore}
+use Rattle.markdown_blocks.specs.blocks.Leaves.{BeginsNoTable, BeginsTable, EndParagraph, IsHeader, NoneBehind, OnFirst, StopsAt, StopsBefore}
 use Rattle.markdown_blocks.specs.blocks.Leaves.{StopsBehind, EndsIndented, NoMoreIndented, LastHasText, EndsAsHtml, IsLeaf}
 use Rattle.markdown_blocks.proofs.laws.AlikeLemmas.{Alike, alike_back, same_rest}
 use Rattle.markdown_blocks.proofs.laws.SameContainers.{alike_none, same_begun}
@@ -90,7 +90,33 @@ head_moves outer other line moved m text columns h = (
   h.3,
 )
 
--- lists of lines, place by place
+-- a table that begins with a line, and with the line that is read as it
+defines_moves : (outer other : Outer) (line moved : List ℕ) → Moves outer other line moved → DefinesTerm other.extensions (rest_in other.containers moved)
+    → DefinesTerm outer.extensions (rest_in outer.containers line)
+defines_moves outer other line moved m h =
+    subst (λ x. DefinesTerm x (rest_in outer.containers line)) (sym m.same)
+    (subst (DefinesTerm other.extensions) (sym (rest_moves outer other line moved m)) h)
+
+header_moves : (outer other : Outer) (line moved : List ℕ) → Moves outer other line moved → IsHeader outer line → IsHeader other moved
+header_moves outer other line moved m (row, defines) =
+    (row_moves outer other line moved m row, λ h. defines (defines_moves outer other line moved m h))
+
+table_begins : (outer other : Outer) (line moved next next' : List ℕ) (lines others : List (List ℕ)) → Moves outer other line moved
+    → Moves outer other next next' → BeginsTable outer (line ∷ next ∷ lines) → BeginsTable other (moved ∷ next' ∷ others)
+table_begins outer other line moved next next' lines others m n (header, columns, head) = (
+  header_moves outer other line moved m header,
+  columns,
+  subst (λ (r : Rest). IsHead other r.text columns next') (rest_moves outer other line moved m)
+      (head_moves outer other next next' n (rest_in outer.containers line).text columns head),
+)
+
+-- the first two of two lists of lines, if either has one
+abbrev pub FirstTwo : (List ℕ → List ℕ → Type 0) → List (List ℕ) → List (List ℕ) → Type 0
+FirstTwo R [] [] = ⊤
+FirstTwo R [] (moved ∷ others) = ⊥
+FirstTwo R (line ∷ lines) [] = ⊥
+FirstTwo R (line ∷ lines) (moved ∷ others) = R line moved
+
 module _ (R : List ℕ → List ℕ → Type 0) where
   all_moves : (P Q : List ℕ → Type 0) → ((line moved : List ℕ) → R line moved → P line → Q moved) → (lines others : List (List ℕ))
       → AllZip R lines others → AllByRecursion P lines → AllByRecursion Q others
@@ -99,19 +125,22 @@ module _ (R : List ℕ → List ℕ → Type 0) where
   all_moves P Q to (line ∷ lines) [] z h = absurd z
   all_moves P Q to (line ∷ lines) (moved ∷ others) z h = (to line moved z.0 h.0, all_moves P Q to lines others z.1 h.1)
 
-  -- the first two, if either list has one
-  abbrev pub FirstTwo : List (List ℕ) → List (List ℕ) → Type 0
-  FirstTwo [] [] = ⊤
-  FirstTwo [] (moved ∷ others) = ⊥
-  FirstTwo (line ∷ lines) [] = ⊥
-  FirstTwo (line ∷ lines) (moved ∷ others) = R line moved
-
   first_moves : (P Q : List ℕ → Type 0) → ((line moved : List ℕ) → R line moved → P line → Q moved) → (lines others : List (List ℕ))
-      → FirstTwo lines others → OnFirst P lines → OnFirst Q others
+      → FirstTwo R lines others → OnFirst P lines → OnFirst Q others
   first_moves P Q to [] [] two h = tt
   first_moves P Q to [] (moved ∷ others) two h = absurd two
   first_moves P Q to (line ∷ lines) [] two h = absurd two
   first_moves P Q to (line ∷ lines) (moved ∷ others) two h = to line moved two h
+
+  pub two_moves : (S : List ℕ → List ℕ → Type 0) → ((line moved : List ℕ) → R line moved → S line moved) → (lines others rest after : List (List ℕ))
+      → AllZip S lines others → FirstTwo R rest after → FirstTwo S (lines ++ rest) (others ++ after)
+  two_moves S to [] [] [] [] z two = tt
+  two_moves S to [] [] [] (moved ∷ after) z two = absurd two
+  two_moves S to [] [] (line ∷ rest) [] z two = absurd two
+  two_moves S to [] [] (line ∷ rest) (moved ∷ after) z two = to line moved two
+  two_moves S to [] (moved ∷ others) rest after z two = absurd z
+  two_moves S to (line ∷ lines) [] rest after z two = absurd z
+  two_moves S to (line ∷ lines) (moved ∷ others) rest after z two = z.0
 
   none_moves : (lines others : List (List ℕ)) → lines ≡ [] → AllZip R lines others → others ≡ []
   none_moves [] [] none z = refl
@@ -177,8 +206,8 @@ module _ (outer other : Outer) where
     out_stops = stops_moves (Moves outer other) (Moves outer other) (OutOr outer.containers P) (OutOr other.containers P) (λ l k m h. out_back l k m P h)
         (λ l k m h. out_moves outer other l k m P h) lines others rest after z two
 
-    out_behind : StopsBehind outer.containers (OutOr outer.containers P) lines rest → StopsBehind other.containers (OutOr other.containers P) others after
-    out_behind (inl h) =
+    out_through : StopsBehind outer.containers (OutOr outer.containers P) lines rest → StopsBehind other.containers (OutOr other.containers P) others after
+    out_through (inl h) =
         let zipped : AllZip (Moves outer other) (h.0 ++ h.1 ∷ []) others = subst (λ ls. AllZip (Moves outer other) ls others) h.2 z in
         let cut = zip_last (Moves outer other) h.0 h.1 others zipped in
         inl (
@@ -194,7 +223,7 @@ module _ (outer other : Outer) where
         stops_here before before' last last' zs m =
             stops_moves (Moves outer other) (Moves outer other) (OutOr outer.containers P) (OutOr other.containers P) (λ l k n h. out_back l k n P h)
             (λ l k n h. out_moves outer other l k n P h) before before' (last ∷ rest) (last' ∷ after) zs m
-    out_behind (inr h) = inr (
+    out_through (inr h) = inr (
       out_stops h.0,
       first_moves (Moves outer other) (λ l. ¬ IsInside outer.containers l) (λ l. ¬ IsInside other.containers l)
           (λ l k m out i. out (m.inside.1 i)) rest after two h.1,
@@ -235,7 +264,7 @@ module _ (outer other : Outer) where
             → (EndsHtml kind first × (others ≡ [])) ⊎ ((¬ EndsHtml kind first) × StopsBehind other.containers
             (OutOr other.containers (EndsHtml kind)) others after)
         by (inl h) = inl (h.0, none_moves (Moves outer other) lines others h.1 z)
-        by (inr h) = inr (h.0, out_behind (EndsHtml kind) lines others rest after z two h.1)
+        by (inr h) = inr (h.0, out_through (EndsHtml kind) lines others rest after z two h.1)
 
   -- a table's head
   no_head : (first : Rest) (kind : BlockKind) (line moved : List ℕ) → LaterMoves kind line moved
@@ -279,35 +308,67 @@ module _ (outer other : Outer) where
       ∙ sym (append_assoc (without_front text) (flat_map (words_in containers) before) (words_in containers line))
 
   -- a line after this content
-  behind_back : (kind : BlockKind) (line moved content : List ℕ) → LaterMoves kind line moved → Leaves other (EndsContent other.extensions content) moved
+  back_after : (kind : BlockKind) (line moved content : List ℕ) → LaterMoves kind line moved → Leaves other (EndsContent other.extensions content) moved
       → Leaves outer (EndsContent outer.extensions content) line
-  behind_back kind line moved content (inl m) h = content_leaves other outer moved line (moves_back outer other line moved m) content h
-  behind_back kind line moved content (inr lazy) (inl h) = absurd (h.1 lazy.2)
-  behind_back kind line moved content (inr lazy) (inr h) = absurd (lazy.1 h.0)
+  back_after kind line moved content (inl m) h = content_leaves other outer moved line (moves_back outer other line moved m) content h
+  back_after kind line moved content (inr lazy) (inl h) = absurd (h.1 lazy.2)
+  back_after kind line moved content (inr lazy) (inr h) = absurd (lazy.1 h.0)
 
-  none_behind : (kind : BlockKind) (text : List ℕ) (before before' lines others : List (List ℕ))
+  -- a table that begins with a line of either
+  pub table_on : (line moved : List ℕ) (rest after : List (List ℕ)) → Moves outer other line moved → FirstTwo (Moves outer other) rest after
+      → BeginsTable outer (line ∷ rest) → BeginsTable other (moved ∷ after)
+  table_on line moved [] after m two table = absurd table
+  table_on line moved (next ∷ rest) [] m two table = absurd two
+  table_on line moved (next ∷ rest) (next' ∷ after) m two table = table_begins outer other line moved next next' rest after m two table
+
+  table_back : (kind : BlockKind) (line moved : List ℕ) (rest after : List (List ℕ)) → LaterMoves kind line moved
+      → FirstTwo (LaterMoves kind) rest after → BeginsTable other (moved ∷ after) → BeginsTable outer (line ∷ rest)
+  table_back kind line moved rest [] m two table = absurd table
+  table_back kind line moved [] (next' ∷ after) m two table = absurd two
+  table_back kind line moved (next ∷ rest) (next' ∷ after) (inr lazy) two ((row, defines), columns, head) = absurd (lazy.1 row.1.0)
+  table_back kind line moved (next ∷ rest) (next' ∷ after) (inl m) (inr lazy) (header, columns, head) = absurd (lazy.1 head.2.0)
+  table_back kind line moved (next ∷ rest) (next' ∷ after) (inl m) (inl n) table =
+      table_begins other outer moved line next' next after rest (moves_back outer other line moved m) (moves_back outer other next next' n) table
+
+  none_after : (kind : BlockKind) (text : List ℕ) (before before' lines others rest after : List (List ℕ))
       → content_of outer.containers text before ≡ content_of other.containers text before' → AllZip (LaterMoves kind) lines others
-      → NoneBehind (LeavesBehind outer text) before lines → NoneBehind (LeavesBehind other text) before' others
-  none_behind kind text before before' [] [] same z h = tt
-  none_behind kind text before before' [] (moved ∷ others) same z h = absurd z
-  none_behind kind text before before' (line ∷ lines) [] same z h = absurd z
-  none_behind kind text before before' (line ∷ lines) (moved ∷ others) same z h = (
-    λ leaves. h.0 (subst (λ content. Leaves outer (EndsContent outer.extensions content) line) (sym same)
-        (behind_back kind line moved (content_of other.containers text before') z.0 leaves)),
-    none_behind kind text (before ++ line ∷ []) (before' ++ moved ∷ []) lines others
+      → FirstTwo (Moves outer other) rest after
+      → NoneBehind (EndParagraph outer text) before lines rest → NoneBehind (EndParagraph other text) before' others after
+  none_after kind text before before' [] [] rest after same z two h = tt
+  none_after kind text before before' [] (moved ∷ others) rest after same z two h = absurd z
+  none_after kind text before before' (line ∷ lines) [] rest after same z two h = absurd z
+  none_after kind text before before' (line ∷ lines) (moved ∷ others) rest after same z two h = (
+    stays,
+    none_after kind text (before ++ line ∷ []) (before' ++ moved ∷ []) lines others rest after
         (content_step outer.containers text before line ∙ ap (λ t. t ++ words_in outer.containers line) same
         ∙ ap (λ t. content_of other.containers text before' ++ t) (words_move kind line moved z.0)
-        ∙ sym (content_step other.containers text before' moved)) z.1 h.1,
+        ∙ sym (content_step other.containers text before' moved)) z.1 two h.1,
   )
+    where
+      stays : ¬ EndParagraph other text before' (moved ∷ (others ++ after))
+      stays (inl leaves) = h.0 (inl (subst (λ content. Leaves outer (EndsContent outer.extensions content) line) (sym same)
+          (back_after kind line moved (content_of other.containers text before') z.0 leaves)))
+      stays (inr table) = h.0 (inr (table_back kind line moved (lines ++ rest) (others ++ after) z.0
+          (two_moves (Moves outer other) (LaterMoves kind) (λ l k m. inl m) lines others rest after z.1 two) table))
 
   stops_at : (kind : BlockKind) (text : List ℕ) (lines others rest after : List (List ℕ)) → AllZip (LaterMoves kind) lines others
-      → FirstTwo (Moves outer other) rest after → StopsAt (LeavesBehind outer text) lines rest → StopsAt (LeavesBehind other text) others after
-  stops_at kind text lines others rest after z two h = record {
-    none = none_behind kind text [] [] lines others refl z h.none;
-    stopped = first_moves (Moves outer other) (LeavesBehind outer text lines) (LeavesBehind other text others)
-        (λ l k m leaves. subst (λ content. Leaves other (EndsContent other.extensions content) k) (content_moves kind text lines others z)
-        (content_leaves outer other l k m (content_of outer.containers text lines) leaves)) rest after two h.stopped;
+      → FirstTwo (Moves outer other) rest after → (BeginsTable outer rest → BeginsTable other after)
+      → StopsAt (EndParagraph outer text) lines rest → StopsAt (EndParagraph other text) others after
+  stops_at kind text lines others rest after z two table h = record {
+    none = none_after kind text [] [] lines others rest after refl z two h.none;
+    stopped = by rest after two table h.stopped;
   }
+    where
+      by : (rest after : List (List ℕ)) → FirstTwo (Moves outer other) rest after → (BeginsTable outer rest → BeginsTable other after)
+          → (rest ≡ []) ⊎ EndParagraph outer text lines rest → (after ≡ []) ⊎ EndParagraph other text others after
+      by [] [] two table stops = inl refl
+      by [] (moved ∷ after) two table stops = absurd two
+      by (line ∷ rest) [] two table stops = absurd two
+      by (line ∷ rest) (moved ∷ after) two table (inl none) = cc
+      by (line ∷ rest) (moved ∷ after) two table (inr (inl leaves)) =
+          inr (inl (subst (λ content. Leaves other (EndsContent other.extensions content) moved) (content_moves kind text lines others z)
+          (content_leaves outer other line moved two (content_of outer.containers text lines) leaves)))
+      by (line ∷ rest) (moved ∷ after) two table (inr (inr begins)) = inr (inr (table begins))
 
   none_under : (kind : BlockKind) (text : List ℕ) (lines others : List (List ℕ)) → AllZip (LaterMoves kind) lines others
       → (line moved : List ℕ) → Moves outer other line moved → ((level : HeadingLevel) → ¬ Underlines outer.containers text lines level line)
@@ -334,7 +395,8 @@ module _ (outer other : Outer) where
         cut.1,
         cut.2,
         no_table first (Setext level) lines others rest after (as_later (Setext level) lines others z) two leaf.4,
-        stops_at (Setext level) first.text middle cut.0 (last ∷ rest) (cut.1 ∷ after) (as_later (Setext level) middle cut.0 cut.3) cut.4 leaf.5,
+        stops_at (Setext level) first.text middle cut.0 (last ∷ rest) (cut.1 ∷ after) (as_later (Setext level) middle cut.0 cut.3) cut.4
+            (table_on last cut.1 rest after cut.4 two) leaf.5,
         (
           in_moves outer other last cut.1 cut.4 (IsUnderline level) leaf.6.0,
           subst HasText (content_moves (Setext level) first.text middle cut.0 (as_later (Setext level) middle cut.0 cut.3)) leaf.6.1,
@@ -384,15 +446,15 @@ module _ (outer other : Outer) where
 
   -- the block
   module _ (first : Rest) (lines others rest after : List (List ℕ)) (f : Follows rest after) where
-    pub leaf_moves : (kind : BlockKind) → AllZip (LaterMoves kind) lines others → IsLeaf outer kind first lines rest
-        → IsLeaf other kind first others after
-    leaf_moves Blank z leaf =
+    pub leaf_moves : (kind : BlockKind) → (kind ≡ Paragraph → BeginsTable outer rest → BeginsTable other after)
+        → AllZip (LaterMoves kind) lines others → IsLeaf outer kind first lines rest → IsLeaf other kind first others after
+    leaf_moves Blank table z leaf =
         (leaf.0, out_stops (λ r. ¬ IsBlank r) lines others rest after (all_move Blank (λ e. cc) lines others z) f.first leaf.1)
-    leaf_moves Break z leaf = (leaf.0, none_moves (LaterMoves Break) lines others leaf.1 z)
-    leaf_moves (Heading level) z leaf = (leaf.0, none_moves (LaterMoves (Heading level)) lines others leaf.1 z)
-    leaf_moves Definition z leaf = (leaf.0, none_moves (LaterMoves Definition) lines others leaf.1 z)
-    leaf_moves (Setext level) z leaf = setext_moves level first lines others rest after (all_move (Setext level) (λ e. cc) lines others z) f.first leaf
-    leaf_moves Indented z leaf =
+    leaf_moves Break table z leaf = (leaf.0, none_moves (LaterMoves Break) lines others leaf.1 z)
+    leaf_moves (Heading level) table z leaf = (leaf.0, none_moves (LaterMoves (Heading level)) lines others leaf.1 z)
+    leaf_moves Definition table z leaf = (leaf.0, none_moves (LaterMoves Definition) lines others leaf.1 z)
+    leaf_moves (Setext level) table z leaf = setext_moves level first lines others rest after (all_move (Setext level) (λ e. cc) lines others z) f.first leaf
+    leaf_moves Indented table z leaf =
         let zipped = all_move Indented (λ e. cc) lines others z in (
           leaf.0,
           record {
@@ -402,15 +464,15 @@ module _ (outer other : Outer) where
             stopped = more_moves rest after f.each leaf.1.stopped;
           },
         )
-    leaf_moves (Fenced count byte) z leaf =
-        (leaf.0, out_behind (ClosesFence count byte) lines others rest after (all_move (Fenced count byte) (λ e. cc) lines others z) f.first leaf.1)
-    leaf_moves (Html kind) z leaf = (leaf.0, html_moves kind first lines others rest after (all_move (Html kind) (λ e. cc) lines others z) f.first leaf.1)
-    leaf_moves (Table columns) z leaf =
+    leaf_moves (Fenced count byte) table z leaf =
+        (leaf.0, out_through (ClosesFence count byte) lines others rest after (all_move (Fenced count byte) (λ e. cc) lines others z) f.first leaf.1)
+    leaf_moves (Html kind) table z leaf = (leaf.0, html_moves kind first lines others rest after (all_move (Html kind) (λ e. cc) lines others z) f.first leaf.1)
+    leaf_moves (Table columns) table z leaf =
         table_moves columns first lines others rest after (all_move (Table columns) (λ e. cc) lines others z) f.first leaf
-    leaf_moves Paragraph z leaf = (
+    leaf_moves Paragraph table z leaf = (
       leaf.0,
       no_table first Paragraph lines others rest after z f.first leaf.1,
-      stops_at Paragraph first.text lines others rest after z f.first leaf.2,
+      stops_at Paragraph first.text lines others rest after z f.first (table refl) leaf.2,
       first_moves (Moves outer other) (λ l. (level : HeadingLevel) → ¬ Underlines outer.containers first.text lines level l)
           (λ l. (level : HeadingLevel) → ¬ Underlines other.containers first.text others level l)
           (none_under Paragraph first.text lines others z) rest after f.first leaf.3,

@@ -10,6 +10,8 @@ use Rattle.markdown_scanners_tree.specs.declared.scanners.reference_definitions.
 use Rattle.markdown_scanners_tree.specs.line.State.{LineState, after_space}
 use Rattle.markdown_scanners_tree.specs.scanners.TextLines.{lines_of}
 use Rattle.markdown_scanners_tree.proofs.ForCallers.{lines_joined, space_forward}
+use Rattle.markdown_blocks.specs.byte_order_mark.ByteOrderMark.{text_start}
+use Rattle.markdown_blocks.proofs.byte_order_mark.MarkLemmas.{text_within}
 use Rattle.markdown_blocks.specs.blocks.Pages.{Piece, AreBlocks, lines_in, open_behind, root}
 use Rattle.markdown_scanners_tree.specs.scanners.reference_definitions.ReferenceDefinition.{IsEnd}
 use Rattle.markdown_blocks.specs.containers.Containers.{Between, Opens, Rest, after_marker, asked_between, behind, marker_place}
@@ -203,7 +205,8 @@ module _ (page : List ℕ) where
 pub page_in_order : (asked : BlockExtensions) (page : List ℕ) (events : List Event) → IsEventsOf asked page events → StandInOrder page events
 page_in_order asked page events (pieces, blocks, is_page, are, is) =
     subst (StandInOrder page) (sym is)
-    (pieces_follow page pieces (root asked) 0 0 blocks (replicate (open_after 0 pieces) ends) is_page.each are (sym is_page.joined) (omega arith)
+    (pieces_follow page pieces (root asked) 0 (text_start page) blocks (replicate (open_after 0 pieces) ends) is_page.each are (sym is_page.joined)
+    (text_within page)
     (all_passed page (open_after 0 pieces)))
 
 -- ---- what stands in a container
@@ -220,10 +223,10 @@ nodes_follow page (container_then container place inner later) line passed rest 
     let more = nodes_follow page later held.1.0 (passed_after (suc place) inner) rest held.1.1 in
     ((before, held.0, more.0), more.1)
 
--- What stands in a page stands there in order, and to its end.
+-- What stands in a page stands there in order, from the start of its text to its end.
 pub page_nodes_stand : (asked : BlockExtensions) (page : List ℕ) (nodes : Nodes) → IsEventsOf asked page (flatten nodes)
-    → NodesStand 0 nodes × (passed_after 0 nodes ≡ length page)
+    → NodesStand (text_start page) nodes × (passed_after (text_start page) nodes ≡ length page)
 page_nodes_stand asked page nodes is =
     let all = page_in_order asked page (flatten nodes) is in
-    let found = nodes_follow page nodes 0 0 [] (subst (StandInOrder page) (sym (append-nil (flatten nodes))) all) in
+    let found = nodes_follow page nodes (text_start page) (text_start page) [] (subst (StandInOrder page) (sym (append-nil (flatten nodes))) all) in
     (found.0, found.1.1.1)

@@ -6,7 +6,7 @@ use Rattle.std.specs.List.{list_all}
 use Rattle.std.proofs.lemmas.Bool.{lt-ltb}
 use Rattle.std.proofs.lemmas.List.{drop-drop, length-replicate}
 use Rattle.std.proofs.Math.Seq.{take-append_seam, drop-append_seam}
-use Rattle.markdown_scanners_tree.specs.Bytes.{begins_with, is_blank, is_space_or_tab, is_white_space_in_line}
+use Rattle.markdown_scanners_tree.specs.Bytes.{begins_with, is_space_or_tab}
 use Rattle.markdown_scanners_tree.specs.Columns.{column_past, bytes_below, written_out}
 use Rattle.markdown_scanners_tree.specs.line.ItemRules.{start_of}
 use Rattle.markdown_scanners_tree.specs.line.State.{LineState, unscanned, rest_of, leading_spaces, bytes_further, bytes_for}
@@ -14,6 +14,7 @@ use Rattle.markdown_scanners_tree.specs.line.State.{columns_further, space_withi
 use Rattle.markdown_scanners_tree.proofs.line.ColumnLemmas.{none_below, below-cons}
 use Rattle.markdown_scanners_tree.proofs.line.SpaceLemmas.{none_at_front}
 use Rattle.markdown_scanners_tree.proofs.line.WrittenLemmas.{head-cons}
+use Rattle.markdown_blocks.specs.blank_lines.BlankLines.{is_blank}
 use Rattle.markdown_blocks.specs.laws.Held.{has_no_tab, KeepsTabs}
 use Rattle.markdown_blocks.proofs.laws.AlikeLemmas.{Alike}
 
@@ -116,7 +117,7 @@ alike_at line t c at keeps = record { text = sym at.text; pending = sym at.pendi
 -- spaces before a text, and a test
 pub blank_spaces : (n : ℕ) (bs : List ℕ) → is_blank (spaces n ++ bs) ≡ is_blank bs
 blank_spaces zero bs = refl
-blank_spaces (suc n) bs = ap (list_all is_white_space_in_line) (head-cons 32 (spaces n ++ bs) refl) ∙ blank_spaces n bs
+blank_spaces (suc n) bs = ap (list_all is_space_or_tab) (head-cons 32 (spaces n ++ bs) refl) ∙ blank_spaces n bs
 
 pub not_true : (b : Bool) → not b ≡ true → b ≡ false
 not_true true e = cc

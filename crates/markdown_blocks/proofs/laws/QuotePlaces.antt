@@ -3,12 +3,14 @@ use Rattle.std.proofs.Common.{ℕ, suc, Bool, true, false, not, ◌==◌, ◌+�
 use Rattle.std.proofs.Common.{Option, Some, None, refl, sym, ap, ◌∙◌, subst, arith, inl, inr}
 use Rattle.std.specs.Prelude.{if◌then◌else◌}
 use Rattle.markdown_scanners_tree.specs.Ascii.{greater_than_sign}
-use Rattle.markdown_scanners_tree.specs.Bytes.{begins_with, is_blank, is_space_or_tab}
+use Rattle.markdown_scanners_tree.specs.Bytes.{begins_with, is_space_or_tab}
 use Rattle.markdown_scanners_tree.specs.line.ItemRules.{start_of}
-use Rattle.markdown_scanners_tree.specs.line.Outcome.{after_quote, item_outcome}
+use Rattle.markdown_scanners_tree.specs.line.Outcome.{after_quote}
 use Rattle.markdown_scanners_tree.specs.line.State.{LineState, unscanned, bytes_further, space_within, after_space}
+use Rattle.markdown_blocks.specs.blank_lines.BlankLines.{is_blank}
 use Rattle.markdown_blocks.specs.containers.Containers.{behind_quote, begun_at, begun_behind, either_begun, extension_of}
 use Rattle.markdown_blocks.specs.containers.Containers.{within, within_quote, without_terms, behind, item_of}
+use Rattle.markdown_blocks.specs.containers.ItemMarkers.{item_outcome}
 use Rattle.markdown_blocks.specs.declared.containers.BlockExtensions.{BlockExtensions}
 use Rattle.markdown_blocks.specs.declared.containers.Container.{Container}
 use Rattle.markdown_blocks.specs.declared.containers.Container.TheVariants.{Quote}

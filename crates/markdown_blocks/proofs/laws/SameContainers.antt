@@ -2,16 +2,18 @@
 use Rattle.std.proofs.Common.{ℕ, suc, Bool, true, false, ◌==◌, ◌+◌, ◌≡◌, List, [], ◌∷◌, length, Option, Some, None, refl, sym, ap, ◌∙◌, subst}
 use Rattle.std.specs.Prelude.{if◌then◌else◌, ⊤}
 use Rattle.markdown_scanners_tree.specs.Ascii.{colon, greater_than_sign}
-use Rattle.markdown_scanners_tree.specs.Bytes.{begins_with, is_blank}
-use Rattle.markdown_scanners_tree.specs.line.Outcome.{Outcome, after_quote, definition_outcome, further_spaces, item_outcome}
-use Rattle.markdown_scanners_tree.specs.line.Outcome.{item_outcome_after, item_outcome_by, not_found, space_or_end_follows}
+use Rattle.markdown_scanners_tree.specs.Bytes.{begins_with}
+use Rattle.markdown_scanners_tree.specs.line.Outcome.{Outcome, after_quote, definition_outcome}
+use Rattle.markdown_scanners_tree.specs.line.Outcome.{not_found, space_or_end_follows}
 use Rattle.markdown_scanners_tree.specs.line.PlainStep.{definition_spaces}
 use Rattle.markdown_scanners_tree.specs.line.State.{LineState, unscanned, rest_of, leading_spaces, bytes_further, space_within, after_space}
 use Rattle.markdown_scanners_tree.specs.scanners.list_items.ListMarker.{Marker, list_marker}
+use Rattle.markdown_blocks.specs.blank_lines.BlankLines.{is_blank}
 use Rattle.markdown_blocks.specs.containers.Containers.{behind_quote, begun_at, begun_behind, either_begun, extension_of}
 use Rattle.markdown_blocks.specs.containers.Containers.{footnote_by, footnote_of, term_definition_by, term_definition_of, item_of, without_terms}
 use Rattle.markdown_blocks.specs.containers.Containers.{within, within_quote, within_width, go_on, Opens}
 use Rattle.markdown_blocks.specs.containers.Footnotes.{after_columns, footnote_label}
+use Rattle.markdown_blocks.specs.containers.ItemMarkers.{further_spaces, item_outcome, item_outcome_after, item_outcome_by}
 use Rattle.markdown_blocks.specs.declared.containers.BlockExtensions.{BlockExtensions}
 use Rattle.markdown_blocks.specs.declared.containers.Container.{Container}
 use Rattle.markdown_blocks.specs.declared.containers.Container.TheVariants.{Quote, Item, Footnote, TermDefinition}

@@ -7,17 +7,19 @@ use Rattle.std.proofs.lemmas.Bool.{lt-ltb}
 use Rattle.std.proofs.lemmas.Bool.Decides.{leb_tells, nat_tests}
 use Rattle.std.proofs.lemmas.List.{drop-drop}
 use Rattle.markdown_scanners_tree.specs.Ascii.{colon, greater_than_sign, left_bracket}
-use Rattle.markdown_scanners_tree.specs.Bytes.{begins_with, is_blank, is_digit, is_line_ending, is_white_space_in_line}
+use Rattle.markdown_scanners_tree.specs.Bytes.{begins_with, is_digit, is_line_ending, is_space_or_tab}
 use Rattle.markdown_scanners_tree.specs.Columns.{bytes_below, column_after}
-use Rattle.markdown_scanners_tree.specs.line.Outcome.{after_quote, definition_outcome, item_outcome}
+use Rattle.markdown_scanners_tree.specs.line.Outcome.{after_quote, definition_outcome}
 use Rattle.markdown_scanners_tree.specs.line.State.{LineState, after_space, bytes_for, space_within, unscanned}
 use Rattle.markdown_scanners_tree.specs.scanners.list_items.ListMarker.{bullet_marker, is_bullet, list_marker, ordered_marker}
 use Rattle.markdown_scanners_tree.proofs.PrefixLemmas.{both_true}
 use Rattle.markdown_scanners_tree.proofs.line.ColumnLemmas.{below-cons, bool_cases, none_below}
+use Rattle.markdown_blocks.specs.blank_lines.BlankLines.{is_blank}
 use Rattle.markdown_blocks.specs.containers.Containers.{Opens, all_extensions, begun_at, extension_of, footnote_by, footnote_of, go_on}
 use Rattle.markdown_blocks.specs.containers.Containers.{item_of, settled, settled_last, term_definition_by, term_definition_of, within}
 use Rattle.markdown_blocks.specs.containers.Containers.{within_width, without_terms}
 use Rattle.markdown_blocks.specs.containers.Footnotes.{behind_footnote, footnote_label}
+use Rattle.markdown_blocks.specs.containers.ItemMarkers.{item_outcome}
 use Rattle.markdown_blocks.specs.declared.containers.BlockExtensions.{BlockExtensions}
 use Rattle.markdown_blocks.specs.declared.containers.Container.{Container}
 use Rattle.markdown_blocks.specs.declared.containers.Container.TheVariants.{Quote, Item, Footnote, TermDefinition}
@@ -106,11 +108,24 @@ front_both (c ∷ []) [] all front = tt
 front_both (c ∷ []) (d ∷ inner) all front = (all.0, front)
 front_both (c ∷ d ∷ outer) inner all front = (all.0, front_both (d ∷ outer) inner all.1 front)
 
+-- the last of such containers, and of those that are left of others with such after them
+settled_end : (outer : List Container) → AreSettled outer → settled_last outer ≡ outer
+settled_end [] all = refl
+settled_end (c ∷ []) all = ap (λ d. d ∷ []) all.0
+settled_end (c ∷ d ∷ outer) all = ap (λ cs. c ∷ cs) (settled_end (d ∷ outer) all.1)
+
+pub settled_again : (outer inner : List Container) → AreSettled inner → settled_last (settled_last outer ++ inner) ≡ settled_last outer ++ inner
+settled_again [] inner all = settled_end inner all
+settled_again (c ∷ []) [] all = ap (λ d. d ∷ []) (settled_twice c)
+settled_again (c ∷ []) (d ∷ inner) all = ap (λ cs. settled c ∷ cs) (settled_end (d ∷ inner) all)
+settled_again (c ∷ d ∷ []) inner all = ap (λ cs. c ∷ cs) (settled_again (d ∷ []) inner all)
+settled_again (c ∷ d ∷ e ∷ outer) inner all = ap (λ cs. c ∷ cs) (settled_again (d ∷ e ∷ outer) inner all)
+
 -- ---- what begins
 
 -- after a byte of a blank rest that ends no line, the rest is blank
 blank_tail : (b : ℕ) (bs : List ℕ) → is_line_ending b ≡ false → is_blank (b ∷ bs) ≡ true → is_blank bs ≡ true
-blank_tail b bs goes blank = (both_true (is_white_space_in_line b) (is_blank bs) (rw (goes, one-add) at blank)).1
+blank_tail b bs goes blank = (both_true (is_space_or_tab b) (is_blank bs) (rw (goes, one-add) at blank)).1
 
 -- and so it is after space
 blank_below : (bs : List ℕ) (c k : ℕ) → is_blank bs ≡ true → is_blank (drop (bytes_below c bs k) bs) ≡ true
@@ -132,11 +147,11 @@ blank_behind n s blank =
     (blank_below (unscanned s) s.phase (s.phase + space_within n s - s.pending) blank)
 
 -- no marker stands in a blank rest
-white_first : (b : ℕ) (bs : List ℕ) → is_blank (b ∷ bs) ≡ true → (is_white_space_in_line b || is_line_ending b) ≡ true
+white_first : (b : ℕ) (bs : List ℕ) → is_blank (b ∷ bs) ≡ true → (is_space_or_tab b || is_line_ending b) ≡ true
 white_first b bs blank =
     bool_cases (is_line_ending b)
-    (λ ends. rw ends (or_true (is_white_space_in_line b)))
-    (λ goes. rw (goes, (both_true (is_white_space_in_line b) (is_blank bs) (rw (goes, one-add) at blank)).0) refl)
+    (λ ends. rw ends (or_true (is_space_or_tab b)))
+    (λ goes. rw (goes, (both_true (is_space_or_tab b) (is_blank bs) (rw (goes, one-add) at blank)).0) refl)
   where
     or_true : (t : Bool) → (t || true) ≡ true
     or_true true = refl

@@ -5,10 +5,11 @@ use Rattle.std.specs.Prelude.{if◌then◌else◌, ⊤}
 use Rattle.std.proofs.lemmas.Bool.{eqb-true}
 use Rattle.std.proofs.lemmas.List.{length-take}
 use Rattle.markdown_scanners_tree.specs.Ascii.{greater_than_sign}
-use Rattle.markdown_scanners_tree.specs.Bytes.{begins_with, is_blank}
+use Rattle.markdown_scanners_tree.specs.Bytes.{begins_with}
 use Rattle.markdown_scanners_tree.specs.line.ItemRules.{start_of}
-use Rattle.markdown_scanners_tree.specs.line.Outcome.{after_quote, definition_outcome, item_outcome}
+use Rattle.markdown_scanners_tree.specs.line.Outcome.{after_quote, definition_outcome}
 use Rattle.markdown_scanners_tree.specs.line.State.{LineState, unscanned, space_within, after_space}
+use Rattle.markdown_blocks.specs.blank_lines.BlankLines.{is_blank}
 use Rattle.markdown_blocks.specs.blocks.Leaves.{IsBlank, In, OnFirst, OutOr, IsLeaf}
 use Rattle.markdown_blocks.specs.blocks.Pages.{Piece, lines_in, root, containers_of, outer_of, open_behind, is_blank_kind, is_blank_between}
 use Rattle.markdown_blocks.specs.blocks.Pages.{AreOpened, IsPiece, AreBlocks, IsPage}
@@ -16,6 +17,7 @@ use Rattle.markdown_blocks.specs.containers.Containers.{Between, rest_at, asked_
 use Rattle.markdown_blocks.specs.containers.Containers.{footnote_by, footnote_of, go_on, item_of, rest_in, term_definition_by, term_definition_of}
 use Rattle.markdown_blocks.specs.containers.Containers.{within, without_terms, Opens}
 use Rattle.markdown_blocks.specs.containers.Footnotes.{behind_footnote, footnote_label}
+use Rattle.markdown_blocks.specs.containers.ItemMarkers.{item_outcome}
 use Rattle.markdown_blocks.specs.declared.blocks.BlockKind.{BlockKind}
 use Rattle.markdown_blocks.specs.declared.blocks.BlockKind.TheVariants.{Blank, Break, Heading, Setext, Indented}
 use Rattle.markdown_blocks.specs.declared.blocks.BlockKind.TheVariants.{Fenced, Html, Table, Definition, Paragraph}

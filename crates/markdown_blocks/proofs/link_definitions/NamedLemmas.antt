@@ -16,6 +16,7 @@ use Rattle.markdown_scanners_tree.specs.linklabel.Key.{key_bytes}
 use Rattle.markdown_scanners_tree.specs.linklabel.Label.{Label, IsLabel, IsLabelInBytes}
 use Rattle.markdown_scanners_tree.specs.NoSkips.{SkipsNothing}
 use Rattle.markdown_scanners_tree.proofs.ForCallers.{one_label_unskipped}
+use Rattle.markdown_blocks.specs.byte_order_mark.ByteOrderMark.{text_of}
 use Rattle.markdown_blocks.specs.blocks.Pages.{Piece, IsPiece, AreBlocks, lines_in, root}
 use Rattle.markdown_blocks.specs.containers.Containers.{Between, Rest}
 use Rattle.markdown_blocks.specs.declared.containers.BlockExtensions.{BlockExtensions}
@@ -251,7 +252,8 @@ pub record Left (open_now : Between) (text : List ℕ) (named : List Named) : Ty
 pub none_left : (open_now : Between) (text : List ℕ) → text ≡ [] → Left open_now text []
 none_left open_now text last = record { pieces = []; joined = sym (ap lines_of last); each = tt; are_named = refl }
 
-pub whole_page : (asked : BlockExtensions) (page : List ℕ) (named : List Named) → Left (root asked) page named → HasDefinitions asked page named
+pub whole_page : (asked : BlockExtensions) (page : List ℕ) (named : List Named) → Left (root asked) (text_of page) named
+    → HasDefinitions asked page named
 whole_page asked page named left = record {
   pieces = left.pieces;
   is_page = record { joined = left.joined; each = left.each };

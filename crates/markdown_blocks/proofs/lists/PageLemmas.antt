@@ -3,6 +3,7 @@ use Rattle.std.proofs.Common.{ℕ, zero, suc, List, [], ◌∷◌, ◌++◌, ◌
 use Rattle.std.proofs.Common.{refl, sym, ap, ◌∙◌, subst, arith, append_assoc, length-append}
 use Rattle.std.specs.Prelude.{map, replicate}
 use Rattle.std.proofs.lemmas.List.{length-take}
+use Rattle.markdown_blocks.specs.byte_order_mark.ByteOrderMark.{text_start}
 use Rattle.markdown_blocks.proofs.events.EventLemmas.{kept_fewer, one_list_of_events}
 use Rattle.markdown_blocks.proofs.lists.ListLemmas.{page_lists}
 use Rattle.markdown_blocks.specs.blocks.Pages.{Piece, IsPiece, AreBlocks, open_behind, root}
@@ -93,7 +94,7 @@ events_nested (piece ∷ later) outer line start blocks each are =
 pub events_of_nodes : (asked : BlockExtensions) (page : List ℕ) (events : List Event) → IsEventsOf asked page events → (nodes : Nodes)
     × (events ≡ flatten nodes)
 events_of_nodes asked page events h =
-    let n = events_nested h.0 (root asked) 0 0 h.1 h.2.each h.3 in
+    let n = events_nested h.0 (root asked) 0 (text_start page) h.1 h.2.each h.3 in
     (n.0, h.4 ∙ n.1)
 
 -- what the lists of such nodes are, the page's are

@@ -1,12 +1,13 @@
 -- Rows of later lines, one after the other, and the delimiter row.
-use Rattle.std.proofs.Common.{ℕ, zero, suc, ◌+◌, ◌<◌, ◌≤◌, ◌≡◌, List, [], ◌∷◌, length, drop, refl, sym, ap, subst, ◌∙◌, inl, inr, arith}
+use Rattle.std.proofs.Common.{ℕ, true, false, ◌+◌, ◌≤◌, ◌≡◌, List, [], ◌∷◌, length, drop, refl, sym, ap, subst, ◌∙◌, inl, inr, arith}
 use Rattle.markdown_values.specs.declared.values.Alignment.{Alignment}
 use Rattle.markdown_scanners_tree.specs.line.State.{LineState}
 use Rattle.markdown_scanners_tree.specs.scanners.TextLines.{lines_of}
-use Rattle.markdown_scanners_tree.specs.scanners.tables.DelimiterRow.{IsDelimiterRow, NoDelimiterRow}
+use Rattle.markdown_scanners_tree.proofs.line.ColumnLemmas.{bool_cases}
 use Rattle.markdown_blocks.specs.containers.Containers.{Rest, behind, rest_at}
 use Rattle.markdown_blocks.specs.declared.containers.Container.{Container}
 use Rattle.markdown_blocks.specs.declared.taken.Taken.{Taken}
+use Rattle.markdown_blocks.specs.delimiter_rows.DelimiterRows.{alignments_in, is_delimiter_row}
 use Rattle.markdown_blocks.specs.rows.Rows.{AreAlignments, AreGiven, body_rows, later_rows, row_at}
 use Rattle.markdown_blocks.specs.taken.Lines.{IsNext, IsTaken}
 use Rattle.markdown_blocks.proofs.content.parts.NextLemmas.{more_bytes}
@@ -52,8 +53,9 @@ pub first_missing : (text : List ℕ) (taken : Taken) → ((t : List ℕ) → Is
 first_missing text taken nothing none = (nothing text).parts ∙ none
 
 -- what a delimiter row tells
-pub row_tells : (indent : ℕ) (text : List ℕ) (n : ℕ) (alignments : List Alignment) → ¬ (indent ≡ 4)
-    → (0 < n → IsDelimiterRow text n alignments) → (n ≡ 0 → NoDelimiterRow text) → (n ≡ 0 → alignments ≡ [])
+pub row_tells : (indent : ℕ) (text : List ℕ) (alignments : List Alignment) → ¬ (indent ≡ 4) → alignments ≡ alignments_in text
     → AreGiven (record { indent = indent; text = text }) alignments
-row_tells indent text zero alignments near found none empty = inr (λ others columns. none refl columns.1 others columns.2, empty refl)
-row_tells indent text (suc n) alignments near found none empty = inl (near, suc n, found (omega arith))
+row_tells indent text alignments near is =
+    bool_cases (is_delimiter_row text)
+    (λ row. inl (near, row, is))
+    (λ other. inr (λ others columns. (let both : true ≡ false = sym columns.1 ∙ other in cc), is ∙ rw other refl))

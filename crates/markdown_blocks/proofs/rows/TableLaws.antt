@@ -1,9 +1,9 @@
 -- A table has as many columns as its head has cells, and as its delimiter row tells.
-use Rattle.std.proofs.Common.{ℕ, List, ◌∷◌, ◌≡◌, length, sym, ap, subst, ◌∙◌, inl, inr}
+use Rattle.std.proofs.Common.{ℕ, List, ◌∷◌, ◌≡◌, length, map, refl, sym, ap, subst, ◌∙◌, inl, inr}
+use Rattle.std.proofs.lemmas.List.{length-map}
 use Rattle.markdown_values.specs.declared.values.Alignment.{Alignment}
-use Rattle.markdown_scanners_tree.proofs.ForCallers.{one_row}
 use Rattle.markdown_blocks.specs.blocks.Leaves.{IsLeaf}
-use Rattle.markdown_blocks.specs.blocks.Tables.{IsDelimiter}
+use Rattle.markdown_blocks.specs.delimiter_rows.DelimiterRows.{IsDelimiter, alignment_of, alignments_in, cell_text}
 use Rattle.markdown_blocks.specs.cells.Cells.{cells_of}
 use Rattle.markdown_blocks.specs.containers.Containers.{Outer, Rest, rest_in}
 use Rattle.markdown_blocks.specs.declared.blocks.BlockKind.TheVariants.{Table}
@@ -12,9 +12,10 @@ use Rattle.markdown_blocks.proofs.cells.LawLemmas.{length-cells_of}
 
 given_columns : (rest : Rest) (columns : ℕ) (alignments : List Alignment) → IsDelimiter columns rest → AreGiven rest alignments → length alignments ≡ columns
 given_columns rest columns alignments row (inl given) =
-    let same = one_row rest.text row.1 row.2 given.1 alignments row.3 given.2 in
-    ap (λ (r : ℕ × List Alignment). length r.1) (sym same) ∙ sym row.4
-given_columns rest columns alignments row (inr none) = absurd (none.0 row.2 (row.0, row.1, row.3))
+    let cells = cells_of rest.text in
+    let all : alignments_in rest.text ≡ map alignment_of (map (cell_text rest.text) cells) = rw row.1 refl in
+    ap length (given.2 ∙ all) ∙ length-map (map (cell_text rest.text) cells) alignment_of ∙ length-map cells (cell_text rest.text) ∙ sym row.2
+given_columns rest columns alignments row (inr none) = absurd (none.0 (alignments_in rest.text) (row.0, row.1, refl))
 
 -- the block that a table is
 module _ (outer : Outer) (columns : ℕ) (first : Rest) (later rest : List (List ℕ)) (leaf : IsLeaf outer (Table columns) first later rest) where

@@ -1,15 +1,16 @@
 -- Cells of a row, read from its front, and lines that are rows.
-use Rattle.std.proofs.Common.{ℕ, ◌+◌, ◌<◌, ◌≤◌, Bool, true, false, IsTrue, List, [], ◌∷◌, length, drop, get_or, None}
+use Rattle.std.proofs.Common.{ℕ, ◌+◌, ◌<◌, ◌≤◌, Bool, true, false, IsTrue, List, [], ◌∷◌, length, drop, get_or, not, Option, Some, None}
 use Rattle.std.proofs.Common.{◌≡◌, refl, sym, ap, subst, ◌∙◌, arith}
+use Rattle.std.specs.Prelude.{is_some}
 use Rattle.std.proofs.lemmas.List.{at_drop_more, drop_all}
 use mir.Val.{bool_byte}
-use Rattle.markdown_values.specs.declared.values.Alignment.{Alignment}
-use Rattle.markdown_scanners_tree.proofs.ForCallers.{one_row}
+use Rattle.markdown_scanners_tree.specs.SomeExactly.{SomeExactly}
 use Rattle.markdown_scanners_tree.specs.line.State.{LineState}
 use Rattle.markdown_blocks.specs.containers.Containers.{Outer, Rest, rest_at, asked_first, asked_in, begun_at, behind, IsInside, rest_in, without_terms}
 use Rattle.markdown_blocks.specs.declared.blocks.BlockKind.TheVariants.{Paragraph}
-use Rattle.markdown_blocks.specs.blocks.Leaves.{Begins, IsRow, In, IsHead, LeavesParagraph}
-use Rattle.markdown_blocks.specs.blocks.Tables.{separates, separators, ends_separated, cells, IsDelimiter}
+use Rattle.markdown_blocks.specs.blocks.Leaves.{Begins, BeginsTable, DefinesTerm, IsHeader, IsRow, In, IsHead, LeavesParagraph}
+use Rattle.markdown_blocks.specs.blocks.Tables.{separates, separators, ends_separated, cells}
+use Rattle.markdown_blocks.specs.delimiter_rows.DelimiterRows.{IsDelimiter}
 
 -- whether the last byte of a row separates, where this is known of the one before what is left of it
 abbrev pub ends_from : Bool → ℕ → List ℕ → Bool
@@ -65,9 +66,7 @@ row_given outer line s rest r same is inside none tells =
 
 -- a delimiter row has one number of columns
 one_number : (rest : Rest) (columns other : ℕ) → IsDelimiter columns rest → IsDelimiter other rest → other ≡ columns
-one_number rest columns other d o =
-    let same = one_row rest.text d.1 d.2 o.1 o.2 d.3 o.3 in
-    o.4 ∙ ap (λ (row : ℕ × List Alignment). length row.1) (sym same) ∙ sym d.4
+one_number rest columns other d o = o.2 ∙ sym d.2
 
 -- a line that is the delimiter row of no table
 pub no_delimiter : (outer : Outer) (text line : List ℕ) → ((columns : ℕ) → ¬ In outer.containers (IsDelimiter columns) line)
@@ -80,3 +79,32 @@ module _ (outer : Outer) (text line : List ℕ) (columns : ℕ) (found : In oute
   no_head leaves other head =
       let same : other ≡ columns = one_number (rest_in outer.containers line) columns other found.1 head.2.1 in
       head.1 (leaves (head.3 ∙ same))
+
+-- a table that begins after other lines of a paragraph
+pub header_of : (outer : Outer) (line : List ℕ) (lines : List (List ℕ)) → BeginsTable outer (line ∷ lines) → IsHeader outer line
+header_of outer line [] table = absurd table
+header_of outer line (next ∷ lines) (header, columns, head) = header
+
+pub header_given : (outer : Outer) (line : List ℕ) → IsRow outer line → (defines : Bool)
+    → (IsTrue defines → DefinesTerm outer.extensions (rest_in outer.containers line))
+    × (DefinesTerm outer.extensions (rest_in outer.containers line) → IsTrue defines)
+    → (IsTrue (not defines) → IsHeader outer line) × (IsHeader outer line → IsTrue (not defines))
+header_given outer line row true tells = (λ t. cc, λ header. absurd (header.1 (tells.0 refl)))
+header_given outer line row false tells = (λ t. (row, λ defines. let passes = tells.1 defines in cc), λ header. refl)
+
+module _ (outer : Outer) (line next : List ℕ) (lines : List (List ℕ)) where
+  pub no_begin : ((columns : ℕ) → ¬ In outer.containers (IsDelimiter columns) next) → ¬ BeginsTable outer (line ∷ next ∷ lines)
+  no_begin none (header, columns, head) = none columns head.2
+
+  pub begin_given : (words : List ℕ) (found : Option ℕ) (some : Bool) → words ≡ (rest_in outer.containers line).text → IsHeader outer line
+      → SomeExactly (λ columns. IsHead outer words columns next) found → some ≡ is_some found
+      → (IsTrue some → BeginsTable outer (line ∷ next ∷ lines)) × (BeginsTable outer (line ∷ next ∷ lines) → IsTrue some)
+  begin_given words (Some columns) some same header head is =
+      (λ t. (header, columns, subst (λ w. IsHead outer w columns next) same head), λ table. is)
+  begin_given words None some same header none is = (λ t. let both : true ≡ false = sym t ∙ is in cc, by)
+    where
+      by : BeginsTable outer (line ∷ next ∷ lines) → IsTrue some
+      by (header, columns, head) = absurd (none columns (subst (λ w. IsHead outer w columns next) (sym same) head))
+
+pub same_line : (lines : List (List ℕ)) (a b : List ℕ) (xs ys : List (List ℕ)) → lines ≡ a ∷ xs → lines ≡ b ∷ ys → a ≡ b
+same_line lines a b xs ys is other = let both : a ∷ xs ≡ b ∷ ys = sym is ∙ other in cc

@@ -14,8 +14,8 @@ use Rattle.markdown_blocks.specs.containers.Containers.{IsInside}
 use Rattle.markdown_blocks.specs.blocks.Leaves.{OnFirst, StopsBefore, StopsBehind}
 
 -- a slice from a place on is what is after it
-pub slice_behind : {A : Type 0} (text : List A) (b : ℕ) → take (length text - b) (drop b text) ≡ drop b text
-slice_behind text b = take_all (length text - b) (drop b text) (omega (arith, length-drop b text))
+pub slice_after : {A : Type 0} (text : List A) (b : ℕ) → take (length text - b) (drop b text) ≡ drop b text
+slice_after text b = take_all (length text - b) (drop b text) (omega (arith, length-drop b text))
 
 -- the line that is taken from the front of what is left
 pub next_line : (text : List ℕ) (taken more : Taken) (n : ℕ) (rest : List ℕ) → rest ≡ drop taken.bytes text → taken.bytes < length text

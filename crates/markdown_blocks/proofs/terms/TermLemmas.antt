@@ -5,8 +5,9 @@ use Rattle.std.proofs.Common.{suc, Bool, ◌++◌, ◌⊎◌, subst}
 use Rattle.std.specs.List.{flat_map, list_all, prefix_len}
 use Rattle.std.specs.Prelude.{nat_lt}
 use Rattle.std.proofs.lemmas.Bool.Decides.{nat_tests}
-use Rattle.markdown_scanners_tree.specs.Bytes.{is_blank, is_line_ending, is_space_or_tab, is_white_space_in_line}
+use Rattle.markdown_scanners_tree.specs.Bytes.{is_line_ending, is_space_or_tab}
 use Rattle.markdown_scanners_tree.proofs.line.WrittenLemmas.{head-cons}
+use Rattle.markdown_blocks.specs.blank_lines.BlankLines.{is_blank}
 use Rattle.markdown_blocks.specs.blocks.Leaves.{IsBlank, IsLeaf}
 use Rattle.markdown_blocks.specs.containers.Containers.{Outer, Rest}
 use Rattle.markdown_blocks.specs.declared.containers.Container.{Container}
@@ -59,8 +60,7 @@ front_some (b ∷ bs) h none = by (is_space_or_tab b) refl (front_some bs)
     by : (t : Bool) → is_space_or_tab b ≡ t → (is_blank bs ≡ false → without_front bs ≢ []) → ⊥
     by true is later =
         let plain : is_line_ending b ≡ false = grind (arith, nat_tests) in
-        let white : is_white_space_in_line b ≡ true = grind (arith, nat_tests) in
-        let same : is_blank (b ∷ bs) ≡ is_blank bs = ap (list_all is_white_space_in_line) (head-cons b bs plain) ∙ rw white refl in
+        let same : is_blank (b ∷ bs) ≡ is_blank bs = ap (list_all is_space_or_tab) (head-cons b bs plain) ∙ rw is refl in
         let count : prefix_len is_space_or_tab (b ∷ bs) ≡ suc (prefix_len is_space_or_tab bs) = rw is (omega arith) in
         later (sym same ∙ h) (subst (λ n. drop n (b ∷ bs) ≡ []) count none)
     by false is later =

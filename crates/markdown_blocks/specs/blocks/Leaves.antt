@@ -1,26 +1,35 @@
 -- Where the blocks of a page begin and end, line by line, in their containers. (CommonMark 0.31.2, chapter 4)
-use Rattle.std.specs.Prelude.{ℕ, false, ◌&&◌, ◌==◌, List, [], ◌∷◌, ◌++◌, ◌≡◌, ◌≢◌, ◌⊎◌, ⊤, None, is_some, IsTrue, MatchBool}
-use Rattle.std.specs.List.{AllByRecursion}
+use Rattle.std.specs.Prelude.{ℕ, Bool, false, not, ◌&&◌, ◌||◌, ◌==◌, List, [], ◌∷◌, ◌++◌, ◌≡◌, ◌≢◌, ◌⊎◌, ⊤, Option, Some, None, drop, is_some}
+use Rattle.std.specs.Prelude.{IsTrue, MatchBool, if◌then◌else◌}
+use Rattle.std.specs.List.{AllByRecursion, prefix_len}
 use Rattle.markdown_values.specs.declared.values.HeadingLevel.{HeadingLevel}
-use Rattle.markdown_scanners_tree.specs.Ascii.{colon}
-use Rattle.markdown_scanners_tree.specs.Bytes.{begins_with, is_blank}
+use Rattle.markdown_scanners_tree.specs.Ascii.{colon, number_sign}
+use Rattle.markdown_scanners_tree.specs.Bytes.{begins_with, is_between}
 use Rattle.markdown_scanners_tree.specs.declared.scanners.html_kinds.HtmlBlockKind.{HtmlBlockKind}
+use Rattle.markdown_scanners_tree.specs.declared.scanners.html_kinds.HtmlBlockKind.TheVariants.{TagAlone}
+use Rattle.markdown_scanners_tree.specs.line.ItemRules.{start_of}
 use Rattle.markdown_scanners_tree.specs.line.State.{LineState}
 use Rattle.markdown_scanners_tree.specs.scanners.Breaks.{IsThematicBreak}
 use Rattle.markdown_scanners_tree.specs.scanners.Fences.{IsCodeFence, IsClosingCodeFence}
 use Rattle.markdown_scanners_tree.specs.scanners.Headings.{IsAtxHeading, IsSetextUnderline}
 use Rattle.markdown_scanners_tree.specs.scanners.Interrupts.{InterruptsParagraph}
 use Rattle.markdown_scanners_tree.specs.scanners.html_kinds.HtmlKinds.{IsHtmlBlockStart, ends_before_blank, is_html_end}
-use Rattle.markdown_blocks.specs.containers.Containers.{Outer, Rest, rest_at, asked_in, begun_at, behind, IsInside, rest_in, without_terms}
+use Rattle.markdown_scanners_tree.specs.scanners.html_tag.HtmlTag.{IsTagAloneInLine}
+use Rattle.markdown_scanners_tree.specs.scanners.list_items.ListMarker.{is_bullet}
+use Rattle.markdown_blocks.specs.blank_lines.BlankLines.{is_blank}
+use Rattle.markdown_blocks.specs.containers.Containers.{Outer, Rest, rest_at, asked_in, begun_at, behind, IsInside, rest_in, item_of, without_terms}
 use Rattle.markdown_blocks.specs.containers.Footnotes.{footnote_label}
+use Rattle.markdown_blocks.specs.containers.ItemMarkers.{item_outcome}
 use Rattle.markdown_blocks.specs.declared.containers.BlockExtensions.{BlockExtensions}
 use Rattle.markdown_blocks.specs.declared.blocks.BlockKind.{BlockKind}
 use Rattle.markdown_blocks.specs.declared.blocks.BlockKind.TheVariants.{Blank, Break, Heading, Setext, Indented}
 use Rattle.markdown_blocks.specs.declared.blocks.BlockKind.TheVariants.{Fenced, Html, Table, Definition, Paragraph}
 use Rattle.markdown_blocks.specs.declared.containers.Container.{Container}
+use Rattle.markdown_blocks.specs.declared.containers.Container.TheVariants.{Item}
 use Rattle.markdown_blocks.specs.definitions.Content.{content_of}
 use Rattle.markdown_blocks.specs.definitions.Definitions.{HasText}
-use Rattle.markdown_blocks.specs.blocks.Tables.{cells, IsDelimiter}
+use Rattle.markdown_blocks.specs.blocks.Tables.{cells}
+use Rattle.markdown_blocks.specs.delimiter_rows.DelimiterRows.{IsDelimiter}
 
 -- the rest of a line is blank (4.9)
 abbrev pub IsBlank : Rest → Type 0
@@ -29,6 +38,20 @@ IsBlank rest = IsTrue (is_blank rest.text)
 -- four columns of space stand before its text (4.4)
 abbrev pub HasIndent : Rest → Type 0
 HasIndent rest = rest.indent ≡ 4
+
+-- number signs stand at the front, and a vertical tab or a form feed directly after them
+abbrev pub has_fed_signs : List ℕ → Bool
+has_fed_signs text =
+    begins_with (λ b. b == number_sign) text && begins_with (is_between 11 12) (drop (prefix_len (λ b. b == number_sign) text) text)
+
+-- An ATX heading of this level begins here: after its number signs comes a space, a tab or the line's end. (4.2)
+abbrev pub IsHeading : HeadingLevel → List ℕ → Type 0
+IsHeading level text = IsAtxHeading text level × IsTrue (not (has_fed_signs text))
+
+-- An HTML block of this kind begins here. After a tag that stands alone in its line come spaces and tabs alone. (4.6)
+abbrev pub IsHtmlStart : HtmlBlockKind → List ℕ → Type 0
+IsHtmlStart kind text =
+    IsHtmlBlockStart text kind × ((n : ℕ) → kind ≡ TagAlone → IsTagAloneInLine text n → IsTrue (is_blank (drop n text)))
 
 -- The rest of a line is the first of a block of this kind, if this is its text after its indent and it begins no container.
 -- A paragraph is what is nothing else.
@@ -39,12 +62,12 @@ BeginsAt (Setext level) text = ⊥
 BeginsAt (Table columns) text = ⊥
 BeginsAt Definition text = ⊥
 BeginsAt Break text = IsThematicBreak text
-BeginsAt (Heading level) text = IsAtxHeading text level
+BeginsAt (Heading level) text = IsHeading level text
 BeginsAt (Fenced count byte) text = IsCodeFence text count byte
-BeginsAt (Html kind) text = IsHtmlBlockStart text kind
+BeginsAt (Html kind) text = IsHtmlStart kind text
 BeginsAt Paragraph text =
-    (¬ IsThematicBreak text) × ((level : HeadingLevel) → ¬ IsAtxHeading text level)
-    × ((fence : ℕ × ℕ) → ¬ IsCodeFence text fence.0 fence.1) × ((kind : HtmlBlockKind) → ¬ IsHtmlBlockStart text kind)
+    (¬ IsThematicBreak text) × ((level : HeadingLevel) → ¬ IsHeading level text)
+    × ((fence : ℕ × ℕ) → ¬ IsCodeFence text fence.0 fence.1) × ((kind : HtmlBlockKind) → ¬ IsHtmlStart kind text)
 
 -- the rest of a line is the first of a block of this kind
 abbrev pub Begins : BlockKind → Rest → Type 0
@@ -52,13 +75,29 @@ Begins Blank rest = IsBlank rest
 Begins Indented rest = (¬ IsBlank rest) × HasIndent rest
 Begins kind rest = (¬ IsBlank rest) × (¬ HasIndent rest) × BeginsAt kind rest.text
 
--- it is the underline of a setext heading of this level (4.3)
+-- it is the underline of a setext heading of this level, with spaces and tabs alone after it (4.3)
 abbrev pub IsUnderline : HeadingLevel → Rest → Type 0
-IsUnderline level rest = (¬ HasIndent rest) × (n : ℕ) × IsSetextUnderline rest.text n level
+IsUnderline level rest =
+    (¬ HasIndent rest) × (n : ℕ) × (underline : IsSetextUnderline rest.text n level) × IsTrue (is_blank underline.rest)
+
+-- a list item whose first line is not blank, with a bullet or the number 1 (5.2, list items)
+abbrev pub is_filled_item : Option (Container × LineState) → Bool
+is_filled_item (Some (Item item, s)) = not item.begun && (is_bullet item.delimiter || item.start == 1)
+is_filled_item begun = false
+
+-- such an item begins here
+unfoldable pub begins_filled_item : List ℕ → Bool
+begins_filled_item text = is_filled_item (item_of (item_outcome 0 (start_of text)))
+
+-- one does, or the marker of a footnote definition stands here and footnotes are on
+abbrev pub interrupts_by_marker : BlockExtensions → List ℕ → Bool
+interrupts_by_marker asked text =
+    (asked.footnotes && is_some (footnote_label text)) || begins_filled_item text
 
 -- with these extensions on a text, after fewer than four columns of space, interrupts a paragraph (4.8)
 abbrev pub Interrupts : BlockExtensions → List ℕ → Type 0
-Interrupts asked text = InterruptsParagraph text ⊎ IsTrue (asked.footnotes && is_some (footnote_label text))
+Interrupts asked text =
+    (IsTrue (not (has_fed_signs text)) × InterruptsParagraph text) ⊎ IsTrue (interrupts_by_marker asked text)
 
 -- it goes on with no paragraph: it is blank, an underline, or interrupts it (4.8)
 abbrev pub EndsParagraph : BlockExtensions → Rest → Type 0
@@ -81,9 +120,12 @@ EndsContent asked content rest =
 abbrev pub ClosesFence : ℕ → ℕ → Rest → Type 0
 ClosesFence count byte rest = (¬ HasIndent rest) × (rest.text ≢ []) × (n : ℕ) × IsClosingCodeFence rest.text byte count n
 
--- it meets the end condition of an HTML block (4.6)
+-- it meets the end condition of an HTML block: it is blank, or holds what ends the block (4.6)
+abbrev pub ends_html : HtmlBlockKind → List ℕ → Bool
+ends_html kind text = if ends_before_blank kind then is_blank text else is_html_end kind text
+
 abbrev pub EndsHtml : HtmlBlockKind → Rest → Type 0
-EndsHtml kind rest = IsTrue (is_html_end kind rest.text)
+EndsHtml kind rest = IsTrue (ends_html kind rest.text)
 
 -- The line is lazy, with this rest after fewer containers than the paragraph before it stands in: the rest begins no container,
 -- and it is text that does not interrupt a paragraph. (5.1, laziness; 5.2, rule 5; "Parsing strategy", phase 1)
@@ -141,20 +183,37 @@ OnFirst P (line ∷ lines) = P line
 abbrev pub BeginsNoTable : Outer → Rest → List (List ℕ) → Type 0
 BeginsNoTable outer first = OnFirst (λ line. (columns : ℕ) → ¬ IsHead outer first.text columns line)
 
+-- It may be the header row of a table after other lines of a paragraph: it stands as a row does, and defines no term. (the same section)
+abbrev pub IsHeader : Outer → List ℕ → Type 0
+IsHeader outer line = IsRow outer line × (¬ DefinesTerm outer.extensions (rest_in outer.containers line))
+
+-- With the first of these lines, which is no first line of a paragraph, a table begins: the second is the delimiter row after it.
+abbrev pub BeginsTable : Outer → List (List ℕ) → Type 0
+BeginsTable outer [] = ⊥
+BeginsTable outer (line ∷ []) = ⊥
+BeginsTable outer (line ∷ next ∷ lines) =
+    IsHeader outer line × (columns : ℕ) × IsHead outer (rest_in outer.containers line).text columns next
+
+-- These lines end a paragraph whose first line has this text, and which has these later lines before them: the first of them goes on
+-- with no such paragraph, or a table begins with it.
+abbrev pub EndParagraph : Outer → List ℕ → List (List ℕ) → List (List ℕ) → Type 0
+EndParagraph outer text before [] = ⊥
+EndParagraph outer text before (line ∷ lines) = LeavesBehind outer text before line ⊎ BeginsTable outer (line ∷ lines)
+
 -- the lines are all up to the first that has the property, or to the last line
 pub record StopsBefore (P : List ℕ → Type 0) (lines rest : List (List ℕ)) : Type 0 where
   pub none : AllByRecursion (λ line. ¬ P line) lines
   pub stopped : OnFirst P rest
 
--- none of the lines has the property after those before it
-abbrev pub NoneBehind : (List (List ℕ) → List ℕ → Type 0) → List (List ℕ) → List (List ℕ) → Type 0
-NoneBehind P before [] = ⊤
-NoneBehind P before (line ∷ lines) = (¬ P before line) × NoneBehind P (before ++ line ∷ []) lines
+-- with none of the lines on do they and these have the property, after those before it
+abbrev pub NoneBehind : (List (List ℕ) → List (List ℕ) → Type 0) → List (List ℕ) → List (List ℕ) → List (List ℕ) → Type 0
+NoneBehind P before [] rest = ⊤
+NoneBehind P before (line ∷ lines) rest = (¬ P before (line ∷ (lines ++ rest))) × NoneBehind P (before ++ line ∷ []) lines rest
 
--- the lines are all up to the first that has the property after those before it, or to the last line
-pub record StopsAt (P : List (List ℕ) → List ℕ → Type 0) (lines rest : List (List ℕ)) : Type 0 where
-  pub none : NoneBehind P [] lines
-  pub stopped : OnFirst (P lines) rest
+-- the lines are all up to the first from which on lines have the property after those before it, or to the last line
+pub record StopsAt (P : List (List ℕ) → List (List ℕ) → Type 0) (lines rest : List (List ℕ)) : Type 0 where
+  pub none : NoneBehind P [] lines rest
+  pub stopped : (rest ≡ []) ⊎ P lines rest
 
 -- the last of the lines is the first that has the property, and stands in the containers; or no such line does
 abbrev pub StopsBehind : List Container → (List ℕ → Type 0) → List (List ℕ) → List (List ℕ) → Type 0
@@ -205,10 +264,10 @@ IsLeaf outer (Table columns) first later rest =
     × (head : List ℕ) × (rows : List (List ℕ)) × (later ≡ head ∷ rows)
     × IsHead outer first.text columns head × StopsBefore (λ line. ¬ IsRow outer line) rows rest
 IsLeaf outer Paragraph first later rest =
-    Begins Paragraph first × BeginsNoTable outer first (later ++ rest) × StopsAt (LeavesBehind outer first.text) later rest
+    Begins Paragraph first × BeginsNoTable outer first (later ++ rest) × StopsAt (EndParagraph outer first.text) later rest
     × OnFirst (λ line. (level : HeadingLevel) → ¬ Underlines outer.containers first.text later level line) rest
 IsLeaf outer (Setext level) first later rest =
     Begins Paragraph first
     × (middle : List (List ℕ)) × (last : List ℕ) × (later ≡ middle ++ last ∷ []) × BeginsNoTable outer first (later ++ rest)
-    × StopsAt (LeavesBehind outer first.text) middle (last ∷ rest) × Underlines outer.containers first.text middle level last
+    × StopsAt (EndParagraph outer first.text) middle (last ∷ rest) × Underlines outer.containers first.text middle level last
 IsLeaf outer kind first later rest = Begins kind first × (later ≡ [])

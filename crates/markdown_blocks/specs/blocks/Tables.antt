@@ -1,11 +1,9 @@
--- How many cells a row of a table has, and which line makes the one before it the first of a table.
+-- How many cells a row of a table has.
 -- (GitHub Flavored Markdown 0.29, section 4.10, tables)
-use Rattle.std.specs.Prelude.{ℕ, Bool, false, not, ◌&&◌, ◌==◌, ◌+◌, ◌-◌, ◌≡◌, List, [], ◌∷◌, length, if◌then◌else◌}
-use Rattle.markdown_values.specs.declared.values.Alignment.{Alignment}
+use Rattle.std.specs.Prelude.{ℕ, Bool, false, not, ◌&&◌, ◌==◌, ◌+◌, ◌-◌, List, [], ◌∷◌, if◌then◌else◌}
 use Rattle.markdown_scanners_tree.specs.Ascii.{space, backslash, vertical_line}
 use Rattle.markdown_scanners_tree.specs.Bytes.{begins_with, line_head}
-use Rattle.markdown_scanners_tree.specs.scanners.tables.DelimiterRow.{IsDelimiterRow, is_pipe}
-use Rattle.markdown_blocks.specs.containers.Containers.{Rest}
+use Rattle.markdown_scanners_tree.specs.scanners.tables.DelimiterRow.{is_pipe}
 use Rattle.markdown_blocks.specs.info.Info.{without_end}
 
 -- a pipe separates cells, unless a backslash stands directly before it
@@ -31,9 +29,3 @@ cells_in row =
 -- of a line with this text, without the spaces and tabs at its end
 abbrev pub cells : List ℕ → ℕ
 cells text = cells_in (without_end (line_head text))
-
--- the rest of a line is a delimiter row of so many cells
-abbrev pub IsDelimiter : ℕ → Rest → Type 0
-IsDelimiter columns rest =
-    (¬ (rest.indent ≡ 4)) × (n : ℕ) × (alignments : List Alignment) × IsDelimiterRow rest.text n alignments
-    × (columns ≡ length alignments)

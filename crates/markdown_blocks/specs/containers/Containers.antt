@@ -3,11 +3,13 @@
 use Rattle.std.specs.Prelude.{ℕ, suc, Bool, true, false, not, ◌==◌, ◌≡◌, List, [], ◌∷◌, length, drop, Option, Some, None, if◌then◌else◌}
 use Rattle.std.specs.Option.{option_map}
 use Rattle.markdown_scanners_tree.specs.Ascii.{greater_than_sign}
-use Rattle.markdown_scanners_tree.specs.Bytes.{begins_with, is_blank}
+use Rattle.markdown_scanners_tree.specs.Bytes.{begins_with}
 use Rattle.markdown_scanners_tree.specs.line.ItemRules.{start_of}
-use Rattle.markdown_scanners_tree.specs.line.Outcome.{Outcome, after_quote, item_outcome, definition_outcome}
+use Rattle.markdown_scanners_tree.specs.line.Outcome.{Outcome, after_quote, definition_outcome}
 use Rattle.markdown_scanners_tree.specs.line.State.{LineState, unscanned, space_within, after_space}
+use Rattle.markdown_blocks.specs.blank_lines.BlankLines.{is_blank}
 use Rattle.markdown_blocks.specs.containers.Footnotes.{footnote_label, behind_footnote}
+use Rattle.markdown_blocks.specs.containers.ItemMarkers.{item_outcome}
 use Rattle.markdown_blocks.specs.declared.containers.BlockExtensions.{BlockExtensions}
 use Rattle.markdown_blocks.specs.declared.containers.Container.{Container}
 use Rattle.markdown_blocks.specs.declared.containers.Container.TheVariants.{Quote, Item, Footnote, TermDefinition}

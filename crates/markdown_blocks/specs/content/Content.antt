@@ -1,7 +1,7 @@
--- The content of leaf blocks, with the place of each byte. (CommonMark 0.31.2, sections 2.2, 4.2 to 4.6 and 4.8)
-use Rattle.std.specs.Prelude.{ℕ, ◌||◌, ◌+◌, ◌-◌, ◌<◌, ◌≤◌, List, ◌++◌, ◌≡◌, length, take, replicate, slice_index}
+-- The content of leaf blocks, with the place of each byte. (CommonMark 0.31.2, sections 2.1, 2.2, 4.2 to 4.6 and 4.8)
+use Rattle.std.specs.Prelude.{ℕ, ◌||◌, ◌+◌, ◌-◌, ◌<◌, ◌≤◌, List, ◌++◌, ◌≡◌, ⊤, length, take, replicate, slice_index}
 use Rattle.std.specs.List.{flat_map, range_with_len, suffix_len}
-use Rattle.markdown_scanners_tree.specs.Ascii.{space}
+use Rattle.markdown_scanners_tree.specs.Ascii.{carriage_return}
 use Rattle.markdown_scanners_tree.specs.Bytes.{is_line_ending, is_space_or_tab}
 use Rattle.markdown_blocks.specs.content.Parts.{Part, AreParts}
 use Rattle.markdown_blocks.specs.declared.blocks.BlockKind.{BlockKind}
@@ -23,10 +23,11 @@ pub record IsRunOf (content : Placed) (run : Run) : Type 0 where
   pub within : run.end ≤ length content.text
   pub places : (offset : ℕ) → run.start ≤ offset → offset < run.end → slice_index content.places offset ≡ run.place + (offset - run.start)
 
--- the columns of a cut tab are spaces, and stand where the tab does, directly before the bytes (2.2)
+-- columns of spaces or a line feed, and the bytes
 abbrev pub text_of : Part → List ℕ
-text_of p = replicate p.columns space ++ p.bytes
+text_of p = replicate p.columns p.filler ++ p.bytes
 
+-- columns stand where the byte does that they replace, directly before the bytes
 abbrev pub places_of : Part → List ℕ
 places_of p = replicate p.columns (p.place - 1) ++ range_with_len p.place (length p.bytes)
 
@@ -45,6 +46,16 @@ content_len Indented text = length text
 content_len (Fenced count byte) text = length text
 content_len (Html kind) text = length text
 content_len kind text = words_len text
+
+abbrev pub IsCodeOrHtml : BlockKind → Type 0
+IsCodeOrHtml Indented = ⊤
+IsCodeOrHtml (Fenced count byte) = ⊤
+IsCodeOrHtml (Html kind) = ⊤
+IsCodeOrHtml kind = ⊥
+
+-- no carriage return stands there
+abbrev pub HasNoReturn : List ℕ → Type 0
+HasNoReturn text = (offset : ℕ) → offset < length text → ¬ (slice_index text offset ≡ carriage_return)
 
 abbrev pub front : ℕ → Placed → Placed
 front n content = record { text = take n content.text; places = take n content.places }

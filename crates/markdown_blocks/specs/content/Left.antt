@@ -15,8 +15,9 @@ first_parts (Some p) = seen_part p ∷ []
 abbrev pub parts_left : Parts → List Part
 parts_left p =
     first_parts p.first
+    ++ (first_parts p.ending
     ++ later_parts p.cut.kind p.cut.outer.now.containers p.cut.indent p.read.bytes
-    (take (p.count - p.read.lines) (lines_of (drop p.read.bytes p.lines.now)))
+    (take (p.count - p.read.lines) (lines_of (drop p.read.bytes p.lines.now))))
 
 -- joined, the parts are these bytes, which stand one after the other from this place on
 abbrev pub IsRunAt : List ℕ → ℕ → List Part → Type 0

@@ -1,13 +1,14 @@
--- What each line of a leaf block has of its content. (CommonMark 0.31.2, sections 2.2, 4.2 to 4.6, 4.8, 5.1 and 5.2)
+-- What each line of a leaf block has of its content. (CommonMark 0.31.2, sections 2.1, 2.2, 4.2 to 4.6, 4.8, 5.1 and 5.2)
 use Rattle.std.specs.Prelude.{ℕ, zero, suc, Bool, true, false, ◌||◌, ◌==◌, ◌+◌, ◌-◌, nat_lt}
 use Rattle.std.specs.Prelude.{List, [], ◌∷◌, ◌++◌, ◌≡◌, ◌⊎◌, length, take, Some, None, ⊤}
 use Rattle.std.specs.Prelude.{if◌then◌else◌}
-use Rattle.std.specs.List.{suffix_len}
-use Rattle.markdown_scanners_tree.specs.Ascii.{number_sign}
-use Rattle.markdown_scanners_tree.specs.Bytes.{is_blank, line_head}
+use Rattle.std.specs.List.{list_any, suffix_len}
+use Rattle.markdown_scanners_tree.specs.Ascii.{carriage_return, line_feed, number_sign, space}
+use Rattle.markdown_scanners_tree.specs.Bytes.{line_head}
 use Rattle.markdown_scanners_tree.specs.line.ItemRules.{start_of}
 use Rattle.markdown_scanners_tree.specs.line.Outcome.{after_all_space}
 use Rattle.markdown_scanners_tree.specs.line.State.{LineState, unscanned, space_within, after_space}
+use Rattle.markdown_blocks.specs.blank_lines.BlankLines.{is_blank}
 use Rattle.markdown_blocks.specs.blocks.Leaves.{In, ClosesFence}
 use Rattle.markdown_blocks.specs.containers.Containers.{all_extensions, begun_at, behind, within}
 use Rattle.markdown_blocks.specs.declared.blocks.BlockKind.{BlockKind}
@@ -16,23 +17,48 @@ use Rattle.markdown_blocks.specs.declared.containers.Container.{Container}
 use Rattle.markdown_blocks.specs.declared.containers.Container.TheVariants.{Quote, Item, Footnote, TermDefinition}
 use Rattle.markdown_blocks.specs.info.Info.{behind_fence, without_end, without_front}
 
--- a part of a line: so many columns of a tab that is cut, which are spaces (2.2), and the bytes from this place on
+-- A part of a line: so many columns, which stand in place of the byte before this place, and the bytes from there on. The columns
+-- are filled with spaces where that byte is a tab that is cut (2.2), and one with a line feed where a line ending ends with it (2.1).
 pub record Part : Type 0 where
   pub columns : ℕ
+  pub filler : ℕ
   pub place : ℕ
   pub bytes : List ℕ
 
 -- bytes alone, from this offset on
 abbrev pub one_part : ℕ → List ℕ → List Part
-one_part offset bytes = record { columns = 0; place = offset; bytes = bytes } ∷ []
+one_part offset bytes = record { columns = 0; filler = space; place = offset; bytes = bytes } ∷ []
 
 -- what is left of a line
 abbrev pub part_at : LineState → Part
-part_at s = record { columns = s.pending; place = s.place; bytes = unscanned s }
+part_at s = record { columns = s.pending; filler = space; place = s.place; bytes = unscanned s }
 
 -- the same part, where so many bytes stand before its line
 abbrev pub moved : ℕ → Part → Part
-moved before p = record { columns = p.columns; place = before + p.place; bytes = p.bytes }
+moved before p = record { columns = p.columns; filler = p.filler; place = before + p.place; bytes = p.bytes }
+
+-- a carriage return stands in a line, in whose line ending alone one may (2.1)
+abbrev pub has_return : List ℕ → Bool
+has_return bytes = list_any (λ b. b == carriage_return) bytes
+
+-- the same part up to its line ending
+abbrev pub head_of : Part → Part
+head_of p = record { columns = p.columns; filler = p.filler; place = p.place; bytes = line_head p.bytes }
+
+-- a line feed in place of the line ending with which the part ends
+abbrev pub ending_of : Part → Part
+ending_of p = record { columns = 1; filler = line_feed; place = p.place + length p.bytes; bytes = [] }
+
+-- its line ending written as a line feed
+abbrev pub ended : Part → List Part
+ended p = if has_return p.bytes then head_of p ∷ ending_of p ∷ [] else p ∷ []
+
+-- Of code and HTML each line ending is written as a line feed. Other text is read for its inlines, of which one is the line ending.
+abbrev pub written : BlockKind → Part → List Part
+written Indented p = ended p
+written (Fenced count byte) p = ended p
+written (Html kind) p = ended p
+written kind p = p ∷ []
 
 -- the place after the markers of so many containers that begin one in the other, as far as they do
 abbrev pub after_markers : ℕ → LineState → LineState
@@ -85,8 +111,8 @@ text_place kind indent s = after_all_space (after_space 4 s)
 abbrev pub later_parts : BlockKind → List Container → ℕ → ℕ → List (List ℕ) → List Part
 later_parts kind outer indent before [] = []
 later_parts kind outer indent before (line ∷ lines) =
-    moved before (part_at (text_place kind indent (later_place kind outer line)))
-    ∷ later_parts kind outer indent (before + length line) lines
+    written kind (moved before (part_at (text_place kind indent (later_place kind outer line))))
+    ++ later_parts kind outer indent (before + length line) lines
 
 -- the last line of a block is no content: the underline of a setext heading (4.3), or a closing fence (4.5)
 abbrev pub IsLeftOut : BlockKind → List Container → List ℕ → Type 0
@@ -117,7 +143,7 @@ abbrev pub heading_part : LineState → Part
 heading_part s =
     let text = unscanned (after_all_space (after_space 4 s)) in
     let after = without_front (behind_fence number_sign text) in
-    record { columns = 0; place = length s.bytes - length after; bytes = without_closing (without_end (line_head after)) }
+    record { columns = 0; filler = space; place = length s.bytes - length after; bytes = without_closing (without_end (line_head after)) }
 
 -- the parts of a block's lines that are its content, where this is the place after the containers in its first line
 abbrev pub ArePartsAt : BlockKind → List Container → LineState → ℕ → List (List ℕ) → List Part → Type 0
@@ -130,7 +156,7 @@ ArePartsAt (Fenced count byte) outer s before later parts =
     × (parts ≡ later_parts (Fenced count byte) outer (space_within 4 s) before inner)
 ArePartsAt kind outer s before later parts =
     (inner : List (List ℕ)) × AreInner kind outer later inner
-    × (parts ≡ part_at (text_place kind 0 s) ∷ later_parts kind outer 0 before inner)
+    × (parts ≡ written kind (part_at (text_place kind 0 s)) ++ later_parts kind outer 0 before inner)
 
 -- The parts of these lines, which are a block of this kind in these containers; its first line goes on with so many of them. A
 -- blank block, a thematic break and a table have none.
@@ -139,7 +165,7 @@ AreParts kind outer kept [] parts = parts ≡ []
 AreParts kind outer kept (line ∷ later) parts =
     ArePartsAt kind outer (first_place kept outer line) (length line) later parts
 
--- the parts stand one directly after the other from this place on, and no tab is cut
+-- the parts stand one directly after the other from this place on, and no byte is replaced
 abbrev pub GoOn : ℕ → List Part → Type 0
 GoOn place [] = ⊤
 GoOn place (p ∷ parts) = (p.columns ≡ 0) × (p.place ≡ place) × GoOn (place + length p.bytes) parts

@@ -5,7 +5,7 @@ use Rattle.markdown_blocks.specs.content.Parts.{Part}
 use Rattle.markdown_blocks.specs.declared.content.parts.LinePart.{LinePart}
 
 abbrev pub seen_part : LinePart → Part
-seen_part p = record { columns = p.columns; place = p.place; bytes = p.bytes.now }
+seen_part p = record { columns = p.columns; filler = p.filler; place = p.place; bytes = p.bytes.now }
 
 -- the part's bytes stand in the lines at its place
 abbrev pub IsIn : List ℕ → Part → Type 0

@@ -5,6 +5,7 @@ use Rattle.markdown_scanners_tree.specs.declared.scanners.reference_definitions.
 use Rattle.markdown_scanners_tree.specs.line.State.{LineState}
 use Rattle.markdown_scanners_tree.specs.scanners.TextLines.{lines_of}
 use Rattle.markdown_blocks.specs.blocks.Pages.{Piece, IsPage}
+use Rattle.markdown_blocks.specs.byte_order_mark.ByteOrderMark.{text_of, text_start}
 use Rattle.markdown_blocks.specs.containers.Containers.{Rest, rest_in, behind, marker_place, after_marker}
 use Rattle.markdown_blocks.specs.declared.blocks.BlockKind.{BlockKind}
 use Rattle.markdown_blocks.specs.declared.blocks.BlockKind.TheVariants.{Definition}
@@ -138,10 +139,11 @@ abbrev pub open_after : ℕ → List Piece → ℕ
 open_after depth [] = depth
 open_after depth (piece ∷ later) = open_after (length (piece.kept ++ piece.begun)) later
 
--- the events of a page with these extensions on: those of its pieces, and then all containers end
+-- the events of a page with these extensions on: those of the pieces of its text, and then all containers end
 abbrev pub IsEventsOf : BlockExtensions → List ℕ → List Event → Type 0
 IsEventsOf asked page events =
-    (pieces : List Piece) × (blocks : List Event) × IsPage asked page pieces × AreEvents [] 0 0 pieces blocks
+    (pieces : List Piece) × (blocks : List Event) × IsPage asked (text_of page) pieces
+    × AreEvents [] 0 (text_start page) pieces blocks
     × (events ≡ blocks ++ replicate (open_after 0 pieces) ends)
 
 -- what an event of the library says

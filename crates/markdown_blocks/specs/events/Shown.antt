@@ -3,6 +3,7 @@ use Rattle.std.specs.Prelude.{ℕ, ◌+◌, ◌≡◌, List, [], ◌∷◌, ◌+
 use Rattle.std.specs.List.{concat}
 use Rattle.markdown_scanners_tree.specs.declared.scanners.reference_definitions.ReferenceDefinition.{ReferenceDefinition}
 use Rattle.markdown_blocks.specs.blocks.Pages.{Piece, IsPage}
+use Rattle.markdown_blocks.specs.byte_order_mark.ByteOrderMark.{text_of, text_start}
 use Rattle.markdown_blocks.specs.declared.containers.BlockExtensions.{BlockExtensions}
 use Rattle.markdown_blocks.specs.declared.containers.Container.{Container}
 use Rattle.markdown_blocks.specs.definitions.Definitions.{IsDefinition}
@@ -61,5 +62,6 @@ end_shown = record { event = ends; written = None }
 -- the same of the events of a page with these extensions on
 abbrev pub IsShownOf : BlockExtensions → List ℕ → List Shown → Type 0
 IsShownOf asked page shown =
-    (pieces : List Piece) × (blocks : List Shown) × IsPage asked page pieces × AreShownOf [] 0 0 pieces blocks
+    (pieces : List Piece) × (blocks : List Shown) × IsPage asked (text_of page) pieces
+    × AreShownOf [] 0 (text_start page) pieces blocks
     × (shown ≡ blocks ++ replicate (open_after 0 pieces) end_shown)

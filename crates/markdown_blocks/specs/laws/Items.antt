@@ -3,10 +3,11 @@
 use Rattle.std.specs.Prelude.{ℕ, true, false, not, ◌≡◌, ◌≤◌, ◌<◌, ◌+◌, ◌⊎◌, ◌++◌, List, [], ◌∷◌, length, replicate, IsTrue}
 use Rattle.std.specs.List.{list_all, AllZip}
 use Rattle.markdown_scanners_tree.specs.Ascii.{space}
-use Rattle.markdown_scanners_tree.specs.Bytes.{begins_with, is_blank, is_line_ending, is_space_or_tab}
+use Rattle.markdown_scanners_tree.specs.Bytes.{begins_with, is_line_ending, is_space_or_tab}
 use Rattle.markdown_scanners_tree.specs.line.ItemRules.{start_of}
 use Rattle.markdown_scanners_tree.specs.scanners.Breaks.{is_thematic_break}
 use Rattle.markdown_scanners_tree.specs.scanners.list_items.ListItem.{IsListMarker}
+use Rattle.markdown_blocks.specs.blank_lines.BlankLines.{is_blank}
 use Rattle.markdown_blocks.specs.containers.Containers.{rest_at, without_terms}
 use Rattle.markdown_blocks.specs.declared.blocks.BlockKind.TheVariants.{Blank}
 use Rattle.markdown_blocks.specs.declared.containers.BlockExtensions.{BlockExtensions}

@@ -4,6 +4,7 @@ use Rattle.std.specs.Prelude.{ℕ, suc, ◌+◌, ◌-◌, ◌≤◌, ◌<◌, �
 use Rattle.std.specs.List.{prefix_len}
 use Rattle.markdown_scanners_tree.specs.Bytes.{is_space_or_tab}
 use Rattle.markdown_scanners_tree.specs.scanners.TextLines.{lines_of}
+use Rattle.markdown_blocks.specs.byte_order_mark.ByteOrderMark.{text_start}
 use Rattle.markdown_blocks.specs.containers.Containers.{settled}
 use Rattle.markdown_blocks.specs.content.Content.{IsContent, Placed}
 use Rattle.markdown_blocks.specs.content.Parts.{AreParts, one_part}
@@ -37,9 +38,9 @@ Follow page line passed (leaf block ∷ later) =
     BeginsIn page line passed block × Follow page (block_end block) (block_end block) later
 Follow page line passed (ends ∷ later) = Follow page line passed later
 
--- the events of a page stand in it in order
+-- the events of a page stand in it in order, from the start of its text
 abbrev pub StandInOrder : List ℕ → List Event → Type 0
-StandInOrder page events = Follow page 0 0 events
+StandInOrder page events = Follow page (text_start page) (text_start page) events
 
 -- ---- the same of what stands in a container
 

@@ -1,13 +1,13 @@
 -- The rows of a table, and how its columns are aligned. (GitHub Flavored Markdown 0.29, section 4.10, tables)
-use Rattle.std.specs.Prelude.{ℕ, ◌+◌, ◌≡◌, ◌⊎◌, List, [], ◌∷◌, length, Option, None, Some}
+use Rattle.std.specs.Prelude.{ℕ, ◌+◌, ◌≡◌, ◌⊎◌, List, [], ◌∷◌, length, Option, None, Some, IsTrue}
 use Rattle.markdown_values.specs.declared.values.Alignment.{Alignment}
 use Rattle.markdown_scanners_tree.specs.line.State.{LineState, after_space}
-use Rattle.markdown_scanners_tree.specs.scanners.tables.DelimiterRow.{IsDelimiterRow}
 use Rattle.markdown_blocks.specs.blocks.Leaves.{HasIndent}
 use Rattle.markdown_blocks.specs.containers.Containers.{Rest, behind, rest_at, rest_in}
 use Rattle.markdown_blocks.specs.content.Parts.{first_place}
 use Rattle.markdown_blocks.specs.declared.containers.Container.{Container}
 use Rattle.markdown_blocks.specs.declared.rows.Row.{Row}
+use Rattle.markdown_blocks.specs.delimiter_rows.DelimiterRows.{alignments_in, is_delimiter_row}
 
 -- the text of a row, before which so many bytes of the table's lines stand
 pub record TextAt : Type 0 where
@@ -45,7 +45,7 @@ first_row (Some row) = seen_row row ∷ []
 
 -- the rest of a line is a delimiter row of columns that are aligned so
 abbrev pub AreColumns : Rest → List Alignment → Type 0
-AreColumns rest alignments = (¬ HasIndent rest) × (n : ℕ) × IsDelimiterRow rest.text n alignments
+AreColumns rest alignments = (¬ HasIndent rest) × IsTrue (is_delimiter_row rest.text) × (alignments ≡ alignments_in rest.text)
 
 -- the alignments that the rest of a line tells, or none
 abbrev pub AreGiven : Rest → List Alignment → Type 0

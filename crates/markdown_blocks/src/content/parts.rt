@@ -9,34 +9,41 @@ ghost use Rattle.markdown_blocks.specs.content.Parts.{place_inside, text_place, 
 ghost use Rattle.markdown_blocks.specs.content.Seen.{IsFirstIn, IsIn, seen_part};
 ghost use Rattle.markdown_blocks.specs.declared.containers.Container.{Container};
 
-use crate::blocks::{BlockKind, closes_fence};
+use crate::blank_lines::is_blank;
+use crate::blocks::BlockKind;
+use crate::blocks::endings::closes_fence;
 use crate::containers::{BlockExtensions, Container, Outer, go_on, pass, scan_container};
+use crate::content::line_endings::written;
 use crate::info::{without_end, without_front};
-use crate::kinds::is_blank;
 use crate::line::Line;
 use crate::taken::Taken;
 use markdown_scanners_tree::line::LineStart;
 use markdown_scanners_tree::scanners::{line_head, scan_ch_repeat};
 
-/// A part of a line: so many columns of a tab that is cut, and the bytes from this place on.
+/// A part of a line: so many columns of this filler, in place of the byte before this place, and the
+/// bytes from there on.
 #[derive(Clone, Copy)]
 pub(crate) struct LinePart<'a> {
     pub(crate) columns: usize,
+    pub(crate) filler: u8,
     pub(crate) place: usize,
     pub(crate) bytes: &'a [u8],
 }
 
-/// The parts that are not read yet: the first line's, if it is there, and those of later lines, as
-/// many as belong to the content.
+/// The parts that are not read yet: what is left of the line that is read, and those of later lines,
+/// as many as belong to the content.
 #[derive(Clone, Copy)]
 pub(crate) struct Parts<'a> {
     pub(crate) lines: &'a [u8],
     first: Option<LinePart<'a>>,
+    // The line ending after it, where that is written as a line feed.
+    ending: Option<LinePart<'a>>,
     // What is read of the lines, and how many of them there are.
     read: Taken,
     count: usize,
     cut: Cut<'a>,
     ghost first_in: { IsFirstIn lines.now first },
+    ghost ending_in: { IsFirstIn lines.now ending },
 }
 
 // How later lines are cut: by the kind of their block, the columns that its fence is indented, and
@@ -78,6 +85,7 @@ impl<'a> Parts<'a> {
                 return Parts {
                     lines,
                     first: Some(heading_part(line, start)),
+                    ending: None,
                     read,
                     count: 0,
                     cut: Cut {
@@ -92,6 +100,7 @@ impl<'a> Parts<'a> {
                 return Parts {
                     lines,
                     first: None,
+                    ending: None,
                     read,
                     count: count_inner(lines, read, kind, outer),
                     cut: Cut {
@@ -103,9 +112,11 @@ impl<'a> Parts<'a> {
             }
             _ => {}
         }
+        let (part, ending) = written(text_part(line, start, kind, 0), kind);
         Parts {
             lines,
-            first: Some(text_part(line, start, kind, 0)),
+            first: Some(part),
+            ending,
             read,
             count: count_inner(lines, read, kind, outer),
             cut: Cut {
@@ -124,6 +135,7 @@ impl<'a> Parts<'a> {
         Parts {
             lines,
             first: None,
+            ending: None,
             read: Taken::nothing(),
             count: 0,
             cut: Cut {
@@ -144,6 +156,7 @@ impl<'a> Parts<'a> {
         Parts {
             lines: self.lines,
             first: Some(part),
+            ending: self.ending,
             read: self.read,
             count: self.count,
             cut: self.cut,
@@ -164,6 +177,10 @@ impl<'a> Parts<'a> {
             self.first = None;
             return Some(part);
         }
+        if let Some(part) = self.ending {
+            self.ending = None;
+            return Some(part);
+        }
         if self.read.lines >= self.count {
             return None;
         }
@@ -172,10 +189,13 @@ impl<'a> Parts<'a> {
         self.read = more;
         let place = later_place(line, self.cut.kind, self.cut.outer);
         let part = text_part(line, place, self.cut.kind, self.cut.indent);
-        Some(LinePart {
+        let here = LinePart {
             place: before + part.place,
             ..part
-        })
+        };
+        let (part, ending) = written(here, self.cut.kind);
+        self.ending = ending;
+        Some(part)
     }
 }
 
@@ -376,6 +396,7 @@ fn text_part<'a>(
     let place = start.bytes_scanned();
     LinePart {
         columns: start.remaining_space(),
+        filler: b' ',
         place,
         bytes: &line[place..],
     }
@@ -415,6 +436,7 @@ fn heading_part<'a>(line: &'a [u8], mut start: LineStart) -> LinePart<'a>
     let after = without_front(marked);
     LinePart {
         columns: 0,
+        filler: b' ',
         place: line.len() - after.len(),
         bytes: without_closing(without_end(line_head(after))),
     }

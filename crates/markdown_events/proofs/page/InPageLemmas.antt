@@ -7,6 +7,7 @@ use Rattle.std.specs.Str.{IsUtf8}
 use Rattle.std.proofs.lemmas.Bool.Decides.{nat_tests}
 use Rattle.markdown_scanners_tree.specs.line.State.{LineState}
 use Rattle.markdown_scanners_tree.specs.scanners.Fences.{is_fence_byte}
+use Rattle.markdown_blocks.specs.byte_order_mark.ByteOrderMark.{text_start}
 use Rattle.markdown_blocks.specs.blocks.Leaves.{IsLeaf}
 use Rattle.markdown_blocks.specs.blocks.Pages.{AreBlocks, Piece, lines_in, open_behind, outer_of, root}
 use Rattle.markdown_blocks.specs.containers.Containers.{Between, Outer, Rest, after_marker, behind, settled}
@@ -96,7 +97,7 @@ pieces_have (piece ∷ later) before line start events each (leaves, more, are, 
 page_fences : (asked : BlockExtensions) (page : List ℕ) (events : List Event) → IsEventsOf asked page events → HaveFences events
 page_fences asked page events (pieces, blocks, is_page, are, is) =
     subst HaveFences (sym is)
-    (both_have blocks (replicate (open_after 0 pieces) ends) (pieces_have pieces (root asked) 0 0 blocks is_page.each are)
+    (both_have blocks (replicate (open_after 0 pieces) ends) (pieces_have pieces (root asked) 0 (text_start page) blocks is_page.each are)
     (ends_have (open_after 0 pieces)))
 
 -- ---- the leaf blocks
@@ -143,7 +144,7 @@ page_leaves_in asked page events of_page utf8 =
     let all = sym (append-nil (flatten nodes)) in
     subst (AreInPage page [] 0 None) (sym tree.1)
     (subst (AreInPage page [] 0 None) (append-nil (flatten nodes))
-    (nodes_in page nodes [] 0 0 None [] (page_contents_stand asked page nodes are)
+    (nodes_in page nodes [] 0 (text_start page) None [] (page_contents_stand asked page nodes are)
     (record {
       cut = subst (AreCutOut page) all (page_cut_out asked page (flatten nodes) are utf8);
       fences = subst HaveFences all (page_fences asked page (flatten nodes) are);

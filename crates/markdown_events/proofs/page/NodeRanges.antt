@@ -411,11 +411,11 @@ module _ (page : List ℕ) (setting : BlockSetting) where
 
 -- The ranges of a page's events rise, and lie within those of the elements that hold them, where its nodes stand in order and the events of
 -- each leaf block rise.
-pub page_events_rise : (page : List ℕ) (setting : BlockSetting) (nodes : Nodes) (events : List RangedEvent)
-    → Stand page setting [] 0 0 nodes → passed_after 0 nodes ≤ length page → AreNodeEvents page setting outermost None None nodes events
+pub page_events_rise : (page : List ℕ) (setting : BlockSetting) (passed : ℕ) (nodes : Nodes) (events : List RangedEvent)
+    → Stand page setting [] 0 passed nodes → passed_after passed nodes ≤ length page → AreNodeEvents page setting outermost None None nodes events
     → AreWithin page events
-page_events_rise page setting nodes events stand within are =
-    let between = ends_between page setting nodes [] 0 0 0 stand (omega arith) in
+page_events_rise page setting passed nodes events stand within are =
+    let between = ends_between page setting nodes [] 0 passed 0 stand (omega arith) in
     subst (RiseIn (length page ∷ []) 0) (append-nil events)
-    (nodes_rise page setting nodes outermost None None 0 0 (length page) (length page ∷ []) [] events [] stand (omega arith)
+    (nodes_rise page setting nodes outermost None None passed 0 (length page) (length page ∷ []) [] events [] stand (omega arith)
     (omega (arith, between.1, within)) refl are tt)

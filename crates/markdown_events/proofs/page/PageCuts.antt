@@ -1,6 +1,7 @@
 -- The ranges of the events of a page that is UTF-8 begin and end at its character boundaries.
 use Rattle.std.proofs.Common.{ℕ, suc, List, [], ◌∷◌, ◌++◌, length, Option, Some, None, sym, subst, append-nil, append_assoc}
 use Rattle.std.specs.Str.{IsUtf8}
+use Rattle.markdown_blocks.specs.byte_order_mark.ByteOrderMark.{text_start}
 use Rattle.markdown_blocks.specs.containers.Containers.{settled}
 use Rattle.markdown_blocks.specs.declared.containers.Container.{Container}
 use Rattle.markdown_blocks.specs.events.Events.{Event, IsEventsOf, block_end, ends, leaf}
@@ -53,7 +54,7 @@ module _ (page : List ℕ) (setting : PageSetting) (utf8 : IsUtf8 page) where
       let read_with = block_setting setting targets in
       let asked = blocks_of setting in
       let all = sym (append-nil (flatten nodes)) in
-      let at = cut_nodes page read_with nodes [] 0 0 None [] (page_contents_stand asked page nodes are_blocks)
+      let at = cut_nodes page read_with nodes [] 0 (text_start page) None [] (page_contents_stand asked page nodes are_blocks)
       (subst (AreCutOut page) all (page_cut_out asked page (flatten nodes) are_blocks utf8))
       (subst (FirstsBeginPlain None) all (page_firsts_begin_plain asked page (flatten nodes) are_blocks)) in
       nodes_at page read_with utf8 nodes outermost None None events at.0 tt are_events

@@ -1,5 +1,6 @@
 -- The ranges of the events of a page rise, and what an element holds lies within its range.
 use Rattle.std.proofs.Common.{ℕ, suc, ◌≤◌, ◌≡◌, ◌≢◌, Bool, List, [], ◌∷◌, ◌++◌, None, length, refl, arith}
+use Rattle.markdown_blocks.specs.byte_order_mark.ByteOrderMark.{text_start}
 use Rattle.markdown_blocks.specs.containers.Containers.{settled}
 use Rattle.markdown_blocks.specs.declared.blocks.BlockKind.{BlockKind}
 use Rattle.markdown_blocks.specs.declared.blocks.BlockKind.TheVariants.{Blank, Break, Heading, Setext, Indented, Fenced, Html, Paragraph, Definition, Table}
@@ -100,9 +101,9 @@ module _ (page : List ℕ) (setting : PageSetting) where
       let read_with = block_setting setting targets in
       let asked = blocks_of setting in
       let found = page_nodes_stand asked page nodes are_blocks in
-      let stand = nodes_stand page read_with nodes [] 0 0 found.0 (containers_hold_some asked page nodes are_blocks)
+      let stand = nodes_stand page read_with nodes [] 0 (text_start page) found.0 (containers_hold_some asked page nodes are_blocks)
       (page_contents_stand asked page nodes are_blocks) in
-      page_events_rise page read_with nodes events stand (omega (arith, found.1)) are_events
+      page_events_rise page read_with (text_start page) nodes events stand (omega (arith, found.1)) are_events
 
   -- Ranges rise, and what an element holds lies within its range.
   pub page_events_within : (events : List RangedEvent) → ArePageEvents page setting events → AreWithin page events

@@ -5,6 +5,7 @@ ghost use Rattle.markdown_blocks.specs.events.Given.{GivesBlock};
 ghost use Rattle.markdown_blocks.specs.link_definitions.LinkDefinitions.{Named, Names, HasDefinitions, first_of, known_as, known_before};
 
 use crate::page::definitions::PageDefinitions;
+use markdown_blocks::byte_order_mark::text_start;
 use markdown_blocks::containers::{BlockExtensions, Container};
 use markdown_blocks::events::{BlockEvent, BlockEvents};
 use markdown_blocks::link_definitions::LinkDefinitions;
@@ -44,7 +45,7 @@ fn read_bytes<'a>(
     let mut walk = Walk::new_ext(alloc, extensions);
     let mut content = Vec::new(alloc);
     let mut lines = 0;
-    let mut bytes = 0;
+    let mut bytes = text_start(page);
     loop {
         let before = Taken { lines, bytes };
         let depth = walk.containers().len();

@@ -181,8 +181,8 @@ reach_next bytes place₀ c₀ place c pending b c' pending' r none on inside gr
     let count : place + 1 - place₀ ≡ place - place₀ + 1 = omega arith in
     rw (count, next) (reach_space pending' r₀ grows kind (omega arith))
 
--- Of n columns of space asked for at a place, with its column and p₀ columns pending, `left` are
--- not yet taken where the next place is reached, with its column and p columns pending.
+-- Of n columns of space asked for at a position with p₀ columns pending, `left` are not yet taken
+-- where the next position is reached, with p columns pending.
 pub record IsTaking (bytes : List ℕ) (place₀ c₀ p₀ n place c p left : ℕ) : Type 0 where
   pub reach : Reach c₀ (drop place₀ bytes) (spaces (c - c₀)) (place - place₀) c p (drop place bytes)
   pub kept : c + left + p₀ ≡ c₀ + n + p
@@ -227,14 +227,14 @@ pub record IsTakingAt (bytes : List ℕ) (place₀ c₀ p₀ n place column p le
   pub taking : IsTaking bytes place₀ c₀ p₀ n place c p left
 
 -- a space or tab more, of this width
-pub taking_more : {bytes : List ℕ} {place₀ c₀ p₀ n place column p left : ℕ} (b width : ℕ) {column' p' left' : ℕ}
+pub taking_more : {bytes : List ℕ} {place₀ c₀ p₀ n place column p left : ℕ} (b width : ℕ) {p' left' : ℕ}
     → IsTakingAt bytes place₀ c₀ p₀ n place column p left
     → 0 < left → place < length bytes → get_or bytes place 0 ≡ b
-    → ((b ≡ 32) × (width ≡ 1)) ⊎ ((b ≡ 9) × (width ≡ 4 - column % 4)) → column' % 4 ≡ (column + width) % 4
+    → ((b ≡ 32) × (width ≡ 1)) ⊎ ((b ≡ 9) × (width ≡ 4 - column % 4))
     → p' ≡ width - min left width → left' ≡ left - min left width
-    → IsTakingAt bytes place₀ c₀ p₀ n (place + 1) column' p' left'
-taking_more {bytes} {place₀} {c₀} {p₀} {n} {place} {column} {p} {left} b width {column'} {p'} {left'} t some inside
-    read kind next pending left_over =
+    → IsTakingAt bytes place₀ c₀ p₀ n (place + 1) (column + width) p' left'
+taking_more {bytes} {place₀} {c₀} {p₀} {n} {place} {column} {p} {left} b width {p'} {left'} t some inside
+    read kind pending left_over =
     let is : (b ≡ 32) ⊎ (b ≡ 9) = elim kind as (λ _. (b ≡ 32) ⊎ (b ≡ 9)) [ inl e ↦ inl e.0 | inr e ↦ inr e.0 ] in
     let wide : t.c + width ≡ column_after t.c b = elim kind as (λ _. t.c + width ≡ column_after t.c b) [
       | inl e ↦ rw (e.0, e.1) refl
@@ -243,7 +243,7 @@ taking_more {bytes} {place₀} {c₀} {p₀} {n} {place} {column} {p} {left} b w
     let grown : t.c + width - t.c ≡ width = omega arith in
     record {
       c = t.c + width;
-      phase = omega (arith, next, t.phase);
+      phase = omega (arith, t.phase);
       taking = taking_next b t.taking some inside read is wide (rw grown pending) (rw grown left_over);
     }
 
@@ -264,7 +264,7 @@ taking_spaces {bytes} {place₀} {c₀} {p₀} {n} {place} {column} {p} {left} (
     let place_is : place + k + 1 ≡ place + suc k = omega arith in
     let column_is : column + k + 1 ≡ column + suc k = omega arith in
     let after : IsTakingAt bytes place₀ c₀ p₀ n (place + k + 1) (column + k + 1) p (left - suc k) =
-    taking_more 32 1 before (omega arith) (omega arith) (read k (omega arith)) (inl (refl, refl)) refl
+    taking_more 32 1 before (omega arith) (omega arith) (read k (omega arith)) (inl (refl, refl))
     (omega arith) (omega arith) in
     rw (place_is, column_is) at after
 
@@ -344,18 +344,17 @@ one_pending bytes place c p inside small some =
     taking_none bytes place c (p - 1) 0 inside (omega arith) (omega arith) in
     taken_from p 1 1 left (omega arith) (omega arith) refl (inl refl)
 
-pub one_of_byte : (bytes : List ℕ) (place c p b width c' p' : ℕ) → p ≡ 0 → place < length bytes
+pub one_of_byte : (bytes : List ℕ) (place c p b width p' : ℕ) → p ≡ 0 → place < length bytes
     → get_or bytes place 0 ≡ b → ((b ≡ 32) × (width ≡ 1)) ⊎ ((b ≡ 9) × (width ≡ 4 - c % 4))
-    → c' % 4 ≡ (c + width) % 4 → p' + 1 ≡ width
-    → IsTaken 1 1 (state_of bytes place p c) (state_of bytes (place + 1) p' c')
-one_of_byte bytes place c p b width c' p' none inside read kind next others =
+    → p' + 1 ≡ width → IsTaken 1 1 (state_of bytes place p c) (state_of bytes (place + 1) p' (c + width))
+one_of_byte bytes place c p b width p' none inside read kind others =
     let before : IsTakingAt bytes place c p 1 place c p 1 = record {
       c = c;
       phase = refl;
       taking = taking_none bytes place c p 1 (omega arith) (omega arith) (omega arith);
     } in
-    let after : IsTakingAt bytes place c p 1 (place + 1) c' p' 0 =
-    taking_more b width before (omega arith) inside read kind next (omega arith) (omega arith) in
+    let after : IsTakingAt bytes place c p 1 (place + 1) (c + width) p' 0 =
+    taking_more b width before (omega arith) inside read kind (omega arith) (omega arith) in
     taken_at p 1 1 after (omega arith) refl refl (inl refl)
 
 pub none_of_byte : (bytes : List ℕ) (place c p n : ℕ) → p ≡ 0 → place ≤ length bytes

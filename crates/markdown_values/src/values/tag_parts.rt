@@ -1,11 +1,20 @@
 //! The parts of a tag that own memory: copied, or with nothing borrowed.
-ghost use Rattle.std.specs.Prelude.{◌≡◌, IfOk, map, option_map};
+ghost use Rattle.std.specs.Prelude.{◌≡◌, ◌++◌, ◌∷◌, [], IfOk, IsOkAnd, map, option_map};
 ghost use Rattle.markdown_values.specs.strings.Text.{cow_text, storage_of, clone_storage, static_storage};
 ghost use Rattle.markdown_values.specs.values.Tags.{attribute_view};
 
 use crate::strings::CowStr;
 use crate::values::Alignment;
 use std::alloc::{AllocError, Global};
+
+// Adds what was made.
+fn push_made<T: Drop>(items: &mut Vec<T>, made: Result<T, AllocError>) -> Result<(), AllocError>
+    ensures added { IfOk result (λ _. IsOkAnd made (λ item.
+        items.new.items ≡ items.old.items ++ (item ∷ []))) }
+{
+    items.push(made?)?;
+    Ok(())
+}
 
 // A text again, where there is one.
 pub(crate) fn clone_optional<'a>(
@@ -17,7 +26,7 @@ pub(crate) fn clone_optional<'a>(
         option_map storage_of copy ≡ option_map clone_storage id.now) }
 {
     match id {
-        Some(text) => Ok(Some(text.clone(alloc)?)),
+        Some(text) => Some(text.clone(alloc)).transpose(),
         None => Ok(None),
     }
 }
@@ -32,7 +41,7 @@ pub(crate) fn static_optional<'a>(
         option_map storage_of copy ≡ option_map static_storage id.entry) }
 {
     match id {
-        Some(text) => Ok(Some(text.into_static(alloc)?)),
+        Some(text) => Some(text.into_static(alloc)).transpose(),
         None => Ok(None),
     }
 }
@@ -48,7 +57,7 @@ pub(crate) fn clone_texts<'a>(
 {
     let mut copy = Vec::with_capacity(alloc, texts.len())?;
     'texts: for text in texts {
-        copy.push(text.clone(alloc)?)?;
+        push_made(&mut copy, text.clone(alloc))?;
     }
     Ok(copy)
 }
@@ -64,9 +73,23 @@ pub(crate) fn static_texts<'a>(
 {
     let mut copy = Vec::with_capacity(alloc, texts.len())?;
     'texts: for text in texts {
-        copy.push(text.into_static(alloc)?)?;
+        push_made(&mut copy, text.into_static(alloc))?;
     }
     Ok(copy)
+}
+
+// An attribute again.
+fn clone_attribute<'a>(
+    alloc: Global,
+    attribute: &(CowStr<'a>, Option<CowStr<'a>>),
+) -> Result<(CowStr<'a>, Option<CowStr<'a>>), AllocError>
+    ensures same { IfOk result (λ copy.
+        attribute_view cow_text copy ≡ attribute_view cow_text attribute.now) }
+    ensures storage { IfOk result (λ copy.
+        attribute_view storage_of copy ≡ attribute_view clone_storage attribute.now) }
+{
+    let name = attribute.0.clone(alloc)?;
+    Ok((name, clone_optional(alloc, &attribute.1)?))
 }
 
 // Attributes again.
@@ -82,11 +105,23 @@ pub(crate) fn clone_attributes<'a>(
 {
     let mut copy = Vec::with_capacity(alloc, attributes.len())?;
     'attributes: for attribute in attributes {
-        let name = attribute.0.clone(alloc)?;
-        let value = clone_optional(alloc, &attribute.1)?;
-        copy.push((name, value))?;
+        push_made(&mut copy, clone_attribute(alloc, attribute))?;
     }
     Ok(copy)
+}
+
+// An attribute with nothing borrowed.
+fn static_attribute<'a>(
+    alloc: Global,
+    attribute: (CowStr<'a>, Option<CowStr<'a>>),
+) -> Result<(CowStr<'static>, Option<CowStr<'static>>), AllocError>
+    ensures same { IfOk result (λ copy.
+        attribute_view cow_text copy ≡ attribute_view cow_text attribute.entry) }
+    ensures storage { IfOk result (λ copy.
+        attribute_view storage_of copy ≡ attribute_view static_storage attribute.entry) }
+{
+    let name = attribute.0.into_static(alloc)?;
+    Ok((name, static_optional(alloc, attribute.1)?))
 }
 
 // Attributes with nothing borrowed.
@@ -103,10 +138,7 @@ pub(crate) fn static_attributes<'a>(
 {
     let mut copy = Vec::with_capacity(alloc, attributes.len())?;
     'attributes: for attribute in attributes {
-        let (name, value) = attribute;
-        let name = name.into_static(alloc)?;
-        let value = static_optional(alloc, value)?;
-        copy.push((name, value))?;
+        push_made(&mut copy, static_attribute(alloc, attribute))?;
     }
     Ok(copy)
 }

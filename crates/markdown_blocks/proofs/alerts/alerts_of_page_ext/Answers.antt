@@ -3,13 +3,13 @@ use Rattle.markdown_blocks.proofs.alerts.alerts_of_page_ext.Goals as goal
 use Rattle.markdown_blocks.specs.first_blocks.Alerts.{alert_at}
 
 pub loop-found-init : goal.loop-found-init
-loop-found-init c = rw (c.new-found.ensures.items, c.new-firsts.ensures.start) (found_at_start alert_at _ _ _ c.new_ext-blocks.ensures.page)
+loop-found-init c = rw (c.new-found.ensures.items, c.new-firsts.ensures.start) (found_at_start alert_at _ c.args.page.now _ c.new_ext-blocks.ensures.page)
 
 pub loop-found-preserved : goal.loop-found-preserved
 loop-found-preserved c =
     rw c.in_ok-keep.ensures
-    (found_further alert_at _ _ _ _ _ c.alert_read.new.firsts _ _ c.alert_read.result c.loop-found.invariant
+    (found_further alert_at _ c.args.page.now _ _ _ c.alert_read.new.firsts _ _ c.alert_read.result c.loop-found.invariant
     (rw c.in-Some.is at c.in_ok-event.ensures.event) c.alert_read.ensures)
 
 pub returns : goal.returns
-returns c = found_at_end alert_at _ _ _ _ _ c.loop-found.invariant (rw c.in_default.is at c.in_ok-event.ensures.none)
+returns c = found_at_end alert_at _ c.args.page.now _ _ _ c.loop-found.invariant (rw c.in_default.is at c.in_ok-event.ensures.none)

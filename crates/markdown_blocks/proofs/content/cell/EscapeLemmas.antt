@@ -7,6 +7,7 @@ use Rattle.std.proofs.lemmas.List.{drop_all, get_or-drop, get_or-take, drop_more
 use Rattle.std.proofs.lemmas.List.FromFn.{get_or-map-range_with_len, length-range_with_len}
 use Rattle.std.proofs.Math.Seq.{take-length}
 use Rattle.markdown_blocks.specs.cells.Contents.{bytes_of_cell, content_of_cell, escape_at, escapes_pipe, unescaped, unescaped_places}
+use Rattle.markdown_scanners_tree.specs.Ascii.{space}
 use Rattle.markdown_blocks.specs.content.Bytes.{AreBytesOf, IsByteAt}
 use Rattle.markdown_blocks.specs.content.Content.{Placed, places_of, text_of}
 use Rattle.markdown_blocks.specs.content.Parts.{Part}
@@ -17,7 +18,7 @@ use Rattle.markdown_blocks.proofs.content.SegmentLemmas.{lent_seen, places_all, 
 
 -- the bytes before the first backslash that escapes a pipe, and those after each
 abbrev pub run_part : ℕ → List ℕ → Part
-run_part place bytes = record { columns = 0; place = place; bytes = take (escape_at bytes) bytes }
+run_part place bytes = record { columns = 0; filler = space; place = place; bytes = take (escape_at bytes) bytes }
 
 abbrev pub later_runs : ℕ → List ℕ → List Part
 later_runs place [] = []
@@ -188,12 +189,12 @@ pub lent_runs : (bytes : List ℕ) (place : ℕ) → escape_at bytes ≡ length 
     → seen bytes (start place) [] ≡ record { text = unescaped bytes; places = unescaped_places place bytes }
 lent_runs bytes place none =
     let n = length bytes in
-    let run : Part = record { columns = 0; place = place; bytes = bytes } in
+    let run : Part = record { columns = 0; filler = space; place = place; bytes = bytes } in
     let whole : take (escape_at bytes) bytes ≡ bytes = ap (λ k. take k bytes) none ∙ take-length bytes in
     let no_more : later_runs place bytes ≡ [] =
     runs_on place bytes ∙ ap (later_runs (place + escape_at bytes)) (drop_all (escape_at bytes) bytes (omega (arith, none))) in
     let alone : runs place bytes ≡ run ∷ [] =
-    ap (λ ps. run_part place bytes ∷ ps) no_more ∙ ap (λ bs. record { columns = 0; place = place; bytes = bs } ∷ []) whole in
+    ap (λ ps. run_part place bytes ∷ ps) no_more ∙ ap (λ bs. record { columns = 0; filler = space; place = place; bytes = bs } ∷ []) whole in
     let text : flat_map text_of (run ∷ []) ≡ unescaped bytes = ap (flat_map text_of) (sym alone) ∙ runs_text place bytes in
     let places : flat_map places_of (run ∷ []) ≡ unescaped_places place bytes = ap (flat_map places_of) (sym alone) ∙ runs_places place bytes in
     let joined_text : bytes ++ [] ≡ bytes = append-nil bytes in

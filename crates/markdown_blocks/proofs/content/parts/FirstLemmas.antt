@@ -1,11 +1,12 @@
 -- The parts of a block, by its first line.
-use Rattle.std.proofs.Common.{ℕ, ◌+◌, ◌-◌, ◌≤◌, ◌≡◌, List, [], ◌∷◌, ◌++◌, length, take, drop, Some, None, refl, sym, ap, ◌∙◌, subst, arith}
+use Rattle.std.proofs.Common.{ℕ, ◌+◌, ◌-◌, ◌≤◌, ◌≡◌, List, [], ◌∷◌, ◌++◌, length, take, drop, Option, Some, None, refl, sym, ap, ◌∙◌, subst, arith}
 use Rattle.std.proofs.Common.{append_assoc, length-append}
 use Rattle.std.proofs.lemmas.List.{drop-append-le}
 use Rattle.markdown_values.specs.declared.values.HeadingLevel.{HeadingLevel}
 use Rattle.markdown_scanners_tree.specs.line.State.{LineState, space_within}
 use Rattle.markdown_scanners_tree.specs.scanners.TextLines.{lines_of}
 use Rattle.markdown_blocks.specs.content.Parts.{AreInner, AreParts, ArePartsAt, Part, first_place, heading_part, later_parts, part_at, text_place}
+use Rattle.markdown_blocks.specs.content.Parts.{written}
 use Rattle.markdown_blocks.specs.content.Seen.{IsFirstIn, IsIn, seen_part}
 use Rattle.markdown_blocks.specs.declared.blocks.BlockKind.{BlockKind}
 use Rattle.markdown_blocks.specs.declared.blocks.BlockKind.TheVariants.{Blank, Break, Heading, Setext, Indented, Fenced, Html, Table, Definition, Paragraph}
@@ -17,6 +18,9 @@ use Rattle.markdown_blocks.proofs.content.parts.NextLemmas.{in_lines, more_bytes
 
 pub none_in : (lines : List ℕ) → IsFirstIn lines None
 none_in lines x is = cc
+
+pub absent_in : (lines : List ℕ) (first : Option LinePart) → first ≡ None → IsFirstIn lines first
+absent_in lines first none = λ x is. cc
 
 pub some_in : (lines : List ℕ) (p : LinePart) → IsIn lines (seen_part p) → IsFirstIn lines (Some p)
 some_in lines p inside x is = let same : p ≡ x = cc in subst (λ (q : LinePart). IsIn lines (seen_part q)) same inside
@@ -35,8 +39,8 @@ module _ (lines line : List ℕ) (nothing read : Taken) (none : (text : List ℕ
   pub part_in : (p : Part) → p.place ≤ length line → p.bytes ≡ drop p.place line → IsIn lines p
   part_in p inside is =
       let at : nothing.bytes + p.place ≡ p.place = omega (arith, no_bytes) in
-      subst (λ k. IsIn lines (record { columns = p.columns; place = k; bytes = p.bytes })) at
-      (in_lines lines nothing read line n p.columns p.place p.bytes inside is)
+      subst (λ k. IsIn lines (record { columns = p.columns; filler = p.filler; place = k; bytes = p.bytes })) at
+      (in_lines lines nothing read line n p.columns p.filler p.place p.bytes inside is)
 
   whole : lines ≡ line ++ drop read.bytes lines
   whole = ap (λ k. drop k lines) (sym no_bytes) ∙ stands lines nothing read line n
@@ -69,25 +73,25 @@ pub none_counted : (kind : BlockKind) (outer : List Container) (indent before k 
 none_counted kind outer indent before k lines =
     let none : 0 - k ≡ 0 = omega arith in ap (λ m. later_parts kind outer indent before (take m lines)) none
 
-pub text_parts : (kind : BlockKind) (outer : List Container) (s : LineState) (before : ℕ) (later inner : List (List ℕ)) (p : Part)
+pub text_parts : (kind : BlockKind) (outer : List Container) (s : LineState) (before : ℕ) (later inner : List (List ℕ)) (own : List Part)
     → ¬ (kind ≡ Blank) → ¬ (kind ≡ Break) → ((level : HeadingLevel) → ¬ (kind ≡ Heading level))
     → ((count byte : ℕ) → ¬ (kind ≡ Fenced count byte)) → ((columns : ℕ) → ¬ (kind ≡ Table columns)) → AreInner kind outer later inner
-    → p ≡ part_at (text_place kind 0 s) → ArePartsAt kind outer s before later (p ∷ later_parts kind outer 0 before inner)
-text_parts Blank outer s before later inner p blank rule heading fenced table h is = absurd (blank refl)
-text_parts Break outer s before later inner p blank rule heading fenced table h is = absurd (rule refl)
-text_parts (Heading level) outer s before later inner p blank rule heading fenced table h is = absurd (heading level refl)
-text_parts (Fenced count byte) outer s before later inner p blank rule heading fenced table h is = absurd (fenced count byte refl)
-text_parts (Table columns) outer s before later inner p blank rule heading fenced table h is = absurd (table columns refl)
-text_parts (Setext level) outer s before later inner p blank rule heading fenced table h is =
-    (inner, h, ap (λ q. q ∷ later_parts (Setext level) outer 0 before inner) is)
-text_parts Indented outer s before later inner p blank rule heading fenced table h is =
-    (inner, h, ap (λ q. q ∷ later_parts Indented outer 0 before inner) is)
-text_parts (Html kind) outer s before later inner p blank rule heading fenced table h is =
-    (inner, h, ap (λ q. q ∷ later_parts (Html kind) outer 0 before inner) is)
-text_parts Definition outer s before later inner p blank rule heading fenced table h is =
-    (inner, h, ap (λ q. q ∷ later_parts Definition outer 0 before inner) is)
-text_parts Paragraph outer s before later inner p blank rule heading fenced table h is =
-    (inner, h, ap (λ q. q ∷ later_parts Paragraph outer 0 before inner) is)
+    → own ≡ written kind (part_at (text_place kind 0 s)) → ArePartsAt kind outer s before later (own ++ later_parts kind outer 0 before inner)
+text_parts Blank outer s before later inner own blank rule heading fenced table h is = absurd (blank refl)
+text_parts Break outer s before later inner own blank rule heading fenced table h is = absurd (rule refl)
+text_parts (Heading level) outer s before later inner own blank rule heading fenced table h is = absurd (heading level refl)
+text_parts (Fenced count byte) outer s before later inner own blank rule heading fenced table h is = absurd (fenced count byte refl)
+text_parts (Table columns) outer s before later inner own blank rule heading fenced table h is = absurd (table columns refl)
+text_parts (Setext level) outer s before later inner own blank rule heading fenced table h is =
+    (inner, h, ap (λ q. q ++ later_parts (Setext level) outer 0 before inner) is)
+text_parts Indented outer s before later inner own blank rule heading fenced table h is =
+    (inner, h, ap (λ q. q ++ later_parts Indented outer 0 before inner) is)
+text_parts (Html kind) outer s before later inner own blank rule heading fenced table h is =
+    (inner, h, ap (λ q. q ++ later_parts (Html kind) outer 0 before inner) is)
+text_parts Definition outer s before later inner own blank rule heading fenced table h is =
+    (inner, h, ap (λ q. q ++ later_parts Definition outer 0 before inner) is)
+text_parts Paragraph outer s before later inner own blank rule heading fenced table h is =
+    (inner, h, ap (λ q. q ++ later_parts Paragraph outer 0 before inner) is)
 
 pub heading_at : (kind : BlockKind) (level : HeadingLevel) (outer : List Container) (s : LineState) (before k : ℕ) (later : List (List ℕ)) (p : Part)
     → kind ≡ Heading level → p ≡ heading_part s → ArePartsAt kind outer s before later (p ∷ later_parts kind outer 0 before (take (0 - k) later))

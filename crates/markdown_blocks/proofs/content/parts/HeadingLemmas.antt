@@ -5,7 +5,7 @@ use Rattle.std.specs.List.{prefix_len, suffix_len}
 use Rattle.std.proofs.lemmas.Bool.{cases_Bool}
 use Rattle.std.proofs.lemmas.List.{drop-drop, length-drop, length-take-le, take-append-drop, take-take, take_all}
 use Rattle.std.proofs.lemmas.List.Sums.{prefix_len-le-length}
-use Rattle.markdown_scanners_tree.specs.Ascii.{number_sign}
+use Rattle.markdown_scanners_tree.specs.Ascii.{number_sign, space}
 use Rattle.markdown_scanners_tree.specs.Bytes.{is_line_ending, is_space_or_tab, line_head}
 use Rattle.markdown_scanners_tree.specs.line.Outcome.{after_all_space}
 use Rattle.markdown_scanners_tree.specs.line.State.{LineState, unscanned, after_space}
@@ -59,7 +59,7 @@ text_front after =
     (closing_front (without_end (line_head after)))
 
 in_line : (line after bytes : List ℕ) (k : ℕ) → after ≡ drop k line → k ≤ length line → IsFrontOf after bytes
-    → IsIn line (record { columns = 0; place = length line - length after; bytes = bytes })
+    → IsIn line (record { columns = 0; filler = space; place = length line - length after; bytes = bytes })
 in_line line after bytes k is within f =
     let left : length after ≡ length line - k = ap length is ∙ length-drop k line in
     let size : length bytes ≡ f.count = ap length f.taken ∙ length-take-le f.count after f.within in
@@ -74,18 +74,19 @@ module _ (s : LineState) (line text marked after bytes : List ℕ) (place : ℕ)
     (is : text ≡ unscanned (after_all_space (after_space 4 s))) (signs : marked ≡ behind_fence number_sign text)
     (spaces : after ≡ without_front marked) (ends : bytes ≡ without_closing (without_end (line_head after))) where
   at : ℕ → List ℕ → Part
-  at size rest = record { columns = 0; place = size - length rest; bytes = without_closing (without_end (line_head rest)) }
+  at size rest = record { columns = 0; filler = space; place = size - length rest; bytes = without_closing (without_end (line_head rest)) }
 
-  pub heading_is : record { columns = 0; place = length line - length after; bytes = bytes } ≡ heading_part s
+  pub heading_is : record { columns = 0; filler = space; place = length line - length after; bytes = bytes } ≡ heading_part s
   unfolding at
   heading_is =
       let rest : after ≡ without_front (behind_fence number_sign (unscanned (after_all_space (after_space 4 s)))) =
       spaces ∙ ap without_front (signs ∙ ap (behind_fence number_sign) is) in
-      ap (λ b. record { columns = 0; place = length line - length after; bytes = b }) ends
+      ap (λ b. record { columns = 0; filler = space; place = length line - length after; bytes = b }) ends
       ∙ ap (at (length line)) rest
       ∙ ap (λ l. at (length l) (without_front (behind_fence number_sign (unscanned (after_all_space (after_space 4 s)))))) (sym same)
 
-  pub heading_in : text ≡ drop place line → place ≤ length line → IsIn line (record { columns = 0; place = length line - length after; bytes = bytes })
+  pub heading_in : text ≡ drop place line → place ≤ length line
+      → IsIn line (record { columns = 0; filler = space; place = length line - length after; bytes = bytes })
   heading_in from within =
       let p = prefix_len is_space_or_tab marked in
       let q = prefix_len (λ b. b == number_sign) text in

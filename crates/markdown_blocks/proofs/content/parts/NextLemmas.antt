@@ -1,10 +1,10 @@
 -- The part of the next line, and where it stands.
-use Rattle.std.proofs.Common.{ℕ, suc, ◌+◌, ◌-◌, ◌<◌, ◌≤◌, ◌≡◌, List, ◌∷◌, ◌++◌, length, take, drop, sym, ap, ◌∙◌, arith, length-append}
+use Rattle.std.proofs.Common.{ℕ, suc, ◌+◌, ◌-◌, ◌<◌, ◌≤◌, ◌≡◌, List, ◌++◌, length, take, drop, sym, ap, ◌∙◌, arith, length-append}
 use Rattle.std.proofs.lemmas.List.{drop-append-le, drop-drop, length-drop}
 use Rattle.std.specs.List.{concat}
 use Rattle.markdown_scanners_tree.specs.scanners.TextLines.{lines_of}
 use Rattle.markdown_scanners_tree.proofs.ForCallers.{lines_joined}
-use Rattle.markdown_blocks.specs.content.Parts.{Part, later_parts, later_place, moved, part_at, text_place}
+use Rattle.markdown_blocks.specs.content.Parts.{Part, later_parts, later_place, moved, part_at, text_place, written}
 use Rattle.markdown_blocks.specs.content.Seen.{IsIn}
 use Rattle.markdown_blocks.specs.declared.blocks.BlockKind.{BlockKind}
 use Rattle.markdown_blocks.specs.declared.containers.Container.{Container}
@@ -22,9 +22,9 @@ module _ (text : List ℕ) (read more : Taken) (line : List ℕ) (n : IsNext tex
       ap length stands ∙ length-append line (drop more.bytes text) in
       omega (arith, sizes, length-drop read.bytes text, length-drop more.bytes text, n.within, n.further)
 
-  pub in_lines : (columns place : ℕ) (bytes : List ℕ) → place ≤ length line → bytes ≡ drop place line
-      → IsIn text (record { columns = columns; place = read.bytes + place; bytes = bytes })
-  in_lines columns place bytes inside is =
+  pub in_lines : (columns filler place : ℕ) (bytes : List ℕ) → place ≤ length line → bytes ≡ drop place line
+      → IsIn text (record { columns = columns; filler = filler; place = read.bytes + place; bytes = bytes })
+  in_lines columns filler place bytes inside is =
       let size : length bytes ≡ length line - place = ap length is ∙ length-drop place line in
       let end : read.bytes + place + length bytes ≡ more.bytes = omega (arith, size, inside, more_bytes) in (
         omega (arith, end, n.within),
@@ -35,11 +35,13 @@ module _ (text : List ℕ) (read more : Taken) (line : List ℕ) (n : IsNext tex
   pub next_part : (kind : BlockKind) (outer : List Container) (indent count : ℕ) (part : Part) → read.lines < count
       → part ≡ part_at (text_place kind indent (later_place kind outer line))
       → later_parts kind outer indent read.bytes (take (count - read.lines) (lines_of (drop read.bytes text)))
-      ≡ moved read.bytes part ∷ later_parts kind outer indent more.bytes (take (count - more.lines) (lines_of (drop more.bytes text)))
+      ≡ written kind (moved read.bytes part)
+      ++ later_parts kind outer indent more.bytes (take (count - more.lines) (lines_of (drop more.bytes text)))
   next_part kind outer indent count part fewer is =
       let left : count - read.lines ≡ suc (count - more.lines) = omega (arith, fewer, n.counted) in
       ap (λ k. later_parts kind outer indent read.bytes (take k (lines_of (drop read.bytes text)))) left
       ∙ ap (λ ls. later_parts kind outer indent read.bytes (take (suc (count - more.lines)) ls)) n.parts
-      ∙ ap (λ p. moved read.bytes p ∷ later_parts kind outer indent (read.bytes + length line)
+      ∙ ap (λ p. written kind (moved read.bytes p) ++ later_parts kind outer indent (read.bytes + length line)
       (take (count - more.lines) (lines_of (drop more.bytes text)))) (sym is)
-      ∙ ap (λ b. moved read.bytes part ∷ later_parts kind outer indent b (take (count - more.lines) (lines_of (drop more.bytes text)))) (sym more_bytes)
+      ∙ ap (λ b. written kind (moved read.bytes part)
+      ++ later_parts kind outer indent b (take (count - more.lines) (lines_of (drop more.bytes text)))) (sym more_bytes)

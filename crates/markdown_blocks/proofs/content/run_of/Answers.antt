@@ -1,7 +1,7 @@
 use Rattle.std.proofs.Common.{◌≡◌, ◌∙◌, arith}
 use Rattle.markdown_blocks.specs.content.Left.{parts_left}
 use Rattle.markdown_blocks.specs.content.Seen.{seen_part}
-use Rattle.markdown_blocks.proofs.content.RunLemmas.{go_first, go_next, places_first, places_next, run_first, run_inside, run_joined, run_next}
+use Rattle.markdown_blocks.proofs.content.RunLemmas.{go_first, go_next, places_first, places_next, run_first, run_inside, run_next}
 use Rattle.markdown_blocks.proofs.content.run_of.Goals as goal
 
 pub loop-next-init : goal.loop-next-init

@@ -1,5 +1,5 @@
-use Rattle.std.proofs.Common.{ℕ, ◌+◌, ◌-◌, ◌/◌, ◌<◌, ◌≤◌, arith, refl, sym, ◌∙◌}
-use Rattle.markdown_blocks.proofs.content.SegmentLemmas.{upper_rising, upper_aim, upper_low, lower_after, until_next, to_end, start}
+use Rattle.std.proofs.Common.{ℕ, ◌+◌, ◌-◌, ◌/◌, ◌<◌, ◌≤◌, arith, refl}
+use Rattle.markdown_blocks.proofs.content.SegmentLemmas.{upper_rising, upper_aim, upper_low, lower_after, start}
 use Rattle.markdown_blocks.proofs.content.segment_at.Goals as goal
 
 half : (low high : ℕ) → low < high → (low ≤ low + (high - low) / 2) × (low + (high - low) / 2 < high)

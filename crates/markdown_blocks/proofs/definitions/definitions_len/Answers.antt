@@ -1,11 +1,11 @@
 use Rattle.std.proofs.Common.{[], ◌∷◌, length, ap, refl, arith}
 use Rattle.std.proofs.lemmas.List.{drop-drop, length-drop}
-use Rattle.markdown_blocks.proofs.taken.TakenLemmas.{slice_behind}
+use Rattle.markdown_blocks.proofs.taken.TakenLemmas.{slice_after}
 use Rattle.markdown_blocks.proofs.definitions.definitions_len.Goals as goal
 
 pub loop-definition-preserved : goal.loop-definition-preserved
 loop-definition-preserved c =
-    let same = slice_behind c.args.content.now c.loop-definition.taken in
+    let same = slice_after c.args.content.now c.loop-definition.taken in
     let within = c.in-Some.ensures.within in
     let size = ap length same in (
       omega (arith, within, size, length-drop c.loop-definition.taken c.args.content.now, c.loop-definition.invariant.0),
@@ -15,4 +15,4 @@ loop-definition-preserved c =
 
 pub returns-clause-definitions : goal.returns-clause-definitions
 returns-clause-definitions c =
-    c.loop-definition.invariant.1 [] _ (refl, rw (slice_behind c.args.content.now c.loop-definition.taken) at c.in_default.ensures.found)
+    c.loop-definition.invariant.1 [] _ (refl, rw (slice_after c.args.content.now c.loop-definition.taken) at c.in_default.ensures.found)

@@ -25,5 +25,5 @@ loop-found-preserved c = λ events g.
 pub returns : goal.returns
 returns c =
     let before = c.loop-found.invariant [] (rw c.in_default.is at c.in_ok-event.ensures.none) in
-    lists_are _ _ before.0 _ before.1 (λ nodes same. before.2 nodes same ∙ ap (λ ls. c.loop-found.found.items ++ ls) c.finish.ensures.lists
+    lists_are _ c.args.page.now before.0 _ before.1 (λ nodes same. before.2 nodes same ∙ ap (λ ls. c.loop-found.found.items ++ ls) c.finish.ensures.lists
     ∙ sym c.in_ok-keep-2.ensures)

@@ -1,8 +1,8 @@
+use Rattle.std.proofs.lemmas.Result.{IfOk-weaker}
 use Rattle.markdown_blocks.proofs.rows.RowLemmas.{row_tells}
 use Rattle.markdown_blocks.proofs.rows.columns_of.Goals as goal
 
 pub returns : goal.returns
 returns c =
-    let row = c.in_ok-alignments in
-    rw (← c.rest.view_is) (row_tells c.rest.inside.indent c.rest.inside.text.now row.field-0-0 row.alignments.items c.if-rest-eq4.false
-    row.ensures.found row.ensures.none row.ensures.empty)
+    rw (← c.rest.view_is) (IfOk-weaker c.alignments_in.result _ _
+    (λ found is. row_tells c.rest.inside.indent c.rest.inside.text.now found.items c.if-rest-eq4.false is) c.alignments_in.ensures)

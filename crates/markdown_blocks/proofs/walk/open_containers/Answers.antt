@@ -1,6 +1,6 @@
 use Rattle.std.proofs.Common.{[], ◌∷◌, length, ap, ◌∙◌, arith, length-append}
 use Rattle.markdown_blocks.specs.containers.Containers.{Rest}
-use Rattle.markdown_blocks.proofs.taken.TakenLemmas.{slice_behind}
+use Rattle.markdown_blocks.proofs.taken.TakenLemmas.{slice_after}
 use Rattle.markdown_blocks.proofs.walk.WalkLemmas.{opening-first, opening-next, opening-done}
 use Rattle.markdown_blocks.proofs.walk.open_containers.Goals as goal
 
@@ -14,7 +14,7 @@ loop-container-init c =
           c.go_on-kept.result.1 c.scan_rest-rest.new.start c.asked_first-asked.result (c.len-count.ensures ∙ c.keep.new.outer.ok.0)
           (rw (c.new.ensures, c.deref.ensures.value) at c.go_on-kept.ensures.kept) c.in_ok-keep.ensures
           (rw (c.new.ensures, c.deref.ensures.value) at c.go_on-kept.ensures.state) c.scan_rest-rest.ensures.rest c.scan_rest-rest.ensures.place
-          (rw (c.deref-2.ensures.value, slice_behind c.args.outer.now.items c.go_on-kept.result.0) at c.asked_first-asked.ensures),
+          (rw (c.deref-2.ensures.value, slice_after c.args.outer.now.items c.go_on-kept.result.0) at c.asked_first-asked.ensures),
       omega (arith, c.len-count.ensures, c.keep.new.outer.ok.0),
       c.scan_rest-rest.ensures.within,
     )

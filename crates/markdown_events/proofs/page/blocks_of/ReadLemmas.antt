@@ -4,6 +4,7 @@ use Rattle.std.specs.Prelude.{None, replicate}
 use Rattle.std.proofs.lemmas.List.{drop_all, length-drop}
 use Rattle.markdown_scanners_tree.specs.scanners.TextLines.{lines_of}
 use Rattle.markdown_scanners_tree.specs.declared.scanners.reference_definitions.ReferenceDefinition.{ReferenceDefinition}
+use Rattle.markdown_blocks.specs.byte_order_mark.ByteOrderMark.{text_of, text_start}
 use Rattle.markdown_blocks.specs.blocks.Pages.{root}
 use Rattle.markdown_blocks.specs.containers.Containers.{Between}
 use Rattle.markdown_blocks.specs.declared.containers.BlockExtensions.{BlockExtensions}
@@ -31,8 +32,8 @@ from_here open_now text line start = record {
   next = None;
 }
 
-pub whole_page : (asked : BlockExtensions) (page : List ℕ) (events : List Event) → Gives (from_here (root asked) page 0 0) events
-    → IsEventsOf asked page events
+pub whole_page : (asked : BlockExtensions) (page : List ℕ) (events : List Event)
+    → Gives (from_here (root asked) (text_of page) 0 (text_start page)) events → IsEventsOf asked page events
 whole_page asked page events g = (
   g.pieces,
   g.blocks,

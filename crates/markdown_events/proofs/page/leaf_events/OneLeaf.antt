@@ -5,7 +5,6 @@ use Rattle.markdown_values.specs.values.Events.{EventView, html, text}
 use Rattle.markdown_values.specs.values.Tags.{code_block, table, table_cell}
 use Rattle.std.specs.Prelude.{Some, None}
 use Rattle.markdown_scanners_tree.specs.scanners.TextLines.{lines_of}
-use Rattle.markdown_scanners_tree.proofs.ForCallers.{one_row}
 use Rattle.markdown_blocks.specs.cells.Cells.{cells_of}
 use Rattle.markdown_blocks.specs.cells.Contents.{content_of_cell}
 use Rattle.markdown_blocks.specs.containers.Containers.{Rest, rest_in}
@@ -30,8 +29,7 @@ use Rattle.markdown_events.proofs.inline_events.Unique.{one_list_of_inline_event
 -- ---- tables
 
 one_of_columns : (rest : Rest) (alignments others : List Alignment) → AreGiven rest alignments → AreGiven rest others → alignments ≡ others
-one_of_columns rest alignments others (inl (near, n, is)) (inl (near', n', is')) =
-    ap (λ (p : ℕ × List Alignment). p.1) (one_row rest.text n alignments n' others is is')
+one_of_columns rest alignments others (inl (near, row, is)) (inl (near', row', is')) = is ∙ sym is'
 one_of_columns rest alignments others (inl columns) (inr (none, empty)) = absurd (none alignments columns)
 one_of_columns rest alignments others (inr (none, empty)) (inl columns) = absurd (none others columns)
 one_of_columns rest alignments others (inr (none, empty)) (inr (none', empty')) = empty ∙ sym empty'

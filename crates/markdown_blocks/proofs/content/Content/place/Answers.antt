@@ -1,7 +1,6 @@
 use Rattle.std.proofs.Common.{◌+◌, ◌-◌, ◌≡◌, ◌<◌, length, ◌∙◌, sym, subst, refl}
 use Rattle.std.specs.Prelude.{slice_index, ◌++◌}
 use Rattle.markdown_blocks.specs.content.Content.{Placed}
-use Rattle.markdown_blocks.specs.content.Segments.{place_at, place_in}
 use Rattle.markdown_blocks.proofs.content.SegmentLemmas.{at_offset, given_in_bytes, given_in_columns}
 use Rattle.markdown_blocks.proofs.content.Content.place.Goals as goal
 

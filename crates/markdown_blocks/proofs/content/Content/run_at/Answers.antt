@@ -1,4 +1,4 @@
-use Rattle.std.proofs.Common.{ℕ, List, ◌+◌, ◌-◌, ◌≡◌, ◌<◌, ◌≤◌, ap, length, ◌∙◌, sym, subst, refl, arith}
+use Rattle.std.proofs.Common.{ℕ, ◌+◌, ◌-◌, ◌≤◌, ap, length, sym, subst, refl, arith}
 use Rattle.std.specs.Prelude.{◌++◌}
 use Rattle.markdown_blocks.specs.content.Content.{IsRunOf, Placed}
 use Rattle.markdown_blocks.specs.declared.content.Run.{Run}

@@ -4,7 +4,7 @@ use Rattle.markdown_scanners_tree.specs.line.Outcome.{after_all_space}
 use Rattle.markdown_scanners_tree.specs.line.State.{LineState, after_space, unscanned}
 use Rattle.markdown_blocks.specs.content.Parts.{without_closing}
 use Rattle.markdown_blocks.specs.info.Info.{without_end}
-use Rattle.markdown_blocks.proofs.taken.TakenLemmas.{slice_behind}
+use Rattle.markdown_blocks.proofs.taken.TakenLemmas.{slice_after}
 use Rattle.markdown_blocks.proofs.content.parts.HeadingLemmas.{heading_in, heading_is}
 use Rattle.markdown_blocks.proofs.content.parts.heading_part.Goals as goal
 
@@ -14,7 +14,7 @@ rest_is : (s t u : LineState) (line text : List ℕ) (place : ℕ) → s.bytes �
     → place ≡ u.place → text ≡ take (length line - place) (drop place line) → text ≡ unscanned (after_all_space (after_space 4 s))
 rest_is s t u line text place same one two keeps keeps' at is =
     let bytes : line ≡ u.bytes = sym (keeps' ∙ keeps ∙ same) in
-    is ∙ slice_behind line place ∙ ap (λ n. drop n line) at ∙ ap (drop u.place) bytes
+    is ∙ slice_after line place ∙ ap (λ n. drop n line) at ∙ ap (drop u.place) bytes
     ∙ ap unscanned (two ∙ ap after_all_space one)
 
 ends_are : (after head front bytes : List ℕ) → head ≡ line_head after → front ≡ without_end head → bytes ≡ without_closing front
@@ -45,4 +45,4 @@ returns-clause-inside c =
     let keeps = c.scan_all_space.ensures.bytes ∙ c.scan_space_upto.ensures.bytes ∙ c.requires in
     heading_in c.args.start line text c.split_at.result.1.now c.without_front-after.result.now c.without_closing.result.now place c.requires is
     (c.split_at.ensures.back ∙ ap (λ n. drop n text) c.scan_ch_repeat.ensures.run) c.without_front-after.ensures ends
-    (slice_behind line place) (subst (λ b. place ≤ length b) keeps c.bytes_scanned.ensures.within)
+    (slice_after line place) (subst (λ b. place ≤ length b) keeps c.bytes_scanned.ensures.within)

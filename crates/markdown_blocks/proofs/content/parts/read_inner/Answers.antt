@@ -1,6 +1,5 @@
-use Rattle.std.proofs.Common.{◌-◌, sym, take, drop, ap, arith}
+use Rattle.std.proofs.Common.{arith}
 use Rattle.std.proofs.lemmas.Bool.Decides.{nat_tests}
-use Rattle.markdown_scanners_tree.specs.scanners.TextLines.{lines_of}
 use Rattle.markdown_blocks.proofs.kinds.KindLemmas.{not_given}
 use Rattle.markdown_blocks.proofs.content.parts.InnerLemmas.{read-more, read-none}
 use Rattle.markdown_blocks.proofs.content.parts.read_inner.Goals as goal

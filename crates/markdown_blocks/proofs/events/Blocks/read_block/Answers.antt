@@ -1,12 +1,12 @@
 use Rattle.std.proofs.Common.{[], ◌+◌, drop, length, refl, sym, ap, ◌∙◌, arith}
 use Rattle.std.proofs.lemmas.List.{drop-drop, length-drop}
-use Rattle.markdown_blocks.proofs.taken.TakenLemmas.{slice_behind}
+use Rattle.markdown_blocks.proofs.taken.TakenLemmas.{slice_after}
 use Rattle.markdown_blocks.proofs.events.EventLemmas.{step_kept, block_read, none_read, all_begun}
 use Rattle.markdown_blocks.proofs.events.Blocks.read_block.Goals as goal
 
 pub invariant_of-self-3 : goal.invariant_of-self-3
 invariant_of-self-3 c =
-    let rest = slice_behind c.self.inside.page.now c.self.inside.before.bytes in
+    let rest = slice_after c.self.inside.page.now c.self.inside.before.bytes in
     let s = (rw c.in-Some.is at c.in_ok-next.ensures.step) [] (λ t. refl) in
     let within = rw (c.in-Some.is, rest) at c.in_ok-next.ensures.within in (
       omega (arith, within, c.self.invariant.0, length-drop c.self.inside.before.bytes c.self.inside.page.now),
@@ -17,7 +17,7 @@ invariant_of-self-3 c =
 pub returns-clause-same : goal.returns-clause-same
 returns-clause-same c = λ events g.
     let before = c.self.inside.before in
-    let rest = slice_behind c.self.inside.page.now before.bytes in
+    let rest = slice_after c.self.inside.page.now before.bytes in
     let s = rw rest at ((rw c.in-Some.is at c.in_ok-next.ensures.step) [] (λ t. refl)) in
     let gathered = rw c.in-Some.is at c.in_ok-next.ensures.content in
     let some = rw c.in-Some.is at c.in_ok-next.ensures.some in
@@ -32,7 +32,7 @@ pub returns-clause-no_more : goal.returns-clause-no_more
 returns-clause-no_more c =
     let before = c.self.inside.before in
     let page = c.self.inside.page.now in
-    let rest = slice_behind page before.bytes in
+    let rest = slice_after page before.bytes in
     let s = (rw c.in-Some.is at c.in_ok-next.ensures.step) [] (λ t. refl) in
     let kept = step_kept c.self.inside.walk c.next_block.new.self _ c.in-Some.step s in
     let some = rw c.in-Some.is at c.in_ok-next.ensures.some in

@@ -1,7 +1,7 @@
 use Rattle.std.proofs.Common.{[], ◌++◌, ap, sym, ◌∙◌, subst, length, arith, append_assoc, append-nil}
 use Rattle.std.proofs.lemmas.List.{drop-drop, length-drop}
 use Rattle.markdown_blocks.specs.link_definitions.LinkDefinitions.{Names, known_before}
-use Rattle.markdown_blocks.proofs.taken.TakenLemmas.{slice_behind}
+use Rattle.markdown_blocks.proofs.taken.TakenLemmas.{slice_after}
 use Rattle.markdown_blocks.proofs.link_definitions.NamedLemmas.{front_named, names_nothing, none_named, none_later, added_before}
 use Rattle.markdown_blocks.proofs.link_definitions.LinkDefinitions.add_content.Goals as goal
 
@@ -20,7 +20,7 @@ loop-definition-init c = (
 
 pub loop-definition-preserved : goal.loop-definition-preserved
 loop-definition-preserved c =
-    let same = slice_behind c.args.content.now c.loop-definition.used in
+    let same = slice_after c.args.content.now c.loop-definition.used in
     let within = c.in-Some.ensures.within in
     let size = ap length same in
     let before = c.loop-definition.invariant.1 in
@@ -37,7 +37,7 @@ loop-definition-preserved c =
 
 pub returns-clause-added : goal.returns-clause-added
 returns-clause-added c =
-    let none = rw (slice_behind c.args.content.now c.loop-definition.used) at c.in_default.ensures.found in
+    let none = rw (slice_after c.args.content.now c.loop-definition.used) at c.in_default.ensures.found in
     let before = c.loop-definition.invariant.1 in (
       before.front ++ [],
       before.is_front [] (none_named _ none),

@@ -1,22 +1,22 @@
 use Rattle.std.proofs.Common.{[], ◌++◌, ap, refl, ◌∙◌, length, arith}
 use Rattle.std.proofs.lemmas.List.{drop-drop, length-drop}
-use Rattle.markdown_blocks.proofs.taken.TakenLemmas.{slice_behind}
+use Rattle.markdown_blocks.proofs.taken.TakenLemmas.{slice_after}
 use Rattle.markdown_blocks.proofs.link_definitions.NamedLemmas.{none_left, whole_page, block_named, none_later, added_before}
 use Rattle.markdown_blocks.proofs.link_definitions.LinkDefinitions.of_page_ext.Goals as goal
 
 pub loop-content-init : goal.loop-content-init
 loop-content-init c = (
-  omega (arith),
+  c.text_start-before.ensures.within,
   λ later left. (
     later,
-    whole_page c.args.extensions c.args.page.now later (rw c.new_ext-walk.ensures.none at left),
+    whole_page c.args.extensions c.args.page.now later (rw (c.new_ext-walk.ensures.none, c.text_start-before.ensures.start) at left),
     λ label. rw c.new-known.ensures.none refl,
   ),
 )
 
 pub loop-content-preserved : goal.loop-content-preserved
 loop-content-preserved c =
-    let same = slice_behind c.args.page.now c.loop-content.before in
+    let same = slice_after c.args.page.now c.loop-content.before in
     let size = ap length same in
     let within = rw c.in-Some.is at c.in_ok-step.ensures.within in
     let step = rw (c.in-Some.is, same) at c.in_ok-step.ensures.step in
@@ -32,6 +32,6 @@ loop-content-preserved c =
 
 pub returns : goal.returns
 returns c =
-    let none = rw (c.in_default.is, slice_behind c.args.page.now c.loop-content.before) at c.in_ok-step.ensures.all in
+    let none = rw (c.in_default.is, slice_after c.args.page.now c.loop-content.before) at c.in_ok-step.ensures.all in
     let whole = c.loop-content.invariant.1 [] (none_left c.loop-content.walk _ (none refl)) in
     record { first = (whole.0, whole.1, λ label. none_later c.loop-content.known label ∙ whole.2 label) }

@@ -33,7 +33,7 @@ returns-then-not-is_over-clause-none c =
     let opening = rw (c.in_ok-extend_from_slice.ensures.items, c.clear.ensures.items, c.deref.ensures.value) at c.in_ok-opened.ensures.opening in
     rw (← c.self.view_is) (none_over (record {
       extensions = c.self.inside.extensions;
-      containers = c.self.inside.open.items;
+      containers = c.self.inside.opened.items;
       term = c.self.inside.is_after_term;
     })
     c.open_containers.new.outer.items c.in-Some.line.now
@@ -53,7 +53,7 @@ pub returns-clause-step : goal.returns-clause-step
 returns-clause-step c = λ more none.
     let old : Between = record {
       extensions = c.self.inside.extensions;
-      containers = c.self.inside.open.items;
+      containers = c.self.inside.opened.items;
       term = c.self.inside.is_after_term;
     } in
     let inner = c.open_containers.new.outer.items in
@@ -73,8 +73,8 @@ returns-clause-step c = λ more none.
     let test : ℕ → ℕ → Bool = λ before after. is_blank_kind c.in_ok-block.block.kind && (c.in_ok-block.block.taken.lines == 1)
     && (c.in_ok-opened.opened.kept == before) && (after == c.in_ok-opened.opened.kept) in
     let tests = c.is_blank_between-is_between.ensures
-    ∙ ap (λ n. test n c.len-after.result) (c.len-before.ensures ∙ c.self.inside.open.ok.0)
-    ∙ ap (test (length c.self.inside.open.items)) (c.len-after.ensures ∙ c.open_containers.new.outer.ok.0) in
+    ∙ ap (λ n. test n c.len-after.result) (c.len-before.ensures ∙ c.self.inside.opened.ok.0)
+    ∙ ap (test (length c.self.inside.opened.items)) (c.len-after.ensures ∙ c.open_containers.new.outer.ok.0) in
     rw (← c.self.view_is, c.swap.ensures.x_after) (step_here old inner c.in-Some.line.now c.args.lines.now more _ opening refl place refl block leaf
     c.is_term-is_term.result c.follows_term-stays.result c.is_blank_between-is_between.result given tests c.follows_term-stays.ensures)
 

@@ -3,21 +3,21 @@ use Rattle.std.proofs.lemmas.List.{drop-drop, length-drop}
 use Rattle.markdown_blocks.specs.events.Events.{IsEventsOf, ends, seen_event}
 use Rattle.markdown_blocks.specs.events.Given.{BlockLeft}
 use Rattle.markdown_blocks.specs.link_definitions.LinkDefinitions.{known_as}
-use Rattle.markdown_blocks.proofs.taken.TakenLemmas.{slice_behind}
+use Rattle.markdown_blocks.proofs.taken.TakenLemmas.{slice_after}
 use Rattle.markdown_blocks.proofs.link_definitions.NamedLemmas.{none_left, whole_page, block_named, none_later, added_before}
 use Rattle.markdown_events.proofs.page.blocks_of.ReadLemmas.{all_end, block_given, some_line, whole_page as whole_events}
 use Rattle.markdown_events.proofs.page.blocks_of.read_bytes.Goals as goal
 
 pub loop-content-init : goal.loop-content-init
 loop-content-init c = record {
-  within = omega arith;
+  within = c.text_start-bytes.ensures.within;
   few = omega arith;
   are_events = λ later left.
       subst (λ blocks. IsEventsOf c.args.extensions c.args.page.now (map seen_event blocks ++ later)) (sym c.new-blocks.ensures.items)
-      (whole_events c.args.extensions c.args.page.now later (rw c.new_ext-walk.ensures.none at left));
+      (whole_events c.args.extensions c.args.page.now later (rw (c.new_ext-walk.ensures.none, c.text_start-bytes.ensures.start) at left));
   are_known = λ later left. (
     later,
-    whole_page c.args.extensions c.args.page.now later (rw c.new_ext-walk.ensures.none at left),
+    whole_page c.args.extensions c.args.page.now later (rw (c.new_ext-walk.ensures.none, c.text_start-bytes.ensures.start) at left),
     λ label. rw c.new-known.ensures.none refl,
   );
 }
@@ -31,7 +31,7 @@ push_events-requires c = record {
 pub loop-content-preserved : goal.loop-content-preserved
 loop-content-preserved c =
     let page = c.args.page.now in
-    let same = slice_behind page c.loop-content.bytes in
+    let same = slice_after page c.loop-content.bytes in
     let size = ap length same in
     let within = rw c.in-Some.is at c.in_ok-step.ensures.within in
     let step = rw (c.in-Some.is, same) at c.in_ok-step.ensures.step in
@@ -60,7 +60,7 @@ loop-content-preserved c =
 pub returns-in_default-clause-blocks : goal.returns-in_default-clause-blocks
 returns-in_default-clause-blocks c =
     let rest = drop c.loop-content.bytes c.args.page.now in
-    let none = rw (c.in_default.is, slice_behind c.args.page.now c.loop-content.bytes) at c.in_ok-step.ensures.all in
+    let none = rw (c.in_default.is, slice_after c.args.page.now c.loop-content.bytes) at c.in_ok-step.ensures.all in
     let added = rw c.containers-depth.ensures.containers at c.in_ok-push_ends.ensures in
     subst (IsEventsOf c.args.extensions c.args.page.now) (sym added)
     (c.loop-content.invariant.are_events (replicate (length c.loop-content.walk.containers) ends)
@@ -68,6 +68,6 @@ returns-in_default-clause-blocks c =
 
 pub returns-in_default-clause-first : goal.returns-in_default-clause-first
 returns-in_default-clause-first c =
-    let none = rw (c.in_default.is, slice_behind c.args.page.now c.loop-content.bytes) at c.in_ok-step.ensures.all in
+    let none = rw (c.in_default.is, slice_after c.args.page.now c.loop-content.bytes) at c.in_ok-step.ensures.all in
     let whole = c.loop-content.invariant.are_known [] (none_left c.loop-content.walk _ (none refl)) in
     (whole.0, whole.1, λ label. ap (λ known. known_as known label) c.new.ensures ∙ (none_later c.loop-content.known label ∙ whole.2 label))

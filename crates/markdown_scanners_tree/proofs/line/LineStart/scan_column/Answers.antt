@@ -1,4 +1,4 @@
-use Rattle.std.proofs.Common.{◌-◌, ◌+◌, ◌%◌, ◌^◌, refl, sym, inl, inr, arith}
+use Rattle.std.proofs.Common.{◌-◌, ◌+◌, refl, sym, inl, inr, arith}
 use Rattle.markdown_scanners_tree.proofs.line.PlaceLemmas.{taken_forward}
 use Rattle.markdown_scanners_tree.proofs.line.SpaceLemmas.{IsTaken, state_of, one_pending, one_of_byte, none_of_byte, none_at_end, none_at_byte}
 use Rattle.markdown_scanners_tree.proofs.line.LineStart.scan_column.Goals as goal
@@ -26,20 +26,18 @@ returns-then-self c =
 pub returns-in-32 : goal.returns-in-32
 returns-in-32 c =
     let s = c.self.inside in
-    let t : IsTaken 1 1 c.args.self.now (state_of s.bytes.now (s.place + 1) s.pending ((s.column + 1) % 2 ^ 64)) =
-    rw (← c.self.view_is) (one_of_byte s.bytes.now s.place s.column s.pending 32 1 _ s.pending (omega arith)
-    (omega arith) c.in-32.is (inl (refl, refl)) (omega arith) (omega arith)) in
+    let t : IsTaken 1 1 c.args.self.now (state_of s.bytes.now (s.place + 1) s.pending (s.column + 1)) =
+    rw (← c.self.view_is) (one_of_byte s.bytes.now s.place s.column s.pending 32 1 s.pending (omega arith)
+    (omega arith) c.in-32.is (inl (refl, refl)) (omega arith)) in
     record { answer = (λ _. sym t.answer, λ _. refl); state = t.state; forward = taken_forward 1 c.args.self.now _ t.state; rest = rw (← t.answer) t.rest }
 
 pub returns-in-9 : goal.returns-in-9
 returns-in-9 c =
     let s = c.self.inside in
     let width = c.tab_width-width.result in
-    let t : IsTaken 1 1 c.args.self.now
-    (state_of s.bytes.now (s.place + 1) (width - 1) ((s.column + width) % 2 ^ 64)) =
-    rw (← c.self.view_is) (one_of_byte s.bytes.now s.place s.column s.pending 9 width _ (width - 1) (omega arith)
-    (omega arith) c.in-9.is (inr (refl, c.tab_width-width.ensures.width)) (omega arith)
-    (omega (arith, c.tab_width-width.ensures))) in
+    let t : IsTaken 1 1 c.args.self.now (state_of s.bytes.now (s.place + 1) (width - 1) (s.column + width)) =
+    rw (← c.self.view_is) (one_of_byte s.bytes.now s.place s.column s.pending 9 width (width - 1) (omega arith)
+    (omega arith) c.in-9.is (inr (refl, c.tab_width-width.ensures.width)) (omega (arith, c.tab_width-width.ensures))) in
     record { answer = (λ _. sym t.answer, λ _. refl); state = t.state; forward = taken_forward 1 c.args.self.now _ t.state; rest = rw (← t.answer) t.rest }
 
 pub returns-in_default : goal.returns-in_default

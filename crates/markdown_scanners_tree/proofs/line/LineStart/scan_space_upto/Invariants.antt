@@ -1,4 +1,4 @@
-use Rattle.std.proofs.Common.{◌≡◌, ◌-◌}
+use Rattle.std.proofs.Common.{◌≡◌, ◌≤◌, ◌-◌, ◌+◌, ◌*◌}
 use Rattle.markdown_scanners_tree.proofs.line.SpaceLemmas.{IsTakingAt}
 use Rattle.markdown_scanners_tree.proofs.line.LineStart.scan_space_upto.Given as goal
 
@@ -12,6 +12,7 @@ invariant-loop-left l =
       text : now.bytes.now ≡ entry.bytes;
       none_before : now.breaks.none_before ≡ old.breaks.none_before;
       behind_break : now.breaks.behind_break ≡ old.breaks.behind_break;
+      bound : now.column ≤ 4 * now.place + 3;
       taking : IsTakingAt entry.bytes entry.place entry.phase (entry.pending - l.from_pending)
           (l.n - l.from_pending) now.place now.column now.pending l.left;
     }

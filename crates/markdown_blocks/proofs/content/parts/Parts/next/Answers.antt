@@ -1,10 +1,21 @@
 use Rattle.std.proofs.Common.{◌≡◌, ◌-◌, ◌∷◌, ◌++◌, take, drop, sym, ap, ◌∙◌}
 use Rattle.markdown_scanners_tree.specs.scanners.TextLines.{lines_of}
 use Rattle.markdown_blocks.specs.content.Left.{first_parts}
-use Rattle.markdown_blocks.specs.content.Parts.{later_parts, later_place, moved, part_at, text_place}
+use Rattle.markdown_blocks.specs.content.Parts.{later_parts, later_place, part_at, text_place}
 use Rattle.markdown_blocks.specs.content.Seen.{seen_part}
+use Rattle.markdown_blocks.proofs.content.parts.FirstLemmas.{absent_in}
 use Rattle.markdown_blocks.proofs.content.parts.NextLemmas.{in_lines, next_part}
 use Rattle.markdown_blocks.proofs.content.parts.Parts.next.Goals as goal
+
+pub invariant_of-self-2 : goal.invariant_of-self-2
+invariant_of-self-2 c =
+    let lines = c.args.self.now.lines.now in
+    let p = c.text_part-part in
+    record {
+      first_in = absent_in lines c.args.self.now.first c.in_default.is;
+      ending_in = (c.written.ensures.inside lines (in_lines lines c.args.self.now.read c.in_ok-line.more c.in_ok-line.line.now c.in_ok-line.ensures.line
+          p.result.columns p.result.filler p.result.place p.result.bytes.now p.ensures.inside p.ensures.bytes)).1;
+    }
 
 pub returns-clause-some : goal.returns-clause-some
 returns-clause-some c =
@@ -15,14 +26,19 @@ returns-clause-some c =
     let part = seen_part c.text_part-part.result in
     let is : part ≡ part_at (text_place k s.cut.indent (later_place k outer c.in_ok-line.line.now)) =
     c.text_part-part.ensures.part ∙ ap (λ p. part_at (text_place k s.cut.indent p)) c.later_place-place.ensures.place in
-    let here = next_part s.lines.now s.read c.in_ok-line.more c.in_ok-line.line.now n k outer s.cut.indent s.count part c.if-self.false is in
-    ap (λ f. first_parts f ++ later_parts k outer s.cut.indent s.read.bytes
-    (take (s.count - s.read.lines) (lines_of (drop s.read.bytes s.lines.now)))) c.in_default.is
-    ∙ here
-    ∙ ap (λ f. moved s.read.bytes part ∷ (first_parts f ++ later_parts k outer s.cut.indent c.in_ok-line.more.bytes
-    (take (s.count - c.in_ok-line.more.lines) (lines_of (drop c.in_ok-line.more.bytes s.lines.now))))) (sym c.in_default.is)
+    let next = next_part s.lines.now s.read c.in_ok-line.more c.in_ok-line.line.now n k outer s.cut.indent s.count part c.if-self.false is in
+    let left = later_parts k outer s.cut.indent s.read.bytes (take (s.count - s.read.lines) (lines_of (drop s.read.bytes s.lines.now))) in
+    let rest = later_parts k outer s.cut.indent c.in_ok-line.more.bytes
+    (take (s.count - c.in_ok-line.more.lines) (lines_of (drop c.in_ok-line.more.bytes s.lines.now))) in
+    ap (λ f. first_parts f ++ (first_parts s.ending ++ left)) c.in_default.is
+    ∙ ap (λ f. first_parts f ++ left) c.in_default-ending.is
+    ∙ next
+    ∙ ap (λ ps. ps ++ rest) (sym c.written.ensures.parts)
+    ∙ ap (λ f. seen_part c.written.result.0 ∷ (first_parts f ++ (first_parts c.written.result.1 ++ rest))) (sym c.in_default.is)
 
 pub returns-clause-inside : goal.returns-clause-inside
 returns-clause-inside c =
-    in_lines c.args.self.now.lines.now c.args.self.now.read c.in_ok-line.more c.in_ok-line.line.now c.in_ok-line.ensures.line c.text_part-part.result.columns
-    c.text_part-part.result.place c.text_part-part.result.bytes.now c.text_part-part.ensures.inside c.text_part-part.ensures.bytes
+    let lines = c.args.self.now.lines.now in
+    let p = c.text_part-part in
+    (c.written.ensures.inside lines (in_lines lines c.args.self.now.read c.in_ok-line.more c.in_ok-line.line.now c.in_ok-line.ensures.line
+    p.result.columns p.result.filler p.result.place p.result.bytes.now p.ensures.inside p.ensures.bytes)).0

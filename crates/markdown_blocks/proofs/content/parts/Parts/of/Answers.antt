@@ -1,13 +1,16 @@
-use Rattle.std.proofs.Common.{◌-◌, take, drop}
+use Rattle.std.proofs.Common.{◌-◌, ◌∷◌, take, drop, ap, ◌∙◌}
 use Rattle.markdown_scanners_tree.specs.scanners.TextLines.{lines_of}
+use Rattle.markdown_blocks.specs.content.Left.{first_parts}
+use Rattle.markdown_blocks.specs.content.Parts.{written}
 use Rattle.markdown_blocks.specs.content.Seen.{seen_part}
-use Rattle.markdown_blocks.proofs.content.parts.FirstLemmas.{by_first, fenced_at, heading_at, lifted, part_in, some_in, text_parts}
+use Rattle.markdown_blocks.proofs.content.parts.FirstLemmas.{by_first, fenced_at, heading_at, lifted, none_in, part_in, some_in, text_parts}
 use Rattle.markdown_blocks.proofs.content.parts.Parts.of.Goals as goal
 
 pub invariant_of-result : goal.invariant_of-result
 invariant_of-result c = record {
   first_in = some_in c.args.lines.now c.heading_part.result (lifted c.args.lines.now c.in-Some.line.now c.nothing.result c.in-Some.read c.nothing.ensures
       c.in-Some.ensures.line (seen_part c.heading_part.result) c.heading_part.ensures.inside);
+  ending_in = none_in c.args.lines.now;
 }
 
 pub returns-in-Heading-clause-parts : goal.returns-in-Heading-clause-parts
@@ -26,10 +29,14 @@ returns-in-Fenced-clause-parts c =
     (lines_of (drop c.in-Some.read.bytes c.args.lines.now))) c.in-Fenced.is c.scan_space_upto-indent.ensures.answer c.count_inner.ensures)
 
 pub invariant_of-result-2 : goal.invariant_of-result-2
-invariant_of-result-2 c = record {
-  first_in = some_in c.args.lines.now c.text_part.result (part_in c.args.lines.now c.in-Some.line.now c.nothing.result c.in-Some.read c.nothing.ensures
-      c.in-Some.ensures.line (seen_part c.text_part.result) c.text_part.ensures.inside c.text_part.ensures.bytes);
-}
+invariant_of-result-2 c =
+    let lines = c.args.lines.now in
+    let inside = c.written.ensures.inside lines (part_in lines c.in-Some.line.now c.nothing.result c.in-Some.read c.nothing.ensures c.in-Some.ensures.line
+    (seen_part c.text_part.result) c.text_part.ensures.inside c.text_part.ensures.bytes) in
+    record {
+      first_in = some_in lines c.written.result.0 inside.0;
+      ending_in = inside.1;
+    }
 
 pub returns-clause-parts : goal.returns-clause-parts
 returns-clause-parts c =
@@ -38,5 +45,5 @@ returns-clause-parts c =
     c.args.outer.now.containers c.args.kept c.first_place-start.result _ (rw c.containers.ensures at c.first_place-start.ensures.place)
     (text_parts c.args.kind c.args.outer.now.containers c.first_place-start.result c.in-Some.read.bytes
     (lines_of (drop c.in-Some.read.bytes c.args.lines.now)) (take (c.count_inner-2.result - c.in-Some.read.lines)
-    (lines_of (drop c.in-Some.read.bytes c.args.lines.now))) (seen_part c.text_part.result) k.not-Blank k.not-Break k.not-Heading k.not-Fenced k.not-Table
-    c.count_inner-2.ensures c.text_part.ensures.part)
+    (lines_of (drop c.in-Some.read.bytes c.args.lines.now))) (seen_part c.written.result.0 ∷ first_parts c.written.result.1) k.not-Blank k.not-Break
+    k.not-Heading k.not-Fenced k.not-Table c.count_inner-2.ensures (c.written.ensures.parts ∙ ap (written c.args.kind) c.text_part.ensures.part))
