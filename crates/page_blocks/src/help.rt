@@ -2,17 +2,17 @@
 
 /// What is written on standard error after the name of an option that is not known.
 pub const USAGE: &str = "
-usage: cmark_blocks [--json] [--footnotes] [--definition-lists] [--] [FILE ..]
-       cmark_blocks -h | --help | --version
+usage: fillaqut blocks [--json] [--footnotes] [--definition-lists] [--] [FILE ..]
+       fillaqut blocks -h | --help | --version
 ";
 
 /// What `--version` prints.
-pub const VERSION: &str = "cmark_blocks 0.1.0\n";
+pub const VERSION: &str = "fillaqut 0.1.0\n";
 
 /// What `--help` prints.
 pub const HELP: &str = "\
-usage: cmark_blocks [--json] [--footnotes] [--definition-lists] [--] [FILE ..]
-       cmark_blocks -h | --help | --version
+usage: fillaqut blocks [--json] [--footnotes] [--definition-lists] [--] [FILE ..]
+       fillaqut blocks -h | --help | --version
 
 Prints a line for each block of a page of Markdown: the number of its first line, the number of
 its last line, how many containers it is in, and its kind. Before it comes a line for each
@@ -70,11 +70,9 @@ and of the lines that are indented as that is. Further definitions of the term m
 
 Together the blocks contain every line of the page.
 
-Some pages are not read as CommonMark and GitHub Flavored Markdown read them:
-
-  - A header row that follows other lines of its paragraph doesn't begin a table.
-  - A table's delimiter row needs a pipe: \"a\" and then \":-\" is not a table.
-  - Vertical tabs and form feeds count as white space.
+A table may begin with a later line of a paragraph, which then ends before it: with a header row that
+stands in the containers of the paragraph, after at most three columns of space, and that would begin
+a paragraph without the lines before it.
 
 Lines are printed while a page is read. Where a page can't be read, memory is refused or the output
 can't be written, the program stops and says why on standard error, unless the reader of the output

@@ -1,6 +1,7 @@
-//! What `cmark_blocks` prints of the blocks of a page of Markdown.
+//! What `fillaqut blocks` prints of the blocks of a page of Markdown.
 #![tactic(auto)]
 
+mod beginning;
 mod definition;
 pub mod help;
 pub mod info;

@@ -2,15 +2,19 @@
 ghost use Rattle.std.specs.Prelude.{◌≡◌, ◌<◌, ◌≤◌, ◌+◌, ◌-◌, ◌++◌, [], List, ℕ};
 ghost use Rattle.std.specs.Prelude.{length, take, drop, IsTrue, MatchBool, IfOk, IfSome, IfNone, OnOk, string_bytes};
 ghost use Rattle.markdown_scanners_tree.specs.scanners.TextLines.{lines_of};
+ghost use Rattle.markdown_blocks.specs.blocks.Pages.{root};
+ghost use Rattle.markdown_blocks.specs.byte_order_mark.ByteOrderMark.{text_of, text_start};
 ghost use Rattle.markdown_blocks.specs.taken.Whole.{AreWhole};
 ghost use Rattle.page_blocks.specs.page.Going.{HasPrinted, Prints};
-ghost use Rattle.page_blocks.specs.page.Printed.{PrintsPage, the_front};
+ghost use Rattle.page_blocks.specs.page.Beginning.{IsFresh};
+ghost use Rattle.page_blocks.specs.page.Printed.{PrintsPage, front_of};
 ghost use Rattle.page_blocks.specs.printer.Printers.{printed_of};
 
 use crate::printer::Printer;
 use crate::words::Form;
 use markdown_blocks::containers::BlockExtensions;
 use markdown_blocks::events::BlockEvents;
+use markdown_blocks::taken::Taken;
 use markdown_blocks::walk::Walk;
 use markdown_blocks::whole::whole_lines;
 use std::alloc::{AllocError, Global};
@@ -27,10 +31,9 @@ pub(crate) struct Printing {
 impl Printing {
     /// Nothing is printed of a page.
     pub(crate) fn new(alloc: Global, form: Form, extensions: BlockExtensions) -> Printing
-        ensures printed { (page : List ℕ) → HasPrinted page [] result (lines_of page) }
         ensures form { result.printer.form ≡ form }
-        ensures asked { result.walk.extensions ≡ extensions }
-        ensures at { printed_of result.printer ≡ the_front }
+        ensures walk { result.walk ≡ root extensions }
+        ensures at { printed_of result.printer ≡ front_of 0 }
         ensures nothing { string_bytes result.printer.text ≡ [] }
     {
         Printing {
@@ -38,6 +41,21 @@ impl Printing {
             content: Vec::new(alloc),
             printer: Printer::new(alloc, form),
         }
+    }
+
+    /// Begins with the text of the page, before which so many bytes stand.
+    pub(crate) fn begin(&mut self, start: usize)
+        ensures begun { (page written : List ℕ) → start ≡ text_start page
+            → IsFresh written self.old → HasPrinted page written self.new (lines_of (text_of page)) }
+        ensures lines { self.new.printer.at.lines ≡ 0 }
+        ensures bytes { self.new.printer.at.bytes ≡ start }
+        ensures form { self.new.printer.form ≡ self.old.printer.form }
+        ensures asked { self.new.walk ≡ self.old.walk }
+    {
+        self.printer.at = Taken {
+            lines: 0,
+            bytes: start,
+        };
     }
 
     /// Tells the blocks at the front of the text that end there whatever bytes follow it, and all

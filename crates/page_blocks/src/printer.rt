@@ -2,7 +2,7 @@
 ghost use Rattle.std.specs.Prelude.{◌≡◌, ◌++◌, [], OnOk, string_bytes};
 ghost use Rattle.markdown_blocks.specs.events.Events.{seen_event};
 ghost use Rattle.page_blocks.specs.definition.Definition.{shown_of};
-ghost use Rattle.page_blocks.specs.page.Printed.{after, ended_line, event_lines, last_lines, the_front};
+ghost use Rattle.page_blocks.specs.page.Printed.{after, ended_line, event_lines, front_of, last_lines};
 ghost use Rattle.page_blocks.specs.printer.Printers.{HasPrinted, printed_of};
 
 use crate::definition::{Definition, definition_of};
@@ -27,7 +27,7 @@ pub(crate) struct Printer {
 impl Printer {
     /// Before the first event of a page.
     pub(crate) fn new(alloc: Global, form: Form) -> Printer
-        ensures front { printed_of result ≡ the_front }
+        ensures front { printed_of result ≡ front_of 0 }
         ensures form { result.form ≡ form }
         ensures nothing { string_bytes result.text ≡ [] }
     {

@@ -1,8 +1,10 @@
 //! What the program does with its words, its input and its output.
-ghost use Rattle.std.specs.Prelude.{◌≡◌, ◌≢◌, ◌⊎◌, ℕ, List, IfOk, IfSome, IfErr, IsSome, Some, None, codes, length};
+ghost use Rattle.std.specs.Prelude.{◌≡◌, ◌⊎◌, ℕ, List, IfOk, IfSome, IfErr, IsSome, Some, None, codes, length};
 ghost use Rattle.std.specs.Io.KnownBytes.{IsAtEnd, Appends};
-ghost use Rattle.program_faults.specs.Steps.{AreReads, HasEnded, HasFailed, HasRefused, AreGiven};
+ghost use Rattle.program_faults.specs.Faults.{AppendsPrefix};
+ghost use Rattle.program_faults.specs.Steps.{AreGiven, AreReads, CantWrite, HasEnded, HasFailed};
 ghost use Rattle.program_faults.specs.declared.reasons.Reason.{Reason};
+ghost use Rattle.page_programs.specs.Cuts.{PrintsAllOf, PrintsPart};
 ghost use Rattle.page_programs.specs.Runs.{PrintsAll};
 ghost use Rattle.page_programs.specs.Stops.{IfWrite, IsWrite, stop_parts, unknown_parts};
 ghost use Rattle.page_programs.specs.Words.{pages_of, request_of, unknown_of};
@@ -11,8 +13,8 @@ ghost use Rattle.page_programs.specs.declared.words.Request.TheVariants.{Pages, 
 ghost use Rattle.page_blocks.specs.page.Printed.{IsPrintedTo, IsBegunTo, title_of};
 ghost use Rattle.page_blocks.specs.words.Words.{extensions_of, form_of, own_options};
 
+use crate::beginning::PagePrinting;
 use crate::help::{HELP, USAGE, VERSION};
-use crate::page::Printing;
 use crate::printing::make_title;
 use crate::words::{Form, extensions_of, form_of};
 use markdown_blocks::containers::BlockExtensions;
@@ -45,7 +47,7 @@ pub fn run_program<R: StepReader, F: OpensFiles, W: StepWriter, V: StepWriter>(
     ensures only_unknown { result ≡ 2 → IsSome (unknown_of own_options words.now) }
     ensures unknown { IfSome (unknown_of own_options words.now) (λ word. (result ≡ 2)
         × AreGiven V.writes faults.old
-        (unknown_parts (codes "cmark_blocks") word.now USAGE.now) faults.new) }
+        (unknown_parts (codes "fillaqut") word.now USAGE.now) faults.new) }
     ensures untouched { IsSome (unknown_of own_options words.now) →
         (input.new ≡ input.old) × (files.new ≡ files.old) × (output.new ≡ output.old) }
 
@@ -54,6 +56,10 @@ pub fn run_program<R: StepReader, F: OpensFiles, W: StepWriter, V: StepWriter>(
         Appends (W.contents output.old) (W.contents output.new) HELP.now }
     ensures version { result ≡ 0 → request_of words.now ≡ Version →
         Appends (W.contents output.old) (W.contents output.new) VERSION.now }
+    ensures help_front { request_of words.now ≡ Help →
+        AppendsPrefix (W.contents output.old) (W.contents output.new) HELP.now }
+    ensures version_front { request_of words.now ≡ Version →
+        AppendsPrefix (W.contents output.old) (W.contents output.new) VERSION.now }
     ensures unread { (request_of words.now ≡ Help) ⊎ (request_of words.now ≡ Version) →
         (input.new ≡ input.old) × (files.new ≡ files.old) }
 
@@ -70,8 +76,8 @@ pub fn run_program<R: StepReader, F: OpensFiles, W: StepWriter, V: StepWriter>(
     // At status 0 nothing is written to the faults; at 3 the reason is, as far as they take it.
     ensures done { result ≡ 0 → faults.new ≡ faults.old }
     ensures stopped { result ≡ 3 → (name : List ℕ) × (stop : Stop)
-        × AreGiven V.writes faults.old (stop_parts (codes "cmark_blocks") name stop) faults.new
-        × IfWrite stop (λ why. why ≢ Reason.Interrupted → HasRefused W.writes why output.new)
+        × AreGiven V.writes faults.old (stop_parts (codes "fillaqut") name stop) faults.new
+        × IfWrite stop (λ why. CantWrite W.writes why output.new)
         × ((request_of words.now ≡ Help) ⊎ (request_of words.now ≡ Version) → IsWrite stop)
         × (request_of words.now ≡ Pages →
         PrintsAll (title_of (form_of words.now) (length (pages_of words.now)))
@@ -83,7 +89,7 @@ pub fn run_program<R: StepReader, F: OpensFiles, W: StepWriter, V: StepWriter>(
         input.new files.new (W.contents output.new) (Some (name, stop))) }
 {
     let says = Says {
-        name: "cmark_blocks",
+        name: "fillaqut",
         usage: USAGE,
         help: HELP,
         version: VERSION,
@@ -145,31 +151,34 @@ fn print_page<R: StepReader, W: StepWriter>(
     input: &mut R,
     output: &mut W,
 ) -> Result<(), Stop>
-    ensures printed { IfOk result (λ _. IfSome (R.remaining input.old) (λ bytes.
-        IsPrintedTo extensions form title.now bytes (W.contents output.old)
-        (W.contents output.new))) }
+    ensures printed { IfOk result (λ _. PrintsAllOf (IsPrintedTo extensions form title.now)
+        (R.remaining input.old) (W.contents output.old) (W.contents output.new)) }
     ensures read { IfOk result (λ _. IsAtEnd (R.remaining input.new)) }
     ensures ended { IfOk result (λ _. HasEnded R.reads input.new) }
     ensures begun { IfErr result (λ stop. ¬ IsWrite stop →
         IsBegunTo extensions form title.now (R.remaining input.old) (R.remaining input.new)
         (W.contents output.old) (W.contents output.new)) }
+    ensures cut { IfErr result (λ stop. IsWrite stop →
+        PrintsPart (IsPrintedTo extensions form title.now) (IsBegunTo extensions form title.now)
+        (R.remaining input.old) (R.remaining input.new)
+        (W.contents output.old) (W.contents output.new)) }
     ensures reads { (count : ℕ) × AreReads R.reads count input.old input.new }
     ensures failed { IfErr result (λ stop. (why : Reason) → stop ≡ Stop.Read why →
         HasFailed R.reads why input.new ⊎ AreReads R.reads 281474976710655 input.old input.new) }
     ensures refused { IfErr result (λ stop.
-        IfWrite stop (λ why. why ≢ Reason.Interrupted → HasRefused W.writes why output.new)) }
+        IfWrite stop (λ why. CantWrite W.writes why output.new)) }
 {
     write_text(output, title)?;
     let mut unread = Unread::new(alloc);
-    let mut printing = Printing::new(alloc, form, extensions);
+    let mut printing = PagePrinting::new(alloc, form, extensions);
     loop {
         let has_ended = unread.read_more(input)?;
         let count = printing.print(alloc, &unread.text, has_ended)?;
-        write_text(output, printing.printer.text.as_str())?;
+        write_text(output, printing.text.printer.text.as_str())?;
         if has_ended {
             return Ok(());
         }
-        printing.printer.text.clear();
+        printing.text.printer.text.clear();
         unread.drop_front(count);
     }
 }

@@ -2,17 +2,17 @@
 
 /// What is written on standard error after the name of an option that is not known.
 pub const USAGE: &str = "
-usage: cmark_events [--tables] [--strikethrough] [--wikilinks] [--tasks] [--] [FILE ..]
-       cmark_events -h | --help | --version
+usage: fillaqut events [--tables] [--strikethrough] [--wikilinks] [--tasks] [--] [FILE ..]
+       fillaqut events -h | --help | --version
 ";
 
 /// What `--version` prints.
-pub const VERSION: &str = "cmark_events 0.1.0\n";
+pub const VERSION: &str = "fillaqut 0.1.0\n";
 
 /// What `--help` prints.
 pub const HELP: &str = "\
-usage: cmark_events [--tables] [--strikethrough] [--wikilinks] [--tasks] [--] [FILE ..]
-       cmark_events -h | --help | --version
+usage: fillaqut events [--tables] [--strikethrough] [--wikilinks] [--tasks] [--] [FILE ..]
+       fillaqut events -h | --help | --version
 
 Prints a line for each event of a page of Markdown, in order: how many bytes of the page stand
 before its source, how many before what follows that, and what it is. An element has two events, its

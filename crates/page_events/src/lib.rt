@@ -1,4 +1,4 @@
-//! What `cmark_events` prints of the events of a page of Markdown.
+//! What `fillaqut events` prints of the events of a page of Markdown.
 #![tactic(auto)]
 
 pub mod elements;

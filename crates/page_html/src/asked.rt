@@ -11,7 +11,7 @@ use page_programs::words::has_option;
 pub enum Form {
     /// Its HTML.
     Html,
-    /// Its events, as `cmark_events` prints them.
+    /// Its events, as `fillaqut events` prints them.
     Events,
     /// Its events as JSON objects, one a line.
     Json,

@@ -2,17 +2,17 @@
 
 /// What is written on standard error after the name of an option that is not known.
 pub const USAGE: &str = "
-usage: cmark_html [--safe] [--to html|events|json] [-e NAME].. [--gfm] [--] [FILE ..]
-       cmark_html -h | --help | --version
+usage: fillaqut html [--safe] [--to html|events|json] [-e NAME].. [--gfm] [--] [FILE ..]
+       fillaqut html -h | --help | --version
 ";
 
 /// What `--version` prints.
-pub const VERSION: &str = "cmark_html 0.1.0\n";
+pub const VERSION: &str = "fillaqut 0.1.0\n";
 
 /// What `--help` prints.
 pub const HELP: &str = "\
-usage: cmark_html [--safe] [--to html|events|json] [-e NAME].. [--gfm] [--] [FILE ..]
-       cmark_html -h | --help | --version
+usage: fillaqut html [--safe] [--to html|events|json] [-e NAME].. [--gfm] [--] [FILE ..]
+       fillaqut html -h | --help | --version
 
 Prints the HTML of a page of Markdown, by CommonMark 0.31.2 and as its examples write it.
 
@@ -20,7 +20,7 @@ Prints the HTML of a page of Markdown, by CommonMark 0.31.2 and as its examples 
                    images lead to addresses of http, https, mailto and tel, and to relative ones,
                    and any other address is left out; links say rel=\"nofollow noopener\"
   --to html        prints HTML, as where nothing is asked for
-  --to events      prints the events of the page in place of HTML, as cmark_events does
+  --to events      prints the events of the page in place of HTML, as fillaqut events does
   --to json        prints them as JSON, an object a line
   -e NAME          reads the page with an extension, which is one of
 
@@ -37,7 +37,7 @@ the page stand before its source; and end, how many before what follows that. Af
 
   text             of a text, code or HTML
   checked          of a task: true or false
-  element          of a start and an end: the element, as the help of cmark_events names it
+  element          of a start and an end: the element, as the help of fillaqut events names it
   level            of both of a heading
   first            of the start of an ordered list: the number of its first item
   info             of the start of a fenced code block: the info string

@@ -1,4 +1,4 @@
-//! What `cmark_html` prints: the HTML of pages of Markdown.
+//! What `fillaqut html` prints: the HTML of pages of Markdown.
 #![tactic(auto)]
 
 pub mod asked;

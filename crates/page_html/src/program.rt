@@ -1,8 +1,8 @@
 //! What the program does with its words, its input and its output.
-ghost use Rattle.std.specs.Prelude.{◌≡◌, ◌≢◌, ◌⊎◌, ℕ, List, IfSome, IsSome, Some, None, codes};
+ghost use Rattle.std.specs.Prelude.{◌≡◌, ◌⊎◌, true, ℕ, List, IfSome, IsSome, Some, None, codes};
 ghost use Rattle.std.specs.Io.KnownBytes.{Appends};
-ghost use Rattle.program_faults.specs.Steps.{HasRefused, AreGiven};
-ghost use Rattle.program_faults.specs.declared.reasons.Reason.{Reason};
+ghost use Rattle.program_faults.specs.Faults.{AppendsPrefix};
+ghost use Rattle.program_faults.specs.Steps.{AreGiven, CantWrite};
 ghost use Rattle.page_programs.specs.Runs.{PrintsAll};
 ghost use Rattle.page_programs.specs.Stops.{IfWrite, IsWrite, stop_parts, unknown_parts};
 ghost use Rattle.page_programs.specs.Words.{pages_of, request_of, unknown_of};
@@ -10,7 +10,8 @@ ghost use Rattle.page_programs.specs.declared.stops.Stop.{Stop};
 ghost use Rattle.page_programs.specs.declared.words.Request.TheVariants.{Pages, Help, Version};
 ghost use Rattle.page_events.specs.page.Printed.{is_unwritten, no_title};
 ghost use Rattle.page_html.specs.asked.Asked.{asked_of, own_options};
-ghost use Rattle.page_html.specs.page.Printed.{IsPrintedTo};
+ghost use Rattle.page_html.specs.declared.asked.Form.TheVariants.{Html};
+ghost use Rattle.page_html.specs.page.Printed.{IsPrintedTo, PrintsSafely};
 
 use crate::asked::{Asked, asked_of};
 use crate::help::{HELP, USAGE, VERSION};
@@ -20,7 +21,7 @@ use page_programs::program;
 use page_programs::says::Says;
 use page_programs::stops::Stop;
 use page_programs::whole::{PrintsWholePages, Whole};
-use program_faults::{Reason, StepReader, StepWriter};
+use program_faults::{StepReader, StepWriter};
 use std::alloc::{AllocError, Global};
 
 /// Runs the program on its words, without its name and as `join_values` gives them, and answers its
@@ -43,7 +44,7 @@ pub fn run_program<R: StepReader, F: OpensFiles, W: StepWriter, V: StepWriter>(
     ensures only_unknown { result ≡ 2 → IsSome (unknown_of own_options words.now) }
     ensures unknown { IfSome (unknown_of own_options words.now) (λ word. (result ≡ 2)
         × AreGiven V.writes faults.old
-        (unknown_parts (codes "cmark_html") word.now USAGE.now) faults.new) }
+        (unknown_parts (codes "fillaqut") word.now USAGE.now) faults.new) }
     ensures untouched { IsSome (unknown_of own_options words.now) →
         (input.new ≡ input.old) × (files.new ≡ files.old) × (output.new ≡ output.old) }
 
@@ -52,6 +53,10 @@ pub fn run_program<R: StepReader, F: OpensFiles, W: StepWriter, V: StepWriter>(
         Appends (W.contents output.old) (W.contents output.new) HELP.now }
     ensures version { result ≡ 0 → request_of words.now ≡ Version →
         Appends (W.contents output.old) (W.contents output.new) VERSION.now }
+    ensures help_front { request_of words.now ≡ Help →
+        AppendsPrefix (W.contents output.old) (W.contents output.new) HELP.now }
+    ensures version_front { request_of words.now ≡ Version →
+        AppendsPrefix (W.contents output.old) (W.contents output.new) VERSION.now }
     ensures unread { (request_of words.now ≡ Help) ⊎ (request_of words.now ≡ Version) →
         (input.new ≡ input.old) × (files.new ≡ files.old) }
 
@@ -63,11 +68,16 @@ pub fn run_program<R: StepReader, F: OpensFiles, W: StepWriter, V: StepWriter>(
         input.old files.old (W.contents output.old)
         input.new files.new (W.contents output.new) None }
 
+    // Where safe HTML is asked for nothing else is written, at any status.
+    ensures safe { request_of words.now ≡ Pages → (asked_of words.now).form ≡ Html →
+        (asked_of words.now).safe ≡ true →
+        PrintsSafely (W.contents output.old) (W.contents output.new) }
+
     // At status 0 nothing is written to the faults; at 3 the reason is, as far as they take it.
     ensures done { result ≡ 0 → faults.new ≡ faults.old }
     ensures stopped { result ≡ 3 → (name : List ℕ) × (stop : Stop)
-        × AreGiven V.writes faults.old (stop_parts (codes "cmark_html") name stop) faults.new
-        × IfWrite stop (λ why. why ≢ Reason.Interrupted → HasRefused W.writes why output.new)
+        × AreGiven V.writes faults.old (stop_parts (codes "fillaqut") name stop) faults.new
+        × IfWrite stop (λ why. CantWrite W.writes why output.new)
         × ((request_of words.now ≡ Help) ⊎ (request_of words.now ≡ Version) → IsWrite stop)
         × (request_of words.now ≡ Pages →
         PrintsAll no_title (IsPrintedTo (asked_of words.now)) is_unwritten
@@ -77,7 +87,7 @@ pub fn run_program<R: StepReader, F: OpensFiles, W: StepWriter, V: StepWriter>(
         input.new files.new (W.contents output.new) (Some (name, stop))) }
 {
     let says = Says {
-        name: "cmark_html",
+        name: "fillaqut",
         usage: USAGE,
         help: HELP,
         version: VERSION,

@@ -2,17 +2,17 @@
 
 /// What is written on standard error after the name of an option that is not known.
 pub const USAGE: &str =
-    "\nusage: cmark_inlines [--] [FILE ..]\n       cmark_inlines -h | --help | --version\n";
+    "\nusage: fillaqut inlines [--] [FILE ..]\n       fillaqut inlines -h | --help | --version\n";
 
 /// What `--version` prints.
-pub const VERSION: &str = "cmark_inlines 0.1.0\n";
+pub const VERSION: &str = "fillaqut 0.1.0\n";
 
 /// What `--help` prints.
 pub const HELP: &str = "\
-usage: cmark_inlines [--] [FILE ..]
-       cmark_inlines -h | --help | --version
+usage: fillaqut inlines [--] [FILE ..]
+       fillaqut inlines -h | --help | --version
 
-Prints a line for each heading and paragraph of a page of Markdown, as cmark_blocks does: the
+Prints a line for each heading and paragraph of a page of Markdown, as fillaqut blocks does: the
 number of its first line, the number of its last line, how many containers it is in, and its kind.
 After it comes a line for each of its inlines, in order, with two spaces before it: how many bytes
 of the page stand before it, how many before what follows it, what it is, and its source in

@@ -1,4 +1,4 @@
-//! What `cmark_inlines` prints of the inlines of a page of Markdown.
+//! What `fillaqut inlines` prints of the inlines of a page of Markdown.
 #![tactic(auto)]
 
 mod blocks;

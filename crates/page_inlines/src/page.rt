@@ -4,6 +4,7 @@ ghost use Rattle.page_inlines.specs.page.Printed.{IsPrinted};
 
 use crate::blocks::{Output, Page};
 use crate::labels::PageLabels;
+use markdown_blocks::byte_order_mark::text_start;
 use markdown_blocks::events::BlockEvents;
 use markdown_blocks::taken::Taken;
 use markdown_blocks::walk::Walk;
@@ -32,7 +33,7 @@ pub fn lines_of_page(alloc: Global, page: &[u8]) -> Result<String, AllocError>
     let mut walk = Walk::new(alloc);
     let mut content = Vec::new(alloc);
     let mut lines = 0;
-    let mut bytes = 0;
+    let mut bytes = text_start(page);
     loop {
         let before = Taken { lines, bytes };
         let depth = walk.containers().len();

@@ -4,8 +4,6 @@ mod DefinitionLemmas
 mod LabelSetLemmas
 mod LawLemmas
 mod LinkLemmas
-mod OffsetLemmas
-mod PositionLemmas
 mod TargetLemmas
 mod TextLemmas
 mod WordLemmas

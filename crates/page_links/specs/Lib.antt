@@ -7,7 +7,6 @@ pub mod label_set
 pub mod labels
 pub mod links
 pub mod page
-pub mod positions
 pub mod printing
 pub mod reports
 pub mod targets

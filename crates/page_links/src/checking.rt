@@ -1,8 +1,10 @@
 //! Checking the pages that the words name.
-ghost use Rattle.std.specs.Prelude.{◌≡◌, ◌≢◌, ◌⊎◌, ◌++◌, ◌||◌, [], ℕ, List, IfErr, IfOk, IfSome, None, Some};
+ghost use Rattle.std.specs.Prelude.{◌≡◌, ◌⊎◌, ◌++◌, ◌||◌, [], ℕ, List, IfErr, IfOk, None, Some};
 ghost use Rattle.std.specs.Io.KnownBytes.{Appends, IsAtEnd};
-ghost use Rattle.program_faults.specs.Steps.{AreReads, HasEnded, HasFailed, HasRefused};
+ghost use Rattle.program_faults.specs.Faults.{AppendsPrefix};
+ghost use Rattle.program_faults.specs.Steps.{AreReads, CantWrite, HasEnded, HasFailed};
 ghost use Rattle.program_faults.specs.declared.reasons.Reason.{Reason};
+ghost use Rattle.page_programs.specs.Cuts.{IsAllOf};
 ghost use Rattle.page_programs.specs.Stops.{IfWrite, IsWrite};
 ghost use Rattle.page_programs.specs.Words.{pages_of, texts};
 ghost use Rattle.page_programs.specs.declared.stops.Stop.{Stop};
@@ -49,9 +51,9 @@ pub(crate) fn check_operands<'a, L: FindsFiles, R: StepReader, F: OpensFiles, W:
         × ChecksAll (L.finds checks.now.finder.now) checks.now.form checks.now.setting
         R.remaining R.reads F.opens F.File.remaining F.File.reads (pages_of words.now)
         input.old files.old [] input.new files.new text (Some (end.0.now, end.1))
-        × (¬ IsWrite end.1 → Appends (W.contents output.old) (W.contents output.new) text)) }
+        × Appends (W.contents output.old) (W.contents output.new) text) }
     ensures refused { IfErr result (λ stop.
-        IfWrite stop.1 (λ why. why ≢ Reason.Interrupted → HasRefused W.writes why output.new)) }
+        IfWrite stop.1 (λ why. CantWrite W.writes why output.new)) }
 {
     let names = match name_pages(alloc, words) {
         Ok(names) => names,
@@ -79,9 +81,9 @@ fn check_pages<'a, L: FindsFiles, R: StepReader, F: OpensFiles, W: StepWriter>(
         × ChecksAll (L.finds checks.now.finder.now) checks.now.form checks.now.setting
         R.remaining R.reads F.opens F.File.remaining F.File.reads (texts names.now)
         input.old files.old [] input.new files.new text (Some (end.0.now, end.1))
-        × (¬ IsWrite end.1 → Appends (W.contents output.old) (W.contents output.new) text)) }
+        × Appends (W.contents output.old) (W.contents output.new) text) }
     ensures refused { IfErr result (λ stop.
-        IfWrite stop.1 (λ why. why ≢ Reason.Interrupted → HasRefused W.writes why output.new)) }
+        IfWrite stop.1 (λ why. CantWrite W.writes why output.new)) }
 {
     let mut found = false;
     for name in names {
@@ -115,13 +117,13 @@ fn check_named<L: FindsFiles, R: StepReader, F: OpensFiles, W: StepWriter>(
         input.old files.old before input.new files.new (before ++ text) None)
         × (found ≡ is_reported text)
         × Appends (W.contents output.old) (W.contents output.new) text) }
-    ensures stopped { IfErr result (λ stop. ((before : List ℕ) →
+    ensures stopped { IfErr result (λ stop. (text : List ℕ) × ((before : List ℕ) →
         ChecksNamed (L.finds checks.now.finder.now) checks.now.form checks.now.setting
         R.remaining R.reads F.opens F.File.remaining F.File.reads name.now
-        input.old files.old before input.new files.new before (Some stop))
-        × (¬ IsWrite stop → output.new ≡ output.old)) }
+        input.old files.old before input.new files.new (before ++ text) (Some stop))
+        × Appends (W.contents output.old) (W.contents output.new) text) }
     ensures refused { IfErr result (λ stop.
-        IfWrite stop (λ why. why ≢ Reason.Interrupted → HasRefused W.writes why output.new)) }
+        IfWrite stop (λ why. CantWrite W.writes why output.new)) }
 {
     if name == "-" {
         return check_page(alloc, checks, name, input, output);
@@ -141,20 +143,26 @@ fn check_page<L: FindsFiles, R: StepReader, W: StepWriter>(
     input: &mut R,
     output: &mut W,
 ) -> Result<bool, Stop>
-    ensures printed { IfOk result (λ found. (text : List ℕ)
-        × IfSome (R.remaining input.old) (λ page. IsCheck (L.finds checks.now.finder.now)
-        checks.now.form checks.now.setting name.now page text)
+    ensures printed { IfOk result (λ found. (page : List ℕ) × (text : List ℕ)
+        × IsAllOf (R.remaining input.old) page
+        × IsCheck (L.finds checks.now.finder.now) checks.now.form checks.now.setting name.now
+        page text
         × (found ≡ is_reported text)
         × Appends (W.contents output.old) (W.contents output.new) text) }
     ensures read { IfOk result (λ _. IsAtEnd (R.remaining input.new)) }
     ensures ended { IfOk result (λ _. HasEnded R.reads input.new) }
     ensures unwritten { IfErr result (λ stop. ¬ IsWrite stop → output.new ≡ output.old) }
+    ensures cut { IfErr result (λ stop. IsWrite stop → (page : List ℕ) × (text : List ℕ)
+        × IsAllOf (R.remaining input.old) page
+        × IsCheck (L.finds checks.now.finder.now) checks.now.form checks.now.setting name.now
+        page text
+        × AppendsPrefix (W.contents output.old) (W.contents output.new) text) }
     ensures reads { (count : ℕ) × AreReads R.reads count input.old input.new }
     ensures failed { IfErr result (λ stop. (why : Reason) → stop ≡ Stop.Read why →
         HasFailed R.reads why input.new
         ⊎ AreReads R.reads 281474976710655 input.old input.new) }
     ensures refused { IfErr result (λ stop.
-        IfWrite stop (λ why. why ≢ Reason.Interrupted → HasRefused W.writes why output.new)) }
+        IfWrite stop (λ why. CantWrite W.writes why output.new)) }
 {
     let page = read_page(alloc, input)?;
     let text = check_of_page(

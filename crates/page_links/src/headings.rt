@@ -11,7 +11,8 @@ use std::ops::Range;
 use ucd_category::{GeneralCategory, GeneralCategoryGroup};
 
 /// What the headings of a page make of their texts, in order: the text in lower case, in which each
-/// space is a hyphen, and of which else letters, marks, digits, hyphens and underscores are kept.
+/// space is a hyphen, and of which else alphabetic characters, marks, digits, hyphens and underscores
+/// are kept.
 /// The text of an image is left out.
 ///
 /// # Errors
@@ -124,22 +125,19 @@ fn push_kept(slug: &mut String, c: char) -> Result<(), AllocError>
     Ok(())
 }
 
-// Whether it is a letter, a mark, a digit, or an underscore or its like.
+// Whether it is alphabetic, a mark, a digit, or an underscore or its like.
 fn is_word(c: char) -> bool
     ensures { result ≡ is_word c }
 {
-    is_word_category(GeneralCategory::for_char(c))
+    c.is_alphabetic() || is_word_category(GeneralCategory::for_char(c))
 }
 
-// Whether characters of a category are.
+// Whether characters of a category are marks, digits, or underscores and their like.
 fn is_word_category(category: GeneralCategory) -> bool
     ensures { result ≡ is_word_category category }
 {
     match category {
         GeneralCategory::DecimalNumber | GeneralCategory::ConnectorPunctuation => true,
-        _ => {
-            GeneralCategoryGroup::Letter.contains(category)
-                || GeneralCategoryGroup::Mark.contains(category)
-        }
+        _ => GeneralCategoryGroup::Mark.contains(category),
     }
 }

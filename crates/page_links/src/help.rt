@@ -2,17 +2,17 @@
 
 /// What is written on standard error after the name of an option that is not known.
 pub const USAGE: &str = "
-usage: cmark_links [--json] [--check] [--gfm] [--wikilinks] [--] [FILE ..]
-       cmark_links -h | --help | --version
+usage: fillaqut links [--json] [--check] [--gfm] [--wikilinks] [--] [FILE ..]
+       fillaqut links -h | --help | --version
 ";
 
 /// What `--version` prints.
-pub const VERSION: &str = "cmark_links 0.1.0\n";
+pub const VERSION: &str = "fillaqut 0.1.0\n";
 
 /// What `--help` prints.
 pub const HELP: &str = "\
-usage: cmark_links [--json] [--check] [--gfm] [--wikilinks] [--] [FILE ..]
-       cmark_links -h | --help | --version
+usage: fillaqut links [--json] [--check] [--gfm] [--wikilinks] [--] [FILE ..]
+       fillaqut links -h | --help | --version
 
 Prints a line for each link, image and autolink of a page of Markdown, in order:
 
@@ -20,7 +20,7 @@ Prints a line for each link, image and autolink of a page of Markdown, in order:
   FILE:LINE:COLUMN: image HOW \"DESTINATION\" \"TITLE\" \"LABEL\"
 
 FILE is as it stands on the command line. LINE and COLUMN are where it begins, both counted from 1:
-a column is a byte, as for most compilers. HOW is one of
+a column is a byte, as for most compilers, and a byte order mark has none. HOW is one of
 
   inline           the destination stands beside the text
   reference        the text and a label; the definition of that label has the destination
@@ -45,7 +45,9 @@ definitions:
   FILE:LINE:COLUMN: label not used \"LABEL\"         no link uses it
 
 Of labels that have no definition only [text][LABEL] and [LABEL][] are printed, as they would be
-links if all labels were defined: [LABEL] alone is ordinary text in most pages.
+links if all labels were defined: [LABEL] alone is ordinary text in most pages. Nothing is printed
+of a label that begins with ^, which is that of a footnote on GitHub, nor of a definition of the
+label //, which is a comment.
 
   --json           prints each line as a JSON object: file, line and column; of a link start and
                    end, the bytes of the page before it and before what follows it, element, which
@@ -53,8 +55,9 @@ links if all labels were defined: [LABEL] alone is ordinary text in most pages.
                    fault and text; of a page that is not UTF-8 file and error
   --check          prints only what is wrong, and no links: the labels, and then the links that lead
                    nowhere, as no such file \"DESTINATION\" where that is relative and its file is not
-                   there, and as no such heading \"DESTINATION\" where that is a #FRAGMENT alone that
-                   no heading of the page makes
+                   there, as permission denied \"DESTINATION\" where a folder on the way to it may not
+                   be searched, and as no such heading \"DESTINATION\" where that is a #FRAGMENT alone
+                   that no heading of the page makes, and not #top, the front of the page
   --gfm            reads pages with the tables, strikethrough and task list items of GitHub Flavored
                    Markdown
   --wikilinks      reads wikilinks
@@ -63,8 +66,8 @@ A relative destination leads from the folder of its page, without its query and 
 its percent-encoded bytes decoded. Destinations with a scheme or a slash at the front, autolinks and
 wikilinks are not looked for, and the network is never asked. A heading makes the fragment that it
 makes on GitHub: its text, without that of images, in lower case, each space a hyphen, and no other
-characters but letters, marks, digits, hyphens and underscores; one that was made before has -1
-after it, then -2, and so on. Anchors of raw HTML are not read.
+characters but alphabetic ones, marks, digits, hyphens and underscores; one that was made before has
+-1 after it, then -2, and so on. Anchors of raw HTML are not read.
 
 FILE is a page; - is standard input, and so is no FILE. The lines of the pages follow one another.
 After the word -- all words are files.

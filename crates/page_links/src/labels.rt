@@ -3,8 +3,9 @@ ghost use Rattle.std.specs.Prelude.{◌≡◌, ◌++◌, [], ◌∷◌, List, �
 ghost use Rattle.std.specs.List.{flat_map};
 ghost use Rattle.page_links.specs.definitions.Definitions.{seen_definition};
 ghost use Rattle.page_links.specs.label_set.LabelSet.{HasLabels};
-ghost use Rattle.page_links.specs.labels.Labels.{AreLabelReports, AreLinksIfDefined, is_full_or_collapsed, labels_defined, labels_of};
-ghost use Rattle.page_links.specs.labels.Labels.{not_defined, of_definition, of_definitions};
+ghost use Rattle.page_links.specs.labels.Labels.{AreLabelReports, AreLinksIfDefined, is_apart, is_comment, is_footnote};
+ghost use Rattle.page_links.specs.labels.Labels.{is_full_or_collapsed, labels_defined, labels_of, not_defined, of_definition, of_definitions};
+ghost use Rattle.page_links.specs.labels.Labels.{needs_definition};
 ghost use Rattle.page_links.specs.links.Links.{seen_link};
 ghost use Rattle.page_links.specs.reports.Reports.{seen_report};
 
@@ -20,7 +21,7 @@ use std::alloc::{AllocError, Global};
 
 /// What is reported of the labels of a page that has these links: first each that a full or a
 /// collapsed reference uses and no definition has, then each definition whose label has one before
-/// it, or which no link uses.
+/// it, or which no link uses. Nothing is reported of footnotes, and of definitions that are comments.
 ///
 /// Each label takes a few searches in a tree of labels, however many the page has.
 ///
@@ -136,7 +137,7 @@ fn push_not_defined(
         ≡ map seen_report reports.old.items ++ not_defined labels (seen_link link.now)) }
 {
     let text = link.label.as_str();
-    if !is_full_or_collapsed(link.link_type) {
+    if !needs_definition(link) {
         return Ok(());
     }
     if defined.contains(text)? {
@@ -163,6 +164,13 @@ fn push_report(
         text,
     })?;
     Ok(())
+}
+
+// Whether a link is one only where a definition has its label.
+fn needs_definition(link: &PageLink) -> bool
+    ensures { result ≡ needs_definition (seen_link link.now) }
+{
+    is_full_or_collapsed(link.link_type) && !is_footnote(link.label.as_str())
 }
 
 // Whether a link is written as a full or a collapsed reference.
@@ -209,6 +217,9 @@ fn push_of_definition(
         ++ of_definition labels earlier (seen_definition definition.now)) }
 {
     let text = definition.label.as_str();
+    if is_apart(text) {
+        return Ok(());
+    }
     if before.contains(text)? {
         return push_report(
             alloc,
@@ -222,4 +233,25 @@ fn push_of_definition(
         return Ok(());
     }
     push_report(alloc, reports, definition.offset, Fault::NotUsed, text)
+}
+
+// Whether a definition of this label defines no link: it is a comment, or a footnote.
+fn is_apart(label: &str) -> bool
+    ensures { result ≡ is_apart label.now }
+{
+    is_comment(label) || is_footnote(label)
+}
+
+// Whether a definition of this label is a comment.
+fn is_comment(label: &str) -> bool
+    ensures { result ≡ is_comment label.now }
+{
+    label == "//"
+}
+
+/// Whether a label is that of a footnote.
+pub(crate) fn is_footnote(label: &str) -> bool
+    ensures { result ≡ is_footnote label.now }
+{
+    matches!(label.as_bytes(), [b'^', ..])
 }

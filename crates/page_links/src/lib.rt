@@ -1,4 +1,4 @@
-//! The links of a page of Markdown, and what `cmark_links` prints of them.
+//! The links of a page of Markdown, and what `fillaqut links` prints of them.
 #![tactic(auto)]
 
 pub mod anchors;
@@ -11,7 +11,6 @@ mod label_set;
 pub mod labels;
 pub mod links;
 pub mod page;
-pub mod positions;
 mod printing;
 pub mod program;
 pub mod reports;

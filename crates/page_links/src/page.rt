@@ -4,18 +4,19 @@ ghost use Rattle.page_links.specs.labels.Labels.{AreLabelReports};
 ghost use Rattle.page_links.specs.links.Links.{AreLinksOf, Seen, seen_link};
 ghost use Rattle.page_links.specs.page.Printed.{IsCheck, IsChecked, IsPrinted, line_of, list_of, not_text, not_text_in, not_text_json};
 ghost use Rattle.page_links.specs.page.Printed.{report_line_of, reports_of};
-ghost use Rattle.page_links.specs.positions.private.Lines.{IsLineOf};
+ghost use Rattle.markdown_blocks.specs.byte_order_mark.ByteOrderMark.{text_of};
+ghost use Rattle.page_positions.specs.private.Lines.{IsLineOf};
 ghost use Rattle.page_links.specs.reports.Reports.{Reported, seen_report};
 
 use crate::anchors::Anchors;
 use crate::checks::{FindsFiles, push_target_reports};
 use crate::labels::label_reports;
 use crate::links::{PageLink, links_of_page};
-use crate::positions::{Line, position_at};
 pub use crate::printing::LinkForm;
 use crate::printing::{push_fault, push_file, push_line};
 use crate::reports::Report;
 use markdown_events::event_reader::PageSetting;
+use page_positions::{Line, text_position_at};
 use std::alloc::{AllocError, Global};
 use std::str::from_utf8;
 
@@ -104,7 +105,7 @@ fn push_list(
     ensures { OnOk result (string_bytes text.new
         ≡ string_bytes text.old ++ list_of form name.now page.now (map seen_link links.now)) }
 {
-    let mut line = Line::first(page);
+    let mut line = Line::first_of_text(page);
     for link in links {
         push_found(alloc, text, form, name, page, &mut line, link)?;
     }
@@ -121,12 +122,12 @@ fn push_found(
     line: &mut Line,
     link: &PageLink,
 ) -> Result<(), AllocError>
-    requires line { IsLineOf page.now line.old }
-    ensures line { IsLineOf page.now line.new }
+    requires line { IsLineOf (text_of page.now) line.old }
+    ensures line { IsLineOf (text_of page.now) line.new }
     ensures written { OnOk result (string_bytes text.new
         ≡ string_bytes text.old ++ line_of form name.now page.now (seen_link link.now)) }
 {
-    let position = position_at(page, line, link.range.start);
+    let position = text_position_at(page, line, link.range.start);
     push_line(alloc, text, form, name, position, link)
 }
 
@@ -142,7 +143,7 @@ fn push_reports(
     ensures { OnOk result (string_bytes text.new ≡ string_bytes text.old
         ++ reports_of form name.now page.now (map seen_report reports.now)) }
 {
-    let mut line = Line::first(page);
+    let mut line = Line::first_of_text(page);
     for report in reports {
         push_reported(alloc, text, form, name, page, &mut line, report)?;
     }
@@ -159,12 +160,12 @@ fn push_reported(
     line: &mut Line,
     report: &Report,
 ) -> Result<(), AllocError>
-    requires line { IsLineOf page.now line.old }
-    ensures line { IsLineOf page.now line.new }
+    requires line { IsLineOf (text_of page.now) line.old }
+    ensures line { IsLineOf (text_of page.now) line.new }
     ensures written { OnOk result (string_bytes text.new ≡ string_bytes text.old
         ++ report_line_of form name.now page.now (seen_report report.now)) }
 {
-    let position = position_at(page, line, report.offset);
+    let position = text_position_at(page, line, report.offset);
     push_fault(alloc, text, form, name, position, report)
 }
 

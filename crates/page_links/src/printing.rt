@@ -10,12 +10,12 @@ mod json;
 mod words;
 
 use crate::links::PageLink;
-use crate::positions::Position;
 use crate::printing::faults::push_fault_line;
 pub(crate) use crate::printing::json::push_file;
 use crate::printing::json::{push_fault_json, push_link_json};
 use crate::printing::words::push_link_line;
 use crate::reports::Report;
+use page_positions::Position;
 use std::alloc::{AllocError, Global};
 
 /// How links are printed, one a line.

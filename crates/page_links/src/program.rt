@@ -1,8 +1,8 @@
 //! What the program does with its words, its input and its output.
-ghost use Rattle.std.specs.Prelude.{◌≡◌, ◌≢◌, ◌⊎◌, [], true, false, ℕ, List, IfSome, IsSome, Some, None, codes};
+ghost use Rattle.std.specs.Prelude.{◌≡◌, ◌⊎◌, [], true, false, ℕ, List, IfSome, IsSome, Some, None, codes};
 ghost use Rattle.std.specs.Io.KnownBytes.{Appends};
-ghost use Rattle.program_faults.specs.Steps.{HasRefused, AreGiven};
-ghost use Rattle.program_faults.specs.declared.reasons.Reason.{Reason};
+ghost use Rattle.program_faults.specs.Faults.{AppendsPrefix};
+ghost use Rattle.program_faults.specs.Steps.{AreGiven, CantWrite};
 ghost use Rattle.page_programs.specs.Runs.{PrintsAll};
 ghost use Rattle.page_programs.specs.Stops.{IfWrite, IsWrite, stop_parts, unknown_parts};
 ghost use Rattle.page_programs.specs.Words.{pages_of, request_of, unknown_of};
@@ -26,7 +26,7 @@ use page_programs::reading::read_page;
 use page_programs::says::Says;
 use page_programs::stops::{Stop, report_stop};
 use page_programs::writing::write_text;
-use program_faults::{Reason, StepReader, StepWriter};
+use program_faults::{StepReader, StepWriter};
 use std::alloc::{AllocError, Global};
 
 /// Runs the program on its words, without its name, and answers its status.
@@ -49,7 +49,7 @@ pub fn run_program<L: FindsFiles, R: StepReader, F: OpensFiles, W: StepWriter, V
     ensures only_unknown { result ≡ 2 → IsSome (unknown_of own_options words.now) }
     ensures unknown { IfSome (unknown_of own_options words.now) (λ word. (result ≡ 2)
         × AreGiven V.writes faults.old
-        (unknown_parts (codes "cmark_links") word.now USAGE.now) faults.new) }
+        (unknown_parts (codes "fillaqut") word.now USAGE.now) faults.new) }
     ensures untouched { IsSome (unknown_of own_options words.now) →
         (input.new ≡ input.old) × (files.new ≡ files.old) × (output.new ≡ output.old) }
 
@@ -58,6 +58,10 @@ pub fn run_program<L: FindsFiles, R: StepReader, F: OpensFiles, W: StepWriter, V
         Appends (W.contents output.old) (W.contents output.new) HELP.now }
     ensures version { result ≡ 0 → request_of words.now ≡ Version →
         Appends (W.contents output.old) (W.contents output.new) VERSION.now }
+    ensures help_front { request_of words.now ≡ Help →
+        AppendsPrefix (W.contents output.old) (W.contents output.new) HELP.now }
+    ensures version_front { request_of words.now ≡ Version →
+        AppendsPrefix (W.contents output.old) (W.contents output.new) VERSION.now }
     ensures unread { (request_of words.now ≡ Help) ⊎ (request_of words.now ≡ Version) →
         (input.new ≡ input.old) × (files.new ≡ files.old) }
 
@@ -83,8 +87,8 @@ pub fn run_program<L: FindsFiles, R: StepReader, F: OpensFiles, W: StepWriter, V
     // it.
     ensures done { (result ≡ 0) ⊎ (result ≡ 1) → faults.new ≡ faults.old }
     ensures stopped { result ≡ 3 → (name : List ℕ) × (stop : Stop)
-        × AreGiven V.writes faults.old (stop_parts (codes "cmark_links") name stop) faults.new
-        × IfWrite stop (λ why. why ≢ Reason.Interrupted → HasRefused W.writes why output.new)
+        × AreGiven V.writes faults.old (stop_parts (codes "fillaqut") name stop) faults.new
+        × IfWrite stop (λ why. CantWrite W.writes why output.new)
         × ((request_of words.now ≡ Help) ⊎ (request_of words.now ≡ Version) → IsWrite stop)
         × (request_of words.now ≡ Pages → is_check words.now ≡ false →
         PrintsAll by_name (IsPrintedTo (form_of words.now) (setting_of words.now)) is_unwritten
@@ -96,13 +100,13 @@ pub fn run_program<L: FindsFiles, R: StepReader, F: OpensFiles, W: StepWriter, V
         × ChecksAll (L.finds finder.now) (form_of words.now) (setting_of words.now)
         R.remaining R.reads F.opens F.File.remaining F.File.reads (pages_of words.now)
         input.old files.old [] input.new files.new text (Some (name, stop))
-        × (¬ IsWrite stop → Appends (W.contents output.old) (W.contents output.new) text)) }
+        × Appends (W.contents output.old) (W.contents output.new) text) }
 {
     if is_check(words) {
         return run_checks(alloc, words, finder, input, files, output, faults);
     }
     let says = Says {
-        name: "cmark_links",
+        name: "fillaqut",
         usage: USAGE,
         help: HELP,
         version: VERSION,
@@ -135,13 +139,13 @@ fn run_checks<L: FindsFiles, R: StepReader, F: OpensFiles, W: StepWriter, V: Ste
         × (result ≡ status_of (is_reported text)) }
     ensures done { (result ≡ 0) ⊎ (result ≡ 1) → faults.new ≡ faults.old }
     ensures stopped { result ≡ 3 → (name : List ℕ) × (stop : Stop)
-        × AreGiven V.writes faults.old (stop_parts (codes "cmark_links") name stop) faults.new
-        × IfWrite stop (λ why. why ≢ Reason.Interrupted → HasRefused W.writes why output.new)
+        × AreGiven V.writes faults.old (stop_parts (codes "fillaqut") name stop) faults.new
+        × IfWrite stop (λ why. CantWrite W.writes why output.new)
         × (text : List ℕ)
         × ChecksAll (L.finds finder.now) (form_of words.now) (setting_of words.now)
         R.remaining R.reads F.opens F.File.remaining F.File.reads (pages_of words.now)
         input.old files.old [] input.new files.new text (Some (name, stop))
-        × (¬ IsWrite stop → Appends (W.contents output.old) (W.contents output.new) text) }
+        × Appends (W.contents output.old) (W.contents output.new) text }
 {
     let checks = Checks {
         finder,
@@ -151,7 +155,7 @@ fn run_checks<L: FindsFiles, R: StepReader, F: OpensFiles, W: StepWriter, V: Ste
     match check_operands(alloc, &checks, words, input, files, output) {
         Ok(found) => status_of(found),
         Err((name, stop)) => {
-            report_stop("cmark_links", faults, name, stop);
+            report_stop("fillaqut", faults, name, stop);
             3
         }
     }

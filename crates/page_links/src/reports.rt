@@ -11,6 +11,8 @@ pub enum Fault {
     DefinedBefore,
     /// A link leads to a file that is not there.
     NoFile,
+    /// A link leads to a file that may not be looked for.
+    Denied,
     /// A link leads to an anchor of its page that no heading makes.
     NoAnchor,
 }

@@ -1,3 +1,4 @@
+pub mod CutLemmas
 mod PageRuns
 pub mod ReadingLemmas
 mod StopLemmas

@@ -1,12 +1,12 @@
 -- What the clauses of a page's printing say of its end.
 use Rattle.std.proofs.Common.{ℕ, List, Option, Result, Ok, Err, IfOk, IfErr, ◌≡◌, ◌⊎◌, Some, refl, sym, subst}
-use Rattle.std.specs.Prelude.{IfSome}
 use Rattle.std.specs.Result.{IsErrAnd}
 use Rattle.std.specs.Io.KnownBytes.{IsAtEnd}
 use Rattle.program_faults.specs.Steps.{AreReads, HasEnded, HasFailed}
 use Rattle.program_faults.specs.declared.reasons.Reason.{Reason}
 use Rattle.page_programs.specs.declared.stops.Stop.{Stop}
 use Rattle.page_programs.specs.declared.stops.Stop.TheVariants.{Read, Write, Memory}
+use Rattle.page_programs.specs.Cuts.{PrintsAllOf, PrintsPart}
 use Rattle.page_programs.specs.Runs.{IsPrinted, Prints, not_begun, stop_of}
 use Rattle.page_programs.specs.Stops.{IsWrite}
 
@@ -16,17 +16,19 @@ module _ {R T : Type 0} (title : List ℕ → List ℕ)
     (remaining : R → Option (List ℕ)) (reads : R → Result (List ℕ) Reason → R → Type 0)
     (name : List ℕ) (old new : R) (out longer : Option (List ℕ)) where
   pub page_ends : (heading : List ℕ) → heading ≡ title name → (r : Result T Stop)
-      → IfOk r (λ _. IfSome (remaining old) (λ page. prints heading page out longer))
+      → IfOk r (λ _. PrintsAllOf (prints heading) (remaining old) out longer)
       → IfOk r (λ _. IsAtEnd (remaining new)) → IfOk r (λ _. HasEnded reads new)
       → IfErr r (λ stop. (IsWrite stop → ⊥) → begins heading (remaining old) (remaining new) out longer)
       → IfErr r (λ stop. (why : Reason) → stop ≡ Read why → HasFailed reads why new ⊎ AreReads reads 281474976710655 old new)
+      → IfErr r (λ stop. IsWrite stop → PrintsPart (prints heading) (begins heading) (remaining old) (remaining new) out longer)
       → (count : ℕ) × AreReads reads count old new → Prints title prints begins remaining reads name old new out longer (stop_of r)
-  page_ends heading is (Ok t) printed end ended begun failed made =
-      ((subst (λ t. IfSome (remaining old) (λ page. prints t page out longer)) is printed, end, ended), made.0, made.1)
-  page_ends heading is (Err (Read why)) printed end ended begun failed made =
+  page_ends heading is (Ok t) printed end ended begun failed cut made =
+      ((subst (λ t. PrintsAllOf (prints t) (remaining old) out longer) is printed, end, ended), made.0, made.1)
+  page_ends heading is (Err (Read why)) printed end ended begun failed cut made =
       ((subst (λ t. begins t (remaining old) (remaining new) out longer) is (begun (λ is. is)), failed why refl), made.0, made.1)
-  page_ends heading is (Err (Write why)) printed end ended begun failed made = (tt, made.0, made.1)
-  page_ends heading is (Err Memory) printed end ended begun failed made =
+  page_ends heading is (Err (Write why)) printed end ended begun failed cut made =
+      (subst (λ t. PrintsPart (prints t) (begins t) (remaining old) (remaining new) out longer) is (cut tt), made.0, made.1)
+  page_ends heading is (Err Memory) printed end ended begun failed cut made =
       (subst (λ t. begins t (remaining old) (remaining new) out longer) is (begun (λ is. is)), made.0, made.1)
 
 module _ {R O F T : Type 0} (by_input : List ℕ → R → R → Option (List ℕ) → Option (List ℕ) → Option Stop → Type 0)

@@ -1,9 +1,10 @@
 -- What the pages that the words name come to.
-use Rattle.std.specs.Prelude.{ℕ, true, false, ◌≡◌, ◌⊎◌, List, [], ◌∷◌, ⊤, Option, Some, None, Result, Ok, Err, IfSome}
+use Rattle.std.specs.Prelude.{ℕ, true, false, ◌≡◌, ◌⊎◌, List, [], ◌∷◌, Option, Some, None, Result, Ok, Err}
 use Rattle.std.specs.Str.{bytes_eq}
 use Rattle.std.specs.Io.KnownBytes.{IsAtEnd}
 use Rattle.program_faults.specs.Steps.{AreReads, HasEnded, HasFailed}
 use Rattle.program_faults.specs.declared.reasons.Reason.{Reason}
+use Rattle.page_programs.specs.Cuts.{PrintsAllOf, PrintsPart}
 use Rattle.page_programs.specs.declared.stops.Stop.{Stop}
 use Rattle.page_programs.specs.declared.stops.Stop.TheVariants.{Read, Write, Memory}
 use Rattle.page_programs.specs.Words.{dash}
@@ -18,14 +19,14 @@ module _ {R : Type 0} (title : List ℕ → List ℕ)
     (begins : List ℕ → Option (List ℕ) → Option (List ℕ) → Option (List ℕ) → Option (List ℕ) → Type 0)
     (remaining : R → Option (List ℕ)) (reads : R → Result (List ℕ) Reason → R → Type 0) where
   -- What a page came to that a reader gives, after this title: it was read to its end, and known bytes grew by what is printed of it; or
-  -- it stopped. Then they grew by what is printed before a stop, unless a write failed. Where it can't be read the last read failed, or
-  -- there were as many reads as are made.
+  -- it stopped. Then they grew by what is printed before a stop, or where a write failed by a part at the front of what is due. Where it
+  -- can't be read the last read failed, or there were as many reads as are made.
   abbrev pub PageEnds : List ℕ → R → R → Option (List ℕ) → Option (List ℕ) → Option Stop → Type 0
   PageEnds heading old new out printed None =
-      IfSome (remaining old) (λ page. prints heading page out printed) × IsAtEnd (remaining new) × HasEnded reads new
+      PrintsAllOf (prints heading) (remaining old) out printed × IsAtEnd (remaining new) × HasEnded reads new
   PageEnds heading old new out printed (Some (Read why)) =
       begins heading (remaining old) (remaining new) out printed × (HasFailed reads why new ⊎ AreReads reads 281474976710655 old new)
-  PageEnds heading old new out printed (Some (Write why)) = ⊤
+  PageEnds heading old new out printed (Some (Write why)) = PrintsPart (prints heading) (begins heading) (remaining old) (remaining new) out printed
   PageEnds heading old new out printed (Some Memory) = begins heading (remaining old) (remaining new) out printed
 
   -- the same of the page of this name; and nothing but reads was done

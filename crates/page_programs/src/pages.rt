@@ -1,8 +1,9 @@
 //! What a program prints of a page.
-ghost use Rattle.std.specs.Prelude.{◌≡◌, ◌≢◌, ◌⊎◌, ℕ, List, Option, IfOk, IfErr, IfSome, string_bytes};
+ghost use Rattle.std.specs.Prelude.{◌≡◌, ◌⊎◌, ℕ, List, Option, IfOk, IfErr, string_bytes};
 ghost use Rattle.std.specs.Io.KnownBytes.{IsAtEnd};
-ghost use Rattle.program_faults.specs.Steps.{AreReads, HasEnded, HasFailed, HasRefused};
+ghost use Rattle.program_faults.specs.Steps.{AreReads, CantWrite, HasEnded, HasFailed};
 ghost use Rattle.program_faults.specs.declared.reasons.Reason.{Reason};
+ghost use Rattle.page_programs.specs.Cuts.{PrintsAllOf, PrintsPart};
 ghost use Rattle.page_programs.specs.Stops.{IfWrite, IsWrite};
 ghost use Rattle.page_programs.specs.declared.stops.Stop.{Stop};
 
@@ -36,17 +37,21 @@ pub trait PrintsPages {
         input: &mut R,
         output: &mut W,
     ) -> Result<(), Stop>
-        ensures printed { IfOk result (λ _. IfSome (R.remaining input.old) (λ page.
-            prints self.now title.now page (W.contents output.old) (W.contents output.new))) }
+        ensures printed { IfOk result (λ _. PrintsAllOf (prints self.now title.now)
+            (R.remaining input.old) (W.contents output.old) (W.contents output.new)) }
         ensures read { IfOk result (λ _. IsAtEnd (R.remaining input.new)) }
         ensures ended { IfOk result (λ _. HasEnded R.reads input.new) }
         ensures begun { IfErr result (λ stop. ¬ IsWrite stop →
             begins self.now title.now (R.remaining input.old) (R.remaining input.new)
+            (W.contents output.old) (W.contents output.new)) }
+        ensures cut { IfErr result (λ stop. IsWrite stop →
+            PrintsPart (prints self.now title.now) (begins self.now title.now)
+            (R.remaining input.old) (R.remaining input.new)
             (W.contents output.old) (W.contents output.new)) }
         ensures reads { (count : ℕ) × AreReads R.reads count input.old input.new }
         ensures failed { IfErr result (λ stop. (why : Reason) → stop ≡ Stop.Read why →
             HasFailed R.reads why input.new
             ⊎ AreReads R.reads 281474976710655 input.old input.new) }
         ensures refused { IfErr result (λ stop.
-            IfWrite stop (λ why. why ≢ Reason.Interrupted → HasRefused W.writes why output.new)) };
+            IfWrite stop (λ why. CantWrite W.writes why output.new)) };
 }

@@ -1,8 +1,8 @@
 //! What a program does with its words, its input and its output.
-ghost use Rattle.std.specs.Prelude.{◌≡◌, ◌≢◌, ◌⊎◌, ℕ, List, IfOk, IfSome, IfErr, IsSome, Some, None, length};
+ghost use Rattle.std.specs.Prelude.{◌≡◌, ◌⊎◌, ℕ, List, IfOk, IfSome, IfErr, IsSome, Some, None, length};
 ghost use Rattle.std.specs.Io.KnownBytes.{Appends};
-ghost use Rattle.program_faults.specs.Steps.{HasRefused, AreGiven};
-ghost use Rattle.program_faults.specs.declared.reasons.Reason.{Reason};
+ghost use Rattle.program_faults.specs.Faults.{AppendsPrefix};
+ghost use Rattle.program_faults.specs.Steps.{AreGiven, CantWrite};
 ghost use Rattle.page_programs.specs.Runs.{PrintsAll, PrintsNamed, stop_of};
 ghost use Rattle.page_programs.specs.Stops.{IfWrite, IsWrite, stop_parts, unknown_parts};
 ghost use Rattle.page_programs.specs.Words.{pages_of, request_of, texts, unknown_of};
@@ -49,6 +49,10 @@ pub fn run_program<P: PrintsPages, R: StepReader, F: OpensFiles, W: StepWriter, 
         Appends (W.contents output.old) (W.contents output.new) says.now.help.now }
     ensures version { result ≡ 0 → request_of words.now ≡ Version →
         Appends (W.contents output.old) (W.contents output.new) says.now.version.now }
+    ensures help_front { request_of words.now ≡ Help →
+        AppendsPrefix (W.contents output.old) (W.contents output.new) says.now.help.now }
+    ensures version_front { request_of words.now ≡ Version →
+        AppendsPrefix (W.contents output.old) (W.contents output.new) says.now.version.now }
     ensures unread { (request_of words.now ≡ Help) ⊎ (request_of words.now ≡ Version) →
         (input.new ≡ input.old) × (files.new ≡ files.old) }
 
@@ -65,7 +69,7 @@ pub fn run_program<P: PrintsPages, R: StepReader, F: OpensFiles, W: StepWriter, 
     ensures done { result ≡ 0 → faults.new ≡ faults.old }
     ensures stopped { result ≡ 3 → (name : List ℕ) × (stop : Stop)
         × AreGiven V.writes faults.old (stop_parts says.now.name.now name stop) faults.new
-        × IfWrite stop (λ why. why ≢ Reason.Interrupted → HasRefused W.writes why output.new)
+        × IfWrite stop (λ why. CantWrite W.writes why output.new)
         × ((request_of words.now ≡ Help) ⊎ (request_of words.now ≡ Version) → IsWrite stop)
         × (request_of words.now ≡ Pages →
         PrintsAll (P.titles printer.now (length (pages_of words.now)))
@@ -105,12 +109,16 @@ fn answer<'a, P: PrintsPages, R: StepReader, F: OpensFiles, W: StepWriter>(
         Appends (W.contents output.old) (W.contents output.new) says.now.help.now) }
     ensures version { IfOk result (λ _. request_of words.now ≡ Version →
         Appends (W.contents output.old) (W.contents output.new) says.now.version.now) }
+    ensures help_front { request_of words.now ≡ Help →
+        AppendsPrefix (W.contents output.old) (W.contents output.new) says.now.help.now }
+    ensures version_front { request_of words.now ≡ Version →
+        AppendsPrefix (W.contents output.old) (W.contents output.new) says.now.version.now }
     ensures unread { (request_of words.now ≡ Help) ⊎ (request_of words.now ≡ Version) →
         (input.new ≡ input.old) × (files.new ≡ files.old) }
     ensures write { IfErr result (λ stop.
         (request_of words.now ≡ Help) ⊎ (request_of words.now ≡ Version) → IsWrite stop.1) }
     ensures refused { IfErr result (λ stop.
-        IfWrite stop.1 (λ why. why ≢ Reason.Interrupted → HasRefused W.writes why output.new)) }
+        IfWrite stop.1 (λ why. CantWrite W.writes why output.new)) }
     ensures printed { IfOk result (λ _. request_of words.now ≡ Pages →
         PrintsAll (P.titles printer.now (length (pages_of words.now)))
         (P.prints printer.now) (P.begins printer.now)
@@ -137,9 +145,10 @@ fn answer<'a, P: PrintsPages, R: StepReader, F: OpensFiles, W: StepWriter>(
 fn write_words<'a, W: StepWriter>(output: &mut W, text: &str) -> Result<(), (&'a str, Stop)>
     ensures written { IfOk result (λ _.
         Appends (W.contents output.old) (W.contents output.new) text.now) }
+    ensures front { AppendsPrefix (W.contents output.old) (W.contents output.new) text.now }
     ensures write { IfErr result (λ stop. IsWrite stop.1) }
     ensures refused { IfErr result (λ stop.
-        IfWrite stop.1 (λ why. why ≢ Reason.Interrupted → HasRefused W.writes why output.new)) }
+        IfWrite stop.1 (λ why. CantWrite W.writes why output.new)) }
 {
     match write_text(output, text) {
         Ok(()) => Ok(()),
@@ -171,7 +180,7 @@ fn print_operands<'a, P: PrintsPages, R: StepReader, F: OpensFiles, W: StepWrite
         input.old files.old (W.contents output.old)
         input.new files.new (W.contents output.new) (Some (stop.0.now, stop.1))) }
     ensures refused { IfErr result (λ stop.
-        IfWrite stop.1 (λ why. why ≢ Reason.Interrupted → HasRefused W.writes why output.new)) }
+        IfWrite stop.1 (λ why. CantWrite W.writes why output.new)) }
 {
     let names = match name_pages(alloc, words) {
         Ok(names) => names,
@@ -204,7 +213,7 @@ fn print_pages<'a, P: PrintsPages, R: StepReader, F: OpensFiles, W: StepWriter>(
         input.old files.old (W.contents output.old)
         input.new files.new (W.contents output.new) (Some (stop.0.now, stop.1))) }
     ensures refused { IfErr result (λ stop.
-        IfWrite stop.1 (λ why. why ≢ Reason.Interrupted → HasRefused W.writes why output.new)) }
+        IfWrite stop.1 (λ why. CantWrite W.writes why output.new)) }
 {
     for name in names {
         if let Err(stop) = print_named(alloc, printer, names.len(), name, input, files, output) {
@@ -230,7 +239,7 @@ fn print_named<P: PrintsPages, R: StepReader, F: OpensFiles, W: StepWriter>(
         input.old files.old (W.contents output.old)
         input.new files.new (W.contents output.new) (stop_of result) }
     ensures refused { IfErr result (λ stop.
-        IfWrite stop (λ why. why ≢ Reason.Interrupted → HasRefused W.writes why output.new)) }
+        IfWrite stop (λ why. CantWrite W.writes why output.new)) }
 {
     let title = printer.make_title(alloc, pages, name)?;
     if name == "-" {

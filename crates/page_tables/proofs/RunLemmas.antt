@@ -1,29 +1,50 @@
--- Steps one after another, and why a page can't be read.
-use Rattle.std.proofs.Common.{ℕ, Bool, true, false, ◌||◌, ◌≡◌, ◌≢◌, ◌⊎◌, refl, List, Option, Result, Ok, Err}
+-- What came of pages, and why one can't be read.
+use Rattle.std.proofs.Common.{ℕ, ◌≡◌, ◌≢◌, ◌⊎◌, refl, List, Option, Result}
 use Rattle.program_faults.specs.Steps.{AreReads, HasFailed}
 use Rattle.program_faults.specs.declared.reasons.Reason.{Reason}
 use Rattle.page_programs.specs.declared.stops.Stop.{Stop}
 use Rattle.page_programs.specs.declared.stops.Stop.TheVariants.{Read, Write, Memory}
-use Rattle.page_tables.specs.Runs.{AreSteps, CantRead, or_end}
+use Rattle.page_tables.specs.declared.halts.Came.{Came}
+use Rattle.page_tables.specs.declared.halts.Came.TheVariants.{Done, Changes, IsNotDone, HasNoOutput}
+use Rattle.page_tables.specs.Halts.{worse}
+use Rattle.page_tables.specs.Runs.{CantRead}
 
-module _ {S E : Type 0} (steps : List ℕ → S → S → Result Bool E → Type 0) (names : List (List ℕ)) (old new : S) where
-  -- before a step no change was made
-  pub none_changed : (end : Result Bool (List ℕ × E)) → AreSteps steps names old new end → AreSteps steps names old new (or_end false end)
-  none_changed (Ok more) made = made
-  none_changed (Err why) made = made
+-- what came of pages, one after another
+pub worse_assoc : (one other more : Came) → worse (worse one other) more ≡ worse one (worse other more)
+worse_assoc Done other more = refl
+worse_assoc Changes Done more = refl
+worse_assoc Changes Changes Done = refl
+worse_assoc Changes Changes Changes = refl
+worse_assoc Changes Changes IsNotDone = refl
+worse_assoc Changes Changes HasNoOutput = refl
+worse_assoc Changes IsNotDone Done = refl
+worse_assoc Changes IsNotDone Changes = refl
+worse_assoc Changes IsNotDone IsNotDone = refl
+worse_assoc Changes IsNotDone HasNoOutput = refl
+worse_assoc Changes HasNoOutput more = refl
+worse_assoc IsNotDone Done more = refl
+worse_assoc IsNotDone Changes Done = refl
+worse_assoc IsNotDone Changes Changes = refl
+worse_assoc IsNotDone Changes IsNotDone = refl
+worse_assoc IsNotDone Changes HasNoOutput = refl
+worse_assoc IsNotDone IsNotDone Done = refl
+worse_assoc IsNotDone IsNotDone Changes = refl
+worse_assoc IsNotDone IsNotDone IsNotDone = refl
+worse_assoc IsNotDone IsNotDone HasNoOutput = refl
+worse_assoc IsNotDone HasNoOutput more = refl
+worse_assoc HasNoOutput other more = refl
 
-  -- after the last no other is
-  pub no_more : (changed : Bool) → AreSteps steps names old new (or_end changed (Ok false)) → AreSteps steps names old new (Ok changed)
-  no_more true made = made
-  no_more false made = made
+pub worse_done : (came : Came) → worse came Done ≡ came
+worse_done Done = refl
+worse_done Changes = refl
+worse_done IsNotDone = refl
+worse_done HasNoOutput = refl
 
-  -- one more
-  pub one_more : (changed one : Bool) (end : Result Bool (List ℕ × E)) → AreSteps steps names old new (or_end changed (or_end one end))
-      → AreSteps steps names old new (or_end (changed || one) end)
-  one_more true one (Ok more) made = made
-  one_more true one (Err why) made = made
-  one_more false one (Ok more) made = made
-  one_more false one (Err why) made = made
+pub worse_none : (came : Came) → worse came HasNoOutput ≡ HasNoOutput
+worse_none Done = refl
+worse_none Changes = refl
+worse_none IsNotDone = refl
+worse_none HasNoOutput = refl
 
 pub cant_read : {R : Type 0} (remaining : R → Option (List ℕ)) (reads : R → Result (List ℕ) Reason → R → Type 0) (old new : R) (stop : Stop)
     → ((why : Reason) → stop ≢ Write why)

@@ -3,8 +3,8 @@ use Rattle.std.specs.Prelude.{ℕ, Bool, true, false, List, [], ◌∷◌, ◌++
 use Rattle.std.specs.Fmt.{decimal}
 use Rattle.std.specs.List.{flat_map}
 use Rattle.markdown_scanners_tree.specs.Ascii.{line_feed}
-use Rattle.page_links.specs.declared.positions.Position.{Position}
-use Rattle.page_links.specs.positions.Positions.{position_of}
+use Rattle.page_positions.specs.declared.Position.{Position}
+use Rattle.page_positions.specs.Positions.{text_position}
 use Rattle.page_tables.specs.declared.misfits.Misfit.{Misfit}
 
 -- a line that says something of a position in the page of this name
@@ -14,7 +14,7 @@ line_at name position words =
 
 -- of a table that changes
 abbrev pub change_line : List ℕ → List ℕ → ℕ → List ℕ
-change_line name page offset = line_at name (position_of page offset) (codes "table is not laid out")
+change_line name page offset = line_at name (text_position page offset) (codes "table is not laid out")
 
 abbrev pub change_lines : List ℕ → List ℕ → List ℕ → List ℕ
 change_lines name page heads = flat_map (change_line name page) heads
@@ -25,7 +25,7 @@ misfit_words true = codes "row has more cells than its table has columns, and th
 misfit_words false = codes "row has no cell, and its table is left as it is"
 
 abbrev pub misfit_line : List ℕ → List ℕ → Misfit → List ℕ
-misfit_line name page it = line_at name (position_of page it.start) (misfit_words it.has_cell)
+misfit_line name page it = line_at name (text_position page it.start) (misfit_words it.has_cell)
 
 abbrev pub misfit_lines : List ℕ → List ℕ → List Misfit → List ℕ
 misfit_lines name page rows = flat_map (misfit_line name page) rows

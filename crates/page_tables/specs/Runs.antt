@@ -1,17 +1,19 @@
 -- What becomes of the pages that the words name.
-use Rattle.std.specs.Prelude.{ℕ, Bool, true, false, not, ◌||◌, ◌≡◌, ◌≢◌, ◌⊎◌, ⊤, List, [], ◌∷◌, Option, Result, Ok, Err, IfSome, if◌then◌else◌}
+use Rattle.std.specs.Prelude.{ℕ, Bool, true, false, not, ◌≡◌, ◌⊎◌, ⊤, List, [], ◌∷◌, Option, Result, Ok, Err, IfSome, if◌then◌else◌}
 use Rattle.std.specs.Io.KnownBytes.{Appends, IsAtEnd}
 use Rattle.std.specs.Str.{bytes_eq}
 use Rattle.program_faults.specs.Faults.{AppendsPrefix}
-use Rattle.program_faults.specs.Steps.{AreReads, HasEnded, HasFailed, HasRefused, IsGiven}
+use Rattle.program_faults.specs.Steps.{AreGiven, AreReads, CantWrite, HasEnded, HasFailed, IsGiven}
 use Rattle.program_faults.specs.declared.reasons.Reason.{Reason}
-use Rattle.program_faults.specs.declared.reasons.Reason.TheVariants.{Interrupted}
 use Rattle.page_programs.specs.Words.{dash}
 use Rattle.page_programs.specs.declared.stops.Stop.{Stop}
 use Rattle.page_programs.specs.declared.stops.Stop.TheVariants.{Read, Write, Memory}
-use Rattle.page_tables.specs.Files.{AreKept, IsReplaced}
+use Rattle.page_tables.specs.Files.{AreKept, IsRefused, IsReplaced}
+use Rattle.page_tables.specs.Halts.{came_at, came_of, halt_parts, worse}
 use Rattle.page_tables.specs.Looks.{IsSaid}
 use Rattle.page_tables.specs.Words.{is_check, task_for}
+use Rattle.page_tables.specs.declared.halts.Came.{Came}
+use Rattle.page_tables.specs.declared.halts.Came.TheVariants.{Done, IsNotDone, HasNoOutput}
 use Rattle.page_tables.specs.declared.halts.Halt.{Halt}
 use Rattle.page_tables.specs.declared.halts.Halt.TheVariants.{OfPage, OfFile}
 use Rattle.page_tables.specs.declared.words.Task.{Task}
@@ -51,26 +53,14 @@ pub record World (R F W V : Type 0) : Type 0 where
 abbrev pub world : {R F W V : Type 0} → R → F → W → V → World R F W V
 world input files output faults = record { input = input; rest = outside files output faults }
 
--- one of two changes, or why there is an end
-abbrev pub or_end : {E : Type 0} → Bool → Result Bool E → Result Bool E
-or_end changed (Ok more) = Ok (changed || more)
-or_end changed (Err why) = Err why
-
--- Steps of names one after another, up to the first that ends, and whether one of them was a change.
-pub data AreSteps {S E : Type 0} (steps : List ℕ → S → S → Result Bool E → Type 0)
-    : List (List ℕ) → S → S → Result Bool (List ℕ × E) → Type 0 where
-  none_left : (at : S) → AreSteps steps [] at at (Ok false)
-  step : (name : List ℕ) (names : List (List ℕ)) (old middle new : S) (changed : Bool) (end : Result Bool (List ℕ × E))
-      → steps name old middle (Ok changed) → AreSteps steps names middle new end → AreSteps steps (name ∷ names) old new (or_end changed end)
-  last_step : (name : List ℕ) (names : List (List ℕ)) (old new : S) (why : E)
-      → steps name old new (Err why) → AreSteps steps (name ∷ names) old new (Err (name, why))
-
 -- what is printed of a page: its text, or where its tables change
 abbrev pub printed : Task → List ℕ → List ℕ → List ℕ
 printed task text lines = if is_check task then lines else text
 
-module _ {F W V : Type 0} (contents : W → Option (List ℕ)) (writes : W → List ℕ → Result ℕ Reason → W → Type 0)
-    (fault_writes : V → List ℕ → Result ℕ Reason → V → Type 0) (holds : F → List ℕ → Option (List ℕ)) where
+module _ {F O N W V : Type 0} (contents : W → Option (List ℕ)) (writes : W → List ℕ → Result ℕ Reason → W → Type 0)
+    (fault_writes : V → List ℕ → Result ℕ Reason → V → Type 0) (refuses : F → Reason → F → Type 0)
+    (file_reads : O → Result (List ℕ) Reason → O → Type 0) (copy_writes : N → List ℕ → Result ℕ Reason → N → Type 0)
+    (holds : F → List ℕ → Option (List ℕ)) (is_beside : F → List ℕ → List ℕ → Type 0) where
   -- This is made and said of a page, and what is said of tables that are left as they are is given to the faults.
   pub record IsNoted (checks : Bool) (name page text lines : List ℕ) (old new : Outside F W V) : Type 0 where
     pub notes : List ℕ
@@ -90,16 +80,17 @@ module _ {F W V : Type 0} (contents : W → Option (List ℕ)) (writes : W → L
       × IsReplaced holds name page text old.files new.files × (changed ≡ false)
 
   -- Why a page is not done: memory is refused, and nothing is changed; or only a part at the front can be written of what is printed, and no
-  -- file is changed; or the file can't be replaced, and each file stands as it was.
+  -- file is changed; or the file is not replaced.
   abbrev pub IsHalted : Task → List ℕ → List ℕ → List ℕ → List ℕ → Outside F W V → Outside F W V → Halt → Type 0
   IsHalted task name page text lines old new (OfPage (Read why)) = ⊥
   IsHalted task name page text lines old new (OfPage Memory) = new ≡ old
   IsHalted task name page text lines old new (OfPage (Write why)) =
       IsNoted (is_check task) name page text lines old new
       × AppendsPrefix (contents old.output) (contents new.output) (printed task text lines)
-      × (new.files ≡ old.files) × (why ≢ Interrupted → HasRefused writes why new.output)
-  IsHalted task name page text lines old new (OfFile why) =
-      IsNoted false name page text lines old new × (new.output ≡ old.output) × AreKept holds old.files new.files
+      × (new.files ≡ old.files) × CantWrite writes why new.output
+  IsHalted task name page text lines old new (OfFile refusal) =
+      IsNoted false name page text lines old new × (new.output ≡ old.output)
+      × IsRefused refuses file_reads copy_writes holds is_beside name page old.files new.files refusal
 
   abbrev pub IsUsed : Task → List ℕ → List ℕ → Outside F W V → Outside F W V → Result Bool Halt → Type 0
   IsUsed task name page old new (Ok changed) =
@@ -139,26 +130,44 @@ module _ {R F O W V : Type 0} (remaining : R → Option (List ℕ)) (reads : R �
     not_opened : (why : Reason) → bytes_eq name dash ≡ false → stop ≡ Read why → opens old.rest.files name (Err why) new.rest.files
         → AreKept holds old.rest.files new.rest.files → new.input ≡ old.input → AreUnwritten old new → IsMissed name stop old new
 
-module _ {R F O W V : Type 0} (remaining : R → Option (List ℕ)) (reads : R → Result (List ℕ) Reason → R → Type 0)
+module _ {R F O N W V : Type 0} (remaining : R → Option (List ℕ)) (reads : R → Result (List ℕ) Reason → R → Type 0)
     (opens : F → List ℕ → Result O Reason → F → Type 0) (file_remaining : O → Option (List ℕ))
     (file_reads : O → Result (List ℕ) Reason → O → Type 0) (holds : F → List ℕ → Option (List ℕ))
+    (refuses : F → Reason → F → Type 0) (copy_writes : N → List ℕ → Result ℕ Reason → N → Type 0) (is_beside : F → List ℕ → List ℕ → Type 0)
     (contents : W → Option (List ℕ)) (writes : W → List ℕ → Result ℕ Reason → W → Type 0)
     (fault_writes : V → List ℕ → Result ℕ Reason → V → Type 0) where
   -- a page is read and used, or can't be read
   pub data IsHandled (task : Task) (name : List ℕ) (old new : World R F W V) : Result Bool Halt → Type 0 where
     used : (page : List ℕ) (middle : World R F W V) (end : Result Bool Halt)
         → IsFetched remaining reads opens file_remaining file_reads holds name page old middle
-        → IsUsed contents writes fault_writes holds (task_for task name) name page middle.rest new.rest end
+        → IsUsed contents writes fault_writes refuses file_reads copy_writes holds is_beside (task_for task name) name page middle.rest new.rest end
         → new.input ≡ middle.input → IsHandled task name old new end
     missed : (stop : Stop) → IsMissed remaining reads opens file_remaining file_reads holds name stop old new
         → IsHandled task name old new (Err (OfPage stop))
 
-  -- So are the pages of these names, one after another, up to the first that is not done. Memory may be refused before them.
-  pub data AreHandled (task : Task) (names : List (List ℕ)) (old new : World R F W V) : Result Bool (List ℕ × Halt) → Type 0 where
-    in_turn : (end : Result Bool (List ℕ × Halt)) → AreSteps (IsHandled task) names old new end → AreHandled task names old new end
-    not_begun : new ≡ old → AreHandled task names old new (Err ([], OfPage Memory))
+  -- these parts were given to the faults, and nothing else was done
+  pub record IsReported (parts : List (List ℕ)) (old new : World R F W V) : Type 0 where
+    pub is_given : AreGiven fault_writes old.rest.faults parts new.rest.faults
+    pub same_input : new.input ≡ old.input
+    pub same_files : new.rest.files ≡ old.rest.files
+    pub same_output : new.rest.output ≡ old.rest.output
 
--- the status of a run that is done: whether a page would change
-abbrev pub status_of : Bool → ℕ
-status_of true = 1
-status_of false = 0
+  -- What came of the page of a name. Where it is not done the faults are given why.
+  pub data IsTried (task : Task) (name : List ℕ) (old new : World R F W V) : Came → Type 0 where
+    is_done : (changes : Bool) → IsHandled task name old new (Ok changes) → IsTried task name old new (came_of changes)
+    not_done : (halt : Halt) (middle : World R F W V) → IsHandled task name old middle (Err halt) → IsReported (halt_parts name halt) middle new
+        → IsTried task name old new (came_at halt)
+
+  -- What came of the pages of names: each is tried, one after another, up to the first at which the output can't be written. What came of
+  -- all is the worst that came of one.
+  pub data AreTried (task : Task) : List (List ℕ) → World R F W V → World R F W V → Came → Type 0 where
+    none_left : (at : World R F W V) → AreTried task [] at at Done
+    tried : (name : List ℕ) (names : List (List ℕ)) (old middle new : World R F W V) (one more : Came)
+        → IsTried task name old middle one → AreTried task names middle new more → AreTried task (name ∷ names) old new (worse one more)
+    last_tried : (name : List ℕ) (names : List (List ℕ)) (old new : World R F W V)
+        → IsTried task name old new HasNoOutput → AreTried task (name ∷ names) old new HasNoOutput
+
+  -- Memory may be refused before them.
+  pub data AreHandled (task : Task) (names : List (List ℕ)) (old new : World R F W V) : Came → Type 0 where
+    in_turn : (came : Came) → AreTried task names old new came → AreHandled task names old new came
+    not_begun : IsReported (halt_parts [] (OfPage Memory)) old new → AreHandled task names old new IsNotDone

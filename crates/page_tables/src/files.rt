@@ -1,18 +1,18 @@
 //! Files that are read and replaced by their names.
-ghost use Rattle.std.specs.Prelude.{◌≡◌, ℕ, List, [], Option, Some, Result, IfOk, IfErr, IfSome};
+ghost use Rattle.std.specs.Prelude.{◌≡◌, ℕ, List, [], Option, Some, None, Result, IfOk, IfErr, IfSome};
 ghost use Rattle.program_faults.specs.declared.reasons.Reason.{Reason};
 ghost use Rattle.page_tables.specs.Files.{AreKept, AreOthersKept};
 
 use program_faults::{Reason, StepReader, StepWriter};
 
-/// What reads the files that the command line names, and replaces them. Two names are those of two
+/// What reads the files that the command line names, and writes over them. Two names are those of two
 /// files here: what a name that leads to the same file as another holds is not said.
 pub trait ReplacesFiles {
     /// An open file.
     type File: StepReader + Drop;
 
-    /// A new file, whose name nothing else has. It can't be let go: it gets the name of the file that
-    /// it replaces, or it is removed.
+    /// A new file, whose name nothing else has. It can't be let go: it is removed, or left where it
+    /// is.
     type NewFile: StepWriter;
 
     // What the file of a name holds, where that is known.
@@ -22,8 +22,15 @@ pub trait ReplacesFiles {
     // reason.
     ghost opens: { Self → List ℕ → Result Self.File Reason → Self → Type 0 };
 
+    // From one state to the other by a step that is refused for this reason: a file is not made, not
+    // opened, not written over, or not brought to the disk.
+    ghost refuses: { Self → Reason → Self → Type 0 };
+
     // All that was written to it is on the disk.
     ghost is_synced: { Self.NewFile → Type 0 };
+
+    // Beside the file of this name is one that holds these bytes, all of it on the disk.
+    ghost is_beside: { Self → List ℕ → List ℕ → Type 0 };
 
     /// Opens the file of this name to be read from its front, or answers why it can't.
     fn open_named(&mut self, name: &str) -> Result<Self::File, Reason>
@@ -32,27 +39,53 @@ pub trait ReplacesFiles {
             Self.File.remaining file ≡ holds self.old name.now) }
         ensures kept { AreKept holds self.old self.new };
 
-    /// Makes a new file beside the one of this name, with its permissions.
+    /// Opens it to be read from its front, and to be written over.
+    fn open_over(&mut self, name: &str) -> Result<Self::File, Reason>
+        ensures bytes { IfOk result (λ file.
+            Self.File.remaining file ≡ holds self.old name.now) }
+        ensures refused { IfErr result (λ why. refuses self.old why self.new) }
+        ensures kept { AreKept holds self.old self.new };
+
+    /// Makes a new file beside the one of this name, which its owner alone may read.
     fn create_beside(&mut self, name: &str) -> Result<Self::NewFile, Reason>
         ensures empty { IfOk result (λ file. IfSome (holds self.old name.now) (λ _.
             Self.NewFile.contents file ≡ Some [])) }
+        ensures refused { IfErr result (λ why. refuses self.old why self.new) }
         ensures kept { AreKept holds self.old self.new };
 
-    /// Brings all that was written to the file to the disk.
+    /// Brings all that was written to the new file to the disk.
     fn sync(&mut self, file: &mut Self::NewFile) -> Result<(), Reason>
         ensures synced { IfOk result (λ _. is_synced file.new) }
+        ensures refused { IfErr result (λ why. refuses self.old why self.new) }
         ensures bytes { Self.NewFile.contents file.new ≡ Self.NewFile.contents file.old }
         ensures kept { AreKept holds self.old self.new };
 
-    /// Gives a new file the name of the one that it replaces, or removes it and answers why.
-    fn put(&mut self, file: Self::NewFile, name: &str) -> Result<(), Reason>
-        requires { is_synced file }
-        ensures put { IfOk result (λ _.
-            holds self.new name.now ≡ Self.NewFile.contents file) }
-        ensures others { AreOthersKept holds name.now self.old self.new }
-        ensures refused { IfErr result (λ _. AreKept holds self.old self.new) };
+    /// Writes these bytes over all that the file of this name holds, of which there is a copy, and
+    /// brings them to the disk. Where that is refused it isn't known what the file holds then.
+    fn write_over(
+        &mut self,
+        file: &mut Self::File,
+        name: &str,
+        copy: &Self::NewFile,
+        bytes: &[u8],
+    ) -> Result<(), Reason>
+        requires synced { is_synced copy.now }
+        requires copied { IfSome (holds self.old name.now) (λ before.
+            Self.NewFile.contents copy.now ≡ Some before) }
+        ensures written { IfOk result (λ _. IfSome (Self.NewFile.contents copy.now) (λ _.
+            holds self.new name.now ≡ Some bytes.now)) }
+        ensures unknown { IfErr result (λ _. holds self.new name.now ≡ None) }
+        ensures refused { IfErr result (λ why. refuses self.old why self.new) }
+        ensures others { AreOthersKept holds name.now self.old self.new };
 
     /// Removes a new file.
     fn remove(&mut self, file: Self::NewFile)
         ensures { AreKept holds self.old self.new };
+
+    /// Leaves a new file where it is, beside the file of this name.
+    fn leave(&mut self, file: Self::NewFile, name: &str)
+        requires { is_synced file }
+        ensures beside { IfSome (Self.NewFile.contents file) (λ bytes.
+            is_beside self.new name.now bytes) }
+        ensures kept { AreKept holds self.old self.new };
 }

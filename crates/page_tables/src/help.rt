@@ -2,26 +2,30 @@
 
 /// What is written on standard error after the name of an option that is not known.
 pub const USAGE: &str = "
-usage: cmark_tables [--check | --write] [--] [FILE ..]
-       cmark_tables -h | --help | --version
+usage: fillaqut tables [--check | --write] [--] [FILE ..]
+       fillaqut tables -h | --help | --version
 ";
 
 /// What `--version` prints.
-pub const VERSION: &str = "cmark_tables 0.1.0\n";
+pub const VERSION: &str = "fillaqut 0.1.0\n";
 
 /// What `--help` prints.
 pub const HELP: &str = "\
-usage: cmark_tables [--check | --write] [--] [FILE ..]
-       cmark_tables -h | --help | --version
+usage: fillaqut tables [--check | --write] [--] [FILE ..]
+       fillaqut tables -h | --help | --version
 
 Prints a page of Markdown with its tables laid out: columns as wide as their widest cell, their
 contents aligned as the delimiter row says, with a pipe on each side; short rows are filled. Nothing
 else of the page is changed.
 
 With --check nothing is printed but FILE:LINE:COLUMN of the head of each table that is not laid out.
-With --write each file whose page changes is replaced, and nothing is printed: a new file beside it
-is written, brought to the disk and given its name and permissions; where a step is refused the file
-stands as it was. Standard input is printed then. With both options nothing is written.
+With --write each file whose page changes is written over, and nothing is printed: its owner, its
+permissions and all else of it stay. While it is written a copy of what it held is beside it, in a
+file of the name .FILE.N.old, which is on the disk before and removed after: where the program is
+cut off, the copy has all of the old text, unless the file has all of the old or of the new. A file
+that has changed since it was read is left as it is, and so is one whose copy can't be made; where it
+can't be written the old text is written back. Standard input is printed then. With both options
+nothing is written.
 
 A table with a row of more cells than columns, or of none, is left as it is, and standard error has
 FILE:LINE:COLUMN of the row. The tables of the page printed have the same cells in the same rows and
@@ -31,10 +35,10 @@ UTF-8, is left as it is, and standard error says so.
 FILE is a page; - is standard input, and so is no FILE. What is printed of the pages follows one
 another. After the word -- all words are files.
 
-A page is read whole before anything is done with it. Where a page can't be read, memory is refused,
-the output can't be written or a file can't be replaced, the program stops and says why on standard
-error, unless the reader of the output has left.
+A page is read whole before anything is done with it. Where a page can't be read, memory is refused
+or a file is not written over, the program says why on standard error and goes on with the next page.
+Where the output can't be written it stops, and says why unless the reader of the output has left.
 
 The status is 0 where all is done, 1 where --check found a table that is not laid out, 2 for an
-option that is not known, and 3 where the program stopped.
+option that is not known, and 3 where a page is not done.
 ";

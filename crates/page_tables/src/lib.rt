@@ -1,4 +1,4 @@
-//! What `cmark_tables` does with pages of Markdown: their tables are laid out.
+//! What `fillaqut tables` does with pages of Markdown: their tables are laid out.
 #![tactic(auto)]
 
 mod cells;

@@ -1,10 +1,11 @@
 //! The lines that are written of a page, as editors take them.
 ghost use Rattle.std.specs.Prelude.{◌≡◌, ◌++◌, OnOk, string_bytes};
-ghost use Rattle.page_links.specs.positions.private.Lines.{IsLineOf};
+ghost use Rattle.markdown_blocks.specs.byte_order_mark.ByteOrderMark.{text_of};
+ghost use Rattle.page_positions.specs.private.Lines.{IsLineOf};
 ghost use Rattle.page_tables.specs.Reports.{change_line, change_lines, left_line, line_at, misfit_line, misfit_lines, misfit_words, not_text_line};
 
 use crate::misfits::Misfit;
-use page_links::positions::{Line, Position, position_at};
+use page_positions::{Line, Position, text_position_at};
 use std::alloc::AllocError;
 
 /// Adds a line for each table that changes, whose heads begin at these offsets of the page.
@@ -17,7 +18,7 @@ pub(crate) fn push_changes(
     ensures { OnOk result (string_bytes text.new
         ≡ string_bytes text.old ++ change_lines name.now page.now heads.now) }
 {
-    let mut line = Line::first(page);
+    let mut line = Line::first_of_text(page);
     for head in heads {
         push_change(text, name, page, &mut line, *head)?;
     }
@@ -32,12 +33,12 @@ fn push_change(
     line: &mut Line,
     offset: usize,
 ) -> Result<(), AllocError>
-    requires line { IsLineOf page.now line.old }
-    ensures line { IsLineOf page.now line.new }
+    requires line { IsLineOf (text_of page.now) line.old }
+    ensures line { IsLineOf (text_of page.now) line.new }
     ensures written { OnOk result (string_bytes text.new
         ≡ string_bytes text.old ++ change_line name.now page.now offset) }
 {
-    let position = position_at(page, line, offset);
+    let position = text_position_at(page, line, offset);
     push_line(text, name, position, "table is not laid out")
 }
 
@@ -51,7 +52,7 @@ pub(crate) fn push_misfits(
     ensures { OnOk result (string_bytes text.new
         ≡ string_bytes text.old ++ misfit_lines name.now page.now rows.now) }
 {
-    let mut line = Line::first(page);
+    let mut line = Line::first_of_text(page);
     for row in rows {
         push_misfit(text, name, page, &mut line, *row)?;
     }
@@ -66,12 +67,12 @@ fn push_misfit(
     line: &mut Line,
     row: Misfit,
 ) -> Result<(), AllocError>
-    requires line { IsLineOf page.now line.old }
-    ensures line { IsLineOf page.now line.new }
+    requires line { IsLineOf (text_of page.now) line.old }
+    ensures line { IsLineOf (text_of page.now) line.new }
     ensures written { OnOk result (string_bytes text.new
         ≡ string_bytes text.old ++ misfit_line name.now page.now row) }
 {
-    let position = position_at(page, line, row.start);
+    let position = text_position_at(page, line, row.start);
     push_line(text, name, position, misfit_words(row.has_cell))
 }
 

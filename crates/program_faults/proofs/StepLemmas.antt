@@ -1,13 +1,13 @@
 -- What is left of a line after a write, and reads one after another.
 use Rattle.std.proofs.Common.{◌≡◌, ℕ, suc, ◌+◌, ◌-◌, ◌<◌, ◌==◌, true, false, List, [], ◌∷◌, ◌++◌, length, take, drop, Option, Some, None}
-use Rattle.std.proofs.Common.{refl, sym, ap, subst, ◌∙◌, arith, append_assoc, append-nil}
+use Rattle.std.proofs.Common.{refl, sym, ap, subst, ◌∙◌, arith, add-one, append_assoc, append-nil}
 use Rattle.std.specs.Io.KnownBytes.{Appends, Keeps}
 use Rattle.std.proofs.lemmas.Bool.{eqb-true}
 use Rattle.std.proofs.lemmas.List.{length-drop, take_all, take-append-drop}
 use Rattle.program_faults.specs.Faults.{AppendsBefore}
 use Rattle.std.specs.Prelude.{Result, Ok, Err}
 use Rattle.program_faults.specs.declared.reasons.Reason.{Reason}
-use Rattle.program_faults.specs.Steps.{AreReads, no_read, read, IsGiven, nothing_left, refused, failed, taken}
+use Rattle.program_faults.specs.Steps.{AreReads, AreWrites, no_read, read, write, IsGiven, nothing_left, refused, failed, taken}
 
 -- what a slice takes from a place on is all that is after it
 whole_rest : (bytes : List ℕ) (i : ℕ) → take (length bytes - i) (drop i bytes) ≡ drop i bytes
@@ -67,6 +67,11 @@ module _ {W : Type 0} (writes : W → List ℕ → Result ℕ Reason → W → T
       → IsGiven writes middle (take (length rest - count) (drop count rest)) new → IsGiven writes old rest new
   given-taken old middle new rest count some step more =
       taken old middle new rest count (omega (arith, some)) step (subst (λ r. IsGiven writes middle r new) (whole_rest rest count) more)
+
+  -- one more write
+  pub writes-more : (count : ℕ) (old middle new : W) (bytes : List ℕ) (given : Result ℕ Reason) → AreWrites writes count old middle → writes middle bytes given new
+      → AreWrites writes (count + 1) old new
+  writes-more count old middle new bytes given made step = rw add-one (write count old middle new bytes given made step)
 
 module _ {R : Type 0} (reads : R → Result (List ℕ) Reason → R → Type 0) where
   -- a read more

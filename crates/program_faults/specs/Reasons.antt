@@ -4,7 +4,8 @@ use Rattle.std.specs.declared.io.ErrorKind.{ErrorKind}
 use Rattle.std.specs.declared.io.ErrorKind.TheVariants as kind
 use Rattle.program_faults.specs.declared.reasons.Reason.{Reason}
 use Rattle.program_faults.specs.declared.reasons.Reason.TheVariants.{NotFound, Denied, Folder, NotFolder, Links, LongName}
-use Rattle.program_faults.specs.declared.reasons.Reason.TheVariants.{Interrupted, Waits, Full, NotRead, Invalid, Memory, Other}
+use Rattle.program_faults.specs.declared.reasons.Reason.TheVariants.{Interrupted, Waits, Full, Quota, TooLarge, ReadOnly}
+use Rattle.program_faults.specs.declared.reasons.Reason.TheVariants.{Busy, Runs, Exists, OtherDevice, NotRead, Invalid, Memory, Other}
 
 -- the reason of an error of this kind
 abbrev pub reason_of : ErrorKind → Reason
@@ -17,6 +18,13 @@ reason_of kind.InvalidFilename = LongName
 reason_of kind.Interrupted = Interrupted
 reason_of kind.WouldBlock = Waits
 reason_of kind.StorageFull = Full
+reason_of kind.QuotaExceeded = Quota
+reason_of kind.FileTooLarge = TooLarge
+reason_of kind.ReadOnlyFilesystem = ReadOnly
+reason_of kind.ResourceBusy = Busy
+reason_of kind.ExecutableFileBusy = Runs
+reason_of kind.AlreadyExists = Exists
+reason_of kind.CrossesDevices = OtherDevice
 reason_of kind.BrokenPipe = NotRead
 reason_of kind.InvalidInput = Invalid
 reason_of kind.OutOfMemory = Memory
@@ -33,6 +41,13 @@ reason_text LongName = codes "File name too long"
 reason_text Interrupted = codes "Interrupted system call"
 reason_text Waits = codes "Resource temporarily unavailable"
 reason_text Full = codes "No space left on device"
+reason_text Quota = codes "Disk quota exceeded"
+reason_text TooLarge = codes "File too large"
+reason_text ReadOnly = codes "Read-only file system"
+reason_text Busy = codes "Device or resource busy"
+reason_text Runs = codes "Text file busy"
+reason_text Exists = codes "File exists"
+reason_text OtherDevice = codes "Invalid cross-device link"
 reason_text NotRead = codes "Broken pipe"
 reason_text Invalid = codes "Invalid argument"
 reason_text Memory = codes "Cannot allocate memory"

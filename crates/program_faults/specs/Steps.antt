@@ -1,7 +1,7 @@
 -- Reads and writes, one after another.
 use Rattle.std.specs.Prelude.{ℕ, suc, ◌≡◌, ◌⊎◌, ◌<◌, List, [], ◌∷◌, length, take, drop, Result, Ok, Err}
 use Rattle.program_faults.specs.declared.reasons.Reason.{Reason}
-use Rattle.program_faults.specs.declared.reasons.Reason.TheVariants.{Other}
+use Rattle.program_faults.specs.declared.reasons.Reason.TheVariants.{Interrupted, Other}
 
 -- the bytes that a read gave at the front of its buffer, or why it failed
 abbrev pub bytes_read : Result ℕ Reason → List ℕ → Result (List ℕ) Reason
@@ -41,3 +41,13 @@ module _ {W : Type 0} (writes : W → List ℕ → Result ℕ Reason → W → T
   abbrev pub HasRefused : Reason → W → Type 0
   HasRefused reason new = (old : W) × (bytes : List ℕ) × (writes old bytes (Err reason) new ⊎ (0 < length bytes × (reason ≡ Other)
       × writes old bytes (Ok 0) new))
+
+  -- from one state to the other by so many writes
+  pub data AreWrites : ℕ → W → W → Type 0 where
+    no_write : (at : W) → AreWrites 0 at at
+    write : (count : ℕ) (old middle new : W) (bytes : List ℕ) (given : Result ℕ Reason) → AreWrites count old middle → writes middle bytes given new
+        → AreWrites (suc count) old new
+
+  -- Why no more is written: the last write was refused for this reason; or it was interrupted, and as many were made as are made.
+  abbrev pub CantWrite : Reason → W → Type 0
+  CantWrite reason new = HasRefused reason new ⊎ ((reason ≡ Interrupted) × (old : W) × AreWrites 18446744073709551615 old new)

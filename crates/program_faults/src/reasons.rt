@@ -25,6 +25,20 @@ pub enum Reason {
     Waits,
     /// The device is full.
     Full,
+    /// Its user has no more room on the device.
+    Quota,
+    /// It would be larger than a file may be.
+    TooLarge,
+    /// Its device can't be written.
+    ReadOnly,
+    /// It is in use.
+    Busy,
+    /// It is a program that runs.
+    Runs,
+    /// It is there already.
+    Exists,
+    /// It is on another device.
+    OtherDevice,
     /// Nobody reads what is written.
     NotRead,
     /// It can't be used in this way.
@@ -50,6 +64,13 @@ impl Reason {
             Reason::Interrupted => ": Interrupted system call\n",
             Reason::Waits => ": Resource temporarily unavailable\n",
             Reason::Full => ": No space left on device\n",
+            Reason::Quota => ": Disk quota exceeded\n",
+            Reason::TooLarge => ": File too large\n",
+            Reason::ReadOnly => ": Read-only file system\n",
+            Reason::Busy => ": Device or resource busy\n",
+            Reason::Runs => ": Text file busy\n",
+            Reason::Exists => ": File exists\n",
+            Reason::OtherDevice => ": Invalid cross-device link\n",
             Reason::NotRead => ": Broken pipe\n",
             Reason::Invalid => ": Invalid argument\n",
             Reason::Memory => ": Cannot allocate memory\n",
@@ -72,6 +93,13 @@ pub fn reason_of(kind: ErrorKind) -> Reason
         ErrorKind::Interrupted => Reason::Interrupted,
         ErrorKind::WouldBlock => Reason::Waits,
         ErrorKind::StorageFull => Reason::Full,
+        ErrorKind::QuotaExceeded => Reason::Quota,
+        ErrorKind::FileTooLarge => Reason::TooLarge,
+        ErrorKind::ReadOnlyFilesystem => Reason::ReadOnly,
+        ErrorKind::ResourceBusy => Reason::Busy,
+        ErrorKind::ExecutableFileBusy => Reason::Runs,
+        ErrorKind::AlreadyExists => Reason::Exists,
+        ErrorKind::CrossesDevices => Reason::OtherDevice,
         ErrorKind::BrokenPipe => Reason::NotRead,
         ErrorKind::InvalidInput => Reason::Invalid,
         ErrorKind::OutOfMemory => Reason::Memory,

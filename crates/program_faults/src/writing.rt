@@ -1,8 +1,8 @@
 //! Writing bytes whole.
-ghost use Rattle.std.specs.Prelude.{◌≢◌, IfErr, OnOk};
+ghost use Rattle.std.specs.Prelude.{IfErr, OnOk};
 ghost use Rattle.std.specs.Io.KnownBytes.{Appends};
 ghost use Rattle.program_faults.specs.Faults.{AppendsPrefix};
-ghost use Rattle.program_faults.specs.Steps.{HasRefused};
+ghost use Rattle.program_faults.specs.Steps.{CantWrite};
 
 use crate::reasons::Reason;
 use crate::steps::StepWriter;
@@ -12,8 +12,7 @@ pub fn write_whole<W: StepWriter>(output: &mut W, text: &str) -> Result<(), Reas
     ensures written { OnOk result (Appends (W.contents output.old)
         (W.contents output.new) text.now) }
     ensures front { AppendsPrefix (W.contents output.old) (W.contents output.new) text.now }
-    ensures refused { IfErr result (λ reason. reason ≢ Reason.Interrupted
-        → HasRefused W.writes reason output.new) }
+    ensures refused { IfErr result (λ reason. CantWrite W.writes reason output.new) }
 {
     write_bytes(output, text.as_bytes())
 }
@@ -24,11 +23,10 @@ pub fn write_bytes<W: StepWriter>(output: &mut W, bytes: &[u8]) -> Result<(), Re
     ensures written { OnOk result (Appends (W.contents output.old)
         (W.contents output.new) bytes.now) }
     ensures front { AppendsPrefix (W.contents output.old) (W.contents output.new) bytes.now }
-    ensures refused { IfErr result (λ reason. reason ≢ Reason.Interrupted
-        → HasRefused W.writes reason output.new) }
+    ensures refused { IfErr result (λ reason. CantWrite W.writes reason output.new) }
 {
     let mut rest = bytes;
-    for _ in 0..u64::MAX {
+    for _round in 0..u64::MAX {
         if rest.is_empty() {
             return Ok(());
         }

@@ -16,6 +16,7 @@ use Rattle.markdown_blocks.specs.declared.containers.Container.{Container}
 use Rattle.markdown_blocks.specs.declared.step.Step.{Step}
 use Rattle.markdown_blocks.specs.declared.taken.Taken.{Taken}
 use Rattle.markdown_blocks.specs.definitions.Definitions.{IsDefinition}
+use Rattle.markdown_blocks.specs.byte_order_mark.ByteOrderMark.{text_of, text_start}
 use Rattle.markdown_blocks.specs.blocks.Pages.{Piece, IsFront, IsPage, IsPiece, AreBlocks, lines_in, root}
 use Rattle.markdown_blocks.specs.events.Events.{Event, leaf, ends, LeafBlock, Part, AreLeaves, AreLeavesOf, IsEventsOf}
 use Rattle.markdown_blocks.specs.events.Events.{first_lines, later_lines, leaf_of, lines_taken}
@@ -29,7 +30,7 @@ use Rattle.markdown_blocks.proofs.taken.TakenLemmas.{lines_bytes}
 use Rattle.page_blocks.specs.declared.words.Form.{Form}
 use Rattle.page_blocks.specs.page.Going.{GoesOnPrinting}
 use Rattle.page_blocks.specs.page.Printed.{Place, Printed, place_of, place_after, after, after_all, ended_line, event_lines, lines_of_events}
-use Rattle.page_blocks.specs.page.Printed.{last_lines, lines_to_end, the_front, PrintsFront, PrintsPage}
+use Rattle.page_blocks.specs.page.Printed.{front_of, last_lines, lines_to_end, PrintsFront, PrintsPage}
 
 -- events that are printed one after the other
 pub lines-append : (form : Form) (p : Printed) (shown later : List Shown)
@@ -178,7 +179,7 @@ module _ (form : Form) (outer now : Between) (before : Taken) (lists : Tracked) 
       record {
         pieces = whole.pieces;
         shown = whole.shown;
-        are_its_blocks = subst (λ a. IsFront a page whole.pieces rest) (sym on) whole.are_its_blocks;
+        are_its_blocks = subst (λ a. IsFront a (text_of page) whole.pieces rest) (sym on) whole.are_its_blocks;
         are_their_events = whole.are_their_events;
         lines = ap (λ t. t ++ lines_of_events form next others) prints
             ∙ ap (λ (q : Printed). (text ++ lines_of_events form so_far shown) ++ lines_of_events form q others) is_next
@@ -188,8 +189,8 @@ module _ (form : Form) (outer now : Between) (before : Taken) (lists : Tracked) 
         open_now = ap (λ (o : Between). open_after (length o.containers) later) s.open_now ∙ whole.open_now;
       }
 
-pub printing-first : (form : Form) (page : List ℕ) (p : Printed) (outer : Between) (text : List ℕ) → p ≡ the_front → outer ≡ root outer.extensions → text ≡ []
-    → GoesOnPrinting form page text p outer (lines_of page)
+pub printing-first : (form : Form) (page : List ℕ) (p : Printed) (outer : Between) (text : List ℕ) → p ≡ front_of (text_start page)
+    → outer ≡ root outer.extensions → text ≡ [] → GoesOnPrinting form page text p outer (lines_of (text_of page))
 unfolding GoesOnPrinting
 printing-first form page p outer text front none empty later shown rest is each are = record {
   pieces = later;
@@ -214,7 +215,7 @@ printing-front asked form other page text words p outer lines same on is goes =
       shown = whole.shown;
       are_its_blocks = whole.are_its_blocks;
       are_their_events = whole.are_their_events;
-      lines = sym is ∙ sym (append-nil text) ∙ whole.lines ∙ ap (λ f. lines_of_events f the_front whole.shown) same;
+      lines = sym is ∙ sym (append-nil text) ∙ whole.lines ∙ ap (λ f. lines_of_events f (front_of (text_start page)) whole.shown) same;
     }
 
 -- the lines to the end of a page, of which the first events are printed
@@ -232,7 +233,7 @@ unfolding GoesOnPrinting
 printing-page form page text longer p outer prints goes =
     let whole = goes [] [] [] refl tt refl in
     let last : List Shown = replicate (open_after 0 whole.pieces) end_shown in
-    let is_page : IsPage outer.extensions page whole.pieces =
+    let is_page : IsPage outer.extensions (text_of page) whole.pieces =
     record { joined = sym (append-nil _) ∙ whole.are_its_blocks.joined; each = whole.are_its_blocks.each } in
     let all : IsShownOf outer.extensions page (whole.shown ++ last) = (whole.pieces, whole.shown, is_page, whole.are_their_events, refl) in
     let are : IsEventsOf outer.extensions page (events_in (whole.shown ++ last)) = page_shown outer.extensions page (whole.shown ++ last) all in
@@ -243,8 +244,8 @@ printing-page form page text longer p outer prints goes =
       are_its_lists = (nodes.0, subst (IsEventsOf outer.extensions page) nodes.1 are, ap (lists_behind at_start) nodes.1 ∙ page_lists nodes.0);
       lines = prints ∙ ap (λ n. text ++ last_lines form p n) whole.open_now
           ∙ ap (λ (q : Printed). text ++ lines_to_end form q last) whole.so_far
-          ∙ ap (λ t. t ++ lines_to_end form (after_all the_front whole.shown) last) (sym (append-nil text) ∙ whole.lines)
-          ∙ to_end form the_front whole.shown last;
+          ∙ ap (λ t. t ++ lines_to_end form (after_all (front_of (text_start page)) whole.shown) last) (sym (append-nil text) ∙ whole.lines)
+          ∙ to_end form (front_of (text_start page)) whole.shown last;
     }
 
 -- the lines of one more container's end

@@ -1,13 +1,14 @@
 -- How a page is printed block by block.
 use Rattle.std.specs.Prelude.{ℕ, ◌≡◌, List, [], ◌++◌, length, string_bytes}
 use Rattle.markdown_blocks.specs.blocks.Pages.{Piece, AreBlocks, IsFront, lines_in}
+use Rattle.markdown_blocks.specs.byte_order_mark.ByteOrderMark.{text_of, text_start}
 use Rattle.markdown_blocks.specs.containers.Containers.{Between}
 use Rattle.markdown_blocks.specs.declared.containers.BlockExtensions.{BlockExtensions}
 use Rattle.markdown_blocks.specs.events.Events.{open_after}
 use Rattle.markdown_blocks.specs.events.Shown.{AreShownOf, Shown}
 use Rattle.page_blocks.specs.declared.page.Printing.{Printing}
 use Rattle.page_blocks.specs.declared.words.Form.{Form}
-use Rattle.page_blocks.specs.page.Printed.{Printed, lines_of_events, after_all, the_front}
+use Rattle.page_blocks.specs.page.Printed.{Printed, lines_of_events, after_all, front_of}
 use Rattle.page_blocks.specs.printer.Printers.{printed_of}
 
 -- With these extensions on, the text has the lines of the events of blocks at the front of the page, and these lines follow them. So far the page is printed
@@ -15,10 +16,10 @@ use Rattle.page_blocks.specs.printer.Printers.{printed_of}
 pub record IsPrinted (asked : BlockExtensions) (form : Form) (page text : List ℕ) (p : Printed) (depth : ℕ) (rest : List (List ℕ)) : Type 0 where
   pub pieces : List Piece
   pub shown : List Shown
-  pub are_its_blocks : IsFront asked page pieces rest
-  pub are_their_events : AreShownOf [] 0 0 pieces shown
-  pub lines : text ≡ lines_of_events form the_front shown
-  pub so_far : p ≡ after_all the_front shown
+  pub are_its_blocks : IsFront asked (text_of page) pieces rest
+  pub are_their_events : AreShownOf [] 0 (text_start page) pieces shown
+  pub lines : text ≡ lines_of_events form (front_of (text_start page)) shown
+  pub so_far : p ≡ after_all (front_of (text_start page)) shown
   pub open_now : depth ≡ open_after 0 pieces
 
 -- The text prints a page as far as these lines, before which the page is printed so far and these containers are open: whatever

@@ -21,6 +21,7 @@ use Rattle.markdown_blocks.specs.lists.Tracked.{Tracked, at_start, read, closed,
 use Rattle.page_blocks.specs.declared.words.Form.{Form}
 use Rattle.page_blocks.specs.declared.words.Form.TheVariants.{Words, Json}
 use Rattle.markdown_blocks.specs.blocks.Pages.{Piece, IsFront}
+use Rattle.markdown_blocks.specs.byte_order_mark.ByteOrderMark.{text_of, text_start}
 use Rattle.markdown_blocks.specs.info.Info.{info_of}
 use Rattle.markdown_blocks.specs.declared.taken.Taken.{Taken}
 use Rattle.page_blocks.specs.info.Info.{bytes_text}
@@ -153,9 +154,9 @@ pub record Printed : Type 0 where
   pub at : Place
   pub lists : Tracked
 
--- nothing of it
-abbrev pub the_front : Printed
-the_front = record { at = record { lines = 0; bytes = 0 }; lists = at_start }
+-- nothing of it, where its text begins after so many bytes
+abbrev pub front_of : ℕ → Printed
+front_of start = record { at = record { lines = 0; bytes = start }; lists = at_start }
 
 -- how much of the page stands before what follows an event
 abbrev pub place_after : Place → Event → Place
@@ -195,9 +196,9 @@ lines_to_end form p shown = lines_of_events form p shown ++ ended_line form (clo
 abbrev pub last_lines : Form → Printed → ℕ → List ℕ
 last_lines form p depth = lines_to_end form p (replicate depth end_shown)
 
--- the lines of the events of a page, and of its lists
-abbrev pub page_lines : Form → List Shown → List ℕ
-page_lines form shown = lines_to_end form the_front shown
+-- the lines of the events of a page whose text begins after so many bytes, and of its lists
+abbrev pub page_lines : Form → ℕ → List Shown → List ℕ
+page_lines form start shown = lines_to_end form (front_of start) shown
 
 -- what is printed before the lines of a page of this name, of so many pages: as JSON its name, where there are two or more
 abbrev pub title_of : Form → ℕ → List ℕ → List ℕ
@@ -209,7 +210,7 @@ pub record PrintsPage (asked : BlockExtensions) (form : Form) (input text : List
   pub shown : List Shown
   pub are_its_events : IsShownOf asked input shown
   pub are_its_lists : AreListsOf asked input (lists_behind at_start (events_in shown))
-  pub lines : text ≡ page_lines form shown
+  pub lines : text ≡ page_lines form (text_start input) shown
 
 -- known bytes grow by the title and by a text that has the lines of the page
 abbrev pub IsPrintedTo : BlockExtensions → Form → List ℕ → List ℕ → Option (List ℕ) → Option (List ℕ) → Type 0
@@ -220,9 +221,9 @@ pub record PrintsFront (asked : BlockExtensions) (form : Form) (input text : Lis
   pub pieces : List Piece
   pub rest : List (List ℕ)
   pub shown : List Shown
-  pub are_its_blocks : IsFront asked input pieces rest
-  pub are_their_events : AreShownOf [] 0 0 pieces shown
-  pub lines : text ≡ lines_of_events form the_front shown
+  pub are_its_blocks : IsFront asked (text_of input) pieces rest
+  pub are_their_events : AreShownOf [] 0 (text_start input) pieces shown
+  pub lines : text ≡ lines_of_events form (front_of (text_start input)) shown
 
 -- Known bytes grow by the title and by a text that has the lines of blocks at the front of what was read of the input, whatever
 -- bytes follow that.

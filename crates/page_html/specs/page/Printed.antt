@@ -1,11 +1,12 @@
 -- What the program prints of a page.
-use Rattle.std.specs.Prelude.{ℕ, Bool, true, false, ◌≡◌, ◌⊎◌, List, ◌++◌, Option}
+use Rattle.std.specs.Prelude.{ℕ, Bool, true, false, ◌≡◌, ◌⊎◌, List, [], ◌++◌, Option}
 use Rattle.std.specs.Io.KnownBytes.{Appends}
 use Rattle.std.specs.Str.{IsUtf8}
 use Rattle.markdown_html.specs.PageHtml.{IsHtmlOf}
 use Rattle.markdown_html.specs.SafeHtml.{IsSafeHtml}
 use Rattle.markdown_html.specs.SafeSetting.{default_schemes, safe_setting}
 use Rattle.markdown_html.specs.Settings.{Setting, plain_setting}
+use Rattle.program_faults.specs.Faults.{AppendsPrefix}
 use Rattle.page_events.specs.declared.page.EventForm.TheVariants as EventForms
 use Rattle.page_events.specs.page.Printed as EventLines
 use Rattle.page_html.specs.declared.asked.Asked.{Asked}
@@ -40,3 +41,12 @@ pub record IsPrinted (asked : Asked) (page text : List ℕ) : Type 0 where
 -- known bytes grow by the title, which is empty, and by what is printed of the page
 abbrev pub IsPrintedTo : Asked → List ℕ → List ℕ → Option (List ℕ) → Option (List ℕ) → Type 0
 IsPrintedTo asked title page old new = (text : List ℕ) × IsPrinted asked page text × Appends old new (title ++ text)
+
+-- the safe HTML of pages, one after another
+pub data AreSafePages : List ℕ → Type 0 where
+  no_page : AreSafePages []
+  page : (html later : List ℕ) → IsSafeHtml default_schemes html → AreSafePages later → AreSafePages (html ++ later)
+
+-- Known bytes grow by such HTML, or by a part at its front.
+abbrev pub PrintsSafely : Option (List ℕ) → Option (List ℕ) → Type 0
+PrintsSafely old new = (html : List ℕ) × AreSafePages html × AppendsPrefix old new html

@@ -5,7 +5,6 @@ use Rattle.std.specs.Prelude.{map, replicate}
 use Rattle.std.specs.List.{flat_map, range_with_len}
 use Rattle.std.proofs.lemmas.List.{length-replicate}
 use Rattle.std.proofs.lemmas.List.FromFn.{length-range_with_len}
-use Rattle.markdown_scanners_tree.specs.Ascii.{space}
 use Rattle.markdown_scanners_tree.specs.line.State.{LineState}
 use Rattle.markdown_blocks.specs.containers.Containers.{after_marker}
 use Rattle.markdown_blocks.specs.content.Content.{Placed, IsContent, text_of, places_of, content_len, joined}
@@ -28,11 +27,11 @@ same_front (suc n) (x ∷ xs) (y ∷ ys) same = ap suc (same_front n xs ys cc)
 
 part_places : (p : Part) → length (places_of p) ≡ length (text_of p)
 part_places p =
-    let columns : length (replicate p.columns (p.place - 1)) ≡ length (replicate p.columns space) =
-    length-replicate p.columns (p.place - 1) ∙ sym (length-replicate p.columns space) in
+    let columns : length (replicate p.columns (p.place - 1)) ≡ length (replicate p.columns p.filler) =
+    length-replicate p.columns (p.place - 1) ∙ sym (length-replicate p.columns p.filler) in
     length-append (replicate p.columns (p.place - 1)) (range_with_len p.place (length p.bytes))
     ∙ ap₂ (λ m n. m + n) columns (length-range_with_len p.place (length p.bytes))
-    ∙ sym (length-append (replicate p.columns space) p.bytes)
+    ∙ sym (length-append (replicate p.columns p.filler) p.bytes)
 
 all_places : (parts : List Part) → length (flat_map places_of parts) ≡ length (flat_map text_of parts)
 all_places [] = refl

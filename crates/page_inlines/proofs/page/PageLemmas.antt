@@ -3,6 +3,7 @@ use Rattle.std.proofs.Common.{ℕ, List, [], ◌∷◌, ◌++◌, ◌+◌, ◌-�
 use Rattle.std.specs.List.{concat}
 use Rattle.markdown_scanners_tree.specs.scanners.TextLines.{lines_of}
 use Rattle.markdown_blocks.specs.blocks.Pages.{Piece, IsPiece, AreBlocks, lines_in, root}
+use Rattle.markdown_blocks.specs.byte_order_mark.ByteOrderMark.{text_of, text_start}
 use Rattle.markdown_blocks.specs.containers.Containers.{Between, behind, no_extensions}
 use Rattle.markdown_blocks.specs.declared.step.Step.{Step}
 use Rattle.markdown_blocks.specs.declared.taken.Taken.{Taken}
@@ -27,7 +28,8 @@ pub none_left : (known : Known) (page : List ℕ) (line start : ℕ) (open_now :
     → LeftText known page line start open_now rest []
 none_left known page line start open_now rest none = record { pieces = []; joined = sym (ap lines_of none); each = tt; is_text = refl }
 
-pub whole_page : (known : Known) (page text : List ℕ) → AreLabelsOf page known → LeftText known page 0 0 (root no_extensions) page text → IsPrinted page text
+pub whole_page : (known : Known) (page text : List ℕ) → AreLabelsOf page known
+    → LeftText known page 0 (text_start page) (root no_extensions) (text_of page) text → IsPrinted page text
 whole_page known page text labels left = record {
   known = known;
   are_its_labels = labels;

@@ -6,6 +6,7 @@ use Rattle.std.specs.Option.{is_some}
 use Rattle.std.specs.Str.{IsUtf8}
 use Rattle.markdown_scanners_tree.specs.scanners.TextLines.{lines_of}
 use Rattle.markdown_blocks.specs.blocks.Pages.{Piece, IsPage}
+use Rattle.markdown_blocks.specs.byte_order_mark.ByteOrderMark.{text_of, text_start}
 use Rattle.markdown_blocks.specs.content.Content.{Placed, IsContent}
 use Rattle.markdown_blocks.specs.containers.Containers.{no_extensions}
 use Rattle.markdown_blocks.specs.declared.containers.Container.{Container}
@@ -81,8 +82,8 @@ pub record IsPrinted (page text : List ℕ) : Type 0 where
   pub known : Known
   pub are_its_labels : AreLabelsOf page known
   pub pieces : List Piece
-  pub is_page : IsPage no_extensions page pieces
-  pub is_text : IsPiecesText known page 0 0 pieces text
+  pub is_page : IsPage no_extensions (text_of page) pieces
+  pub is_text : IsPiecesText known page 0 (text_start page) pieces text
 
 -- nothing is printed before a page
 abbrev pub no_title : List ℕ → List ℕ

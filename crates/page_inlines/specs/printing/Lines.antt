@@ -26,7 +26,7 @@ has_inlines (Setext level) = true
 has_inlines Paragraph = true
 has_inlines kind = false
 
--- the line of such a block in so many containers, as cmark_blocks has it
+-- the line of such a block in so many containers, as fillaqut blocks has it
 abbrev pub block_line : ℕ → LeafBlock → List ℕ
 block_line depth block =
     decimal (block.line + 1) ++ codes " " ++ decimal (block.line + block.lines) ++ codes " " ++ decimal depth ++ codes " "

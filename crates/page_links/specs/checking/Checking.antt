@@ -5,6 +5,7 @@ use Rattle.program_faults.specs.declared.reasons.Reason.{Reason}
 use Rattle.page_programs.specs.Runs.{PrintsAll, PrintsNamed}
 use Rattle.page_programs.specs.declared.stops.Stop.{Stop}
 use Rattle.page_events.specs.page.Printed.{is_unwritten}
+use Rattle.page_links.specs.declared.checks.FileState.{FileState}
 use Rattle.page_links.specs.declared.printing.LinkForm.{LinkForm}
 use Rattle.page_links.specs.page.Printed.{IsCheckedTo, by_name}
 
@@ -18,7 +19,7 @@ abbrev pub status_of : Bool → ℕ
 status_of false = 0
 status_of true = 1
 
-module _ {R O F : Type 0} (finds : List ℕ → Bool → Type 0) (form : LinkForm) (setting : PageSetting)
+module _ {R O F : Type 0} (finds : List ℕ → FileState → Type 0) (form : LinkForm) (setting : PageSetting)
     (remaining : R → Option (List ℕ)) (reads : R → Result (List ℕ) Reason → R → Type 0)
     (opens : F → List ℕ → Result O Reason → F → Type 0)
     (file_remaining : O → Option (List ℕ)) (file_reads : O → Result (List ℕ) Reason → O → Type 0) where

@@ -1,13 +1,14 @@
 -- What the headings of a page make of their texts. (GitHub Docs, "Section links")
 use Rattle.std.specs.Prelude.{ℕ, Bool, true, false, ◌&&◌, ◌||◌, not, ◌==◌, ◌≡◌, max, nat_lt, List, [], ◌∷◌, ◌++◌, flat_map, map}
 use Rattle.std.specs.Prelude.{chars, codes, encode_utf8, string_bytes, if◌then◌else◌}
+use Rattle.std.specs.Char.Unicode.Alphabetic.{is_alphabetic}
 use Rattle.std.specs.StrCase.Lower.{str_to_lowercase}
 use Rattle.std.specs.declared.ops.Range.{Range}
 use Rattle.ucd_category.specs.GeneralCategory.{general_category}
 use Rattle.ucd_category.specs.GeneralCategoryGroup.{in_group}
 use Rattle.ucd_category.specs.declared.GeneralCategory.{GeneralCategory}
 use Rattle.ucd_category.specs.declared.GeneralCategory.TheVariants.{DecimalNumber, ConnectorPunctuation}
-use Rattle.ucd_category.specs.declared.GeneralCategoryGroup.TheVariants.{Letter, Mark}
+use Rattle.ucd_category.specs.declared.GeneralCategoryGroup.TheVariants.{Mark}
 use Rattle.markdown_values.specs.declared.values.tags.TagEnd.TheVariants as End
 use Rattle.markdown_values.specs.values.Events.{start, end, text, code}
 use Rattle.markdown_values.specs.values.Tags.{heading, image}
@@ -16,15 +17,18 @@ use Rattle.markdown_events.specs.declared.settings.PageSetting.{PageSetting}
 use Rattle.markdown_events.specs.page.PageEvents.{ArePageEvents}
 use Rattle.page_links.specs.declared.headings.Headings.{Headings}
 
--- ---- the rule: lower case, each space a hyphen, and all else removed but letters, marks, digits, hyphens, and underscores and their like
+-- ---- the rule: lower case, each space a hyphen, and all else removed but characters of words and hyphens
 
+-- marks, digits, and underscores and their like
 abbrev pub is_word_category : GeneralCategory → Bool
 is_word_category DecimalNumber = true
 is_word_category ConnectorPunctuation = true
-is_word_category category = in_group Letter category || in_group Mark category
+is_word_category category = in_group Mark category
 
+-- Those of words, as Ruby's `\p{Word}` has them: alphabetic ones, by Unicode's property of that name, and those of these categories.
+-- (Unicode Technical Standard 18, annex C, `\w`, without its Join_Control)
 abbrev pub is_word : ℕ → Bool
-is_word c = is_word_category (general_category c)
+is_word c = is_alphabetic c || is_word_category (general_category c)
 
 -- what is kept of a character
 abbrev pub kept : ℕ → List ℕ

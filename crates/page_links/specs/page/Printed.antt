@@ -1,24 +1,25 @@
 -- What the program prints of a page: a line for each of its links and images, and of what is reported of its labels, in words or as JSON.
-use Rattle.std.specs.Prelude.{ℕ, Bool, ◌≡◌, ◌⊎◌, List, [], ◌∷◌, ◌++◌, codes, Option}
+use Rattle.std.specs.Prelude.{ℕ, ◌≡◌, ◌⊎◌, List, [], ◌∷◌, ◌++◌, codes, Option}
 use Rattle.std.specs.Io.KnownBytes.{Appends}
 use Rattle.std.specs.List.{flat_map}
 use Rattle.std.specs.Str.{IsUtf8}
 use Rattle.markdown_scanners_tree.specs.Ascii.{line_feed}
 use Rattle.markdown_events.specs.declared.settings.PageSetting.{PageSetting}
+use Rattle.page_links.specs.declared.checks.FileState.{FileState}
 use Rattle.page_links.specs.declared.printing.LinkForm.{LinkForm}
 use Rattle.page_links.specs.declared.printing.LinkForm.TheVariants.{Words, Json}
 use Rattle.page_links.specs.anchors.Anchors.{AreAnchorsOf}
 use Rattle.page_links.specs.checks.Checks.{AreTargetReports}
 use Rattle.page_links.specs.labels.Labels.{AreLabelReports}
 use Rattle.page_links.specs.links.Links.{AreLinksOf, Seen}
-use Rattle.page_links.specs.positions.Positions.{position_of}
+use Rattle.page_positions.specs.Positions.{text_position}
 use Rattle.page_links.specs.printing.Faults.{fault_in}
 use Rattle.page_links.specs.printing.Lines.{file_member, line_in}
 use Rattle.page_links.specs.reports.Reports.{Reported}
 
 -- the line of a link of a page of this name
 abbrev pub line_of : LinkForm → List ℕ → List ℕ → Seen → List ℕ
-line_of form name page it = line_in form name (position_of page it.range.start) it
+line_of form name page it = line_in form name (text_position page it.range.start) it
 
 -- the lines of links of a page of this name
 abbrev pub list_of : LinkForm → List ℕ → List ℕ → List Seen → List ℕ
@@ -26,7 +27,7 @@ list_of form name page links = flat_map (line_of form name page) links
 
 -- the line of a report of a page of this name
 abbrev pub report_line_of : LinkForm → List ℕ → List ℕ → Reported → List ℕ
-report_line_of form name page it = fault_in form name (position_of page it.offset) it
+report_line_of form name page it = fault_in form name (text_position page it.offset) it
 
 -- the lines of reports of a page of this name
 abbrev pub reports_of : LinkForm → List ℕ → List ℕ → List Reported → List ℕ
@@ -58,7 +59,7 @@ abbrev pub IsPrinted : LinkForm → PageSetting → List ℕ → List ℕ → Li
 IsPrinted form setting name page text = IsList form setting name page text ⊎ ((¬ IsUtf8 page) × (text ≡ not_text_in form name))
 
 -- The text is the lines of what is reported of the page of this name where it is checked, and files may be found or not.
-pub record IsChecked (finds : List ℕ → Bool → Type 0) (form : LinkForm) (setting : PageSetting) (name page text : List ℕ) : Type 0 where
+pub record IsChecked (finds : List ℕ → FileState → Type 0) (form : LinkForm) (setting : PageSetting) (name page text : List ℕ) : Type 0 where
   pub is_text : IsUtf8 page
   pub links : List Seen
   pub are_links : AreLinksOf page setting links
@@ -71,7 +72,7 @@ pub record IsChecked (finds : List ℕ → Bool → Type 0) (form : LinkForm) (s
   pub is_list : text ≡ reports_of form name page (labels ++ targets)
 
 -- The same, or a line that says that the page is not UTF-8.
-abbrev pub IsCheck : (List ℕ → Bool → Type 0) → LinkForm → PageSetting → List ℕ → List ℕ → List ℕ → Type 0
+abbrev pub IsCheck : (List ℕ → FileState → Type 0) → LinkForm → PageSetting → List ℕ → List ℕ → List ℕ → Type 0
 IsCheck finds form setting name page text =
     IsChecked finds form setting name page text ⊎ ((¬ IsUtf8 page) × (text ≡ not_text_in form name))
 
@@ -84,5 +85,5 @@ abbrev pub IsPrintedTo : LinkForm → PageSetting → List ℕ → List ℕ → 
 IsPrintedTo form setting name page old new = (text : List ℕ) × IsPrinted form setting name page text × Appends old new text
 
 -- known bytes grow by what is printed of the page of this name where it is checked
-abbrev pub IsCheckedTo : (List ℕ → Bool → Type 0) → LinkForm → PageSetting → List ℕ → List ℕ → Option (List ℕ) → Option (List ℕ) → Type 0
+abbrev pub IsCheckedTo : (List ℕ → FileState → Type 0) → LinkForm → PageSetting → List ℕ → List ℕ → Option (List ℕ) → Option (List ℕ) → Type 0
 IsCheckedTo finds form setting name page old new = (text : List ℕ) × IsCheck finds form setting name page text × Appends old new text

@@ -4,11 +4,11 @@ use Rattle.std.specs.Fmt.{decimal}
 use Rattle.markdown_scanners_tree.specs.Ascii.{line_feed}
 use Rattle.page_events.specs.json.Json.{member, text_member, word_json}
 use Rattle.page_events.specs.printing.Lines.{quoted}
-use Rattle.page_links.specs.declared.positions.Position.{Position}
+use Rattle.page_positions.specs.declared.Position.{Position}
 use Rattle.page_links.specs.declared.printing.LinkForm.{LinkForm}
 use Rattle.page_links.specs.declared.printing.LinkForm.TheVariants.{Words, Json}
 use Rattle.page_links.specs.declared.reports.Fault.{Fault}
-use Rattle.page_links.specs.declared.reports.Fault.TheVariants.{NotDefined, NotUsed, DefinedBefore, NoFile, NoAnchor}
+use Rattle.page_links.specs.declared.reports.Fault.TheVariants.{NotDefined, NotUsed, DefinedBefore, NoFile, Denied, NoAnchor}
 use Rattle.page_links.specs.printing.Lines.{file_member, position_members, position_words}
 use Rattle.page_links.specs.reports.Reports.{Reported}
 
@@ -17,6 +17,7 @@ fault_words NotDefined = codes "label not defined"
 fault_words NotUsed = codes "label not used"
 fault_words DefinedBefore = codes "label defined before"
 fault_words NoFile = codes "no such file"
+fault_words Denied = codes "permission denied"
 fault_words NoAnchor = codes "no such heading"
 
 -- the line of a fault that is there in the page of this name

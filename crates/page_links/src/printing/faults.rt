@@ -4,10 +4,10 @@ ghost use Rattle.page_events.specs.printing.Lines.{quoted};
 ghost use Rattle.page_links.specs.printing.Faults.{fault_line, fault_words};
 ghost use Rattle.page_links.specs.reports.Reports.{seen_report};
 
-use crate::positions::Position;
 use crate::printing::words::push_position;
 use crate::reports::{Fault, Report};
 use page_blocks::info::push_bytes;
+use page_positions::Position;
 use std::alloc::AllocError;
 
 /// Adds the line of a fault that is there, of a page of this name.
@@ -44,6 +44,7 @@ pub(crate) fn fault_words(fault: Fault) -> &'static str
         Fault::NotUsed => "label not used",
         Fault::DefinedBefore => "label defined before",
         Fault::NoFile => "no such file",
+        Fault::Denied => "permission denied",
         Fault::NoAnchor => "no such heading",
     }
 }

@@ -7,13 +7,13 @@ ghost use Rattle.page_links.specs.printing.Faults.{fault_json, fault_words};
 ghost use Rattle.page_links.specs.reports.Reports.{seen_report};
 
 use crate::links::PageLink;
-use crate::positions::Position;
 use crate::printing::faults::fault_words;
 use crate::printing::words::shown_as;
 use crate::reports::{Fault, Report};
 use page_blocks::info::push_json_text;
 use page_events::json::elements::push_link_members;
 use page_events::json::values::push_word;
+use page_positions::Position;
 use std::alloc::{AllocError, Global};
 
 /// Adds the object of a link that begins there, of a page of this name.

@@ -4,8 +4,8 @@ ghost use Rattle.page_links.specs.links.Links.{seen_link};
 ghost use Rattle.page_links.specs.printing.Lines.{link_line, link_words, position_words, shown_as};
 
 use crate::links::PageLink;
-use crate::positions::Position;
 use page_events::elements::push_link;
+use page_positions::Position;
 use std::alloc::AllocError;
 
 /// Adds the line of a link that begins there, of a page of this name.

@@ -1,15 +1,12 @@
-use Rattle.std.proofs.Common.{ℕ, ◌+◌, ◌-◌, ◌++◌, ◌≡◌, true, false, IsTrue, Result, Ok, Err, IfErr, length, drop, arith, refl, sym, ap, subst, ◌∙◌}
+use Rattle.std.proofs.Common.{ℕ, ◌+◌, ◌-◌, ◌++◌, ◌≡◌, true, false, IsTrue, length, drop, arith, refl, sym, ap, subst, ◌∙◌}
 use Rattle.std.proofs.lemmas.List.{length-drop}
 use Rattle.program_faults.specs.Steps.{AreReads, no_read}
 use Rattle.page_blocks.specs.page.Printed.{Printed}
 use Rattle.page_programs.specs.declared.reading.TheConstants.{READS}
+use Rattle.page_programs.proofs.CutLemmas.{if_err}
 use Rattle.page_programs.proofs.ReadingLemmas.{by_err, reads_on, reads_made, reads_all}
-use Rattle.page_blocks.proofs.program.ProgramLemmas.{begun-first, begun-read, begun-written, begun-stopped, begun-done}
+use Rattle.page_blocks.proofs.program.ProgramLemmas.{begun-first, begun-read, begun-written, begun-stopped, begun-done, cut-lines, cut-title}
 use Rattle.page_blocks.proofs.program.print_page.Goals as goal
-
-if_err : {T E X : Type 0} (P : E → Type 0) (r : Result T E) → X → IfErr r (λ e. P e → X)
-if_err P (Ok t) x = tt
-if_err P (Err e) x = λ p. x
 
 pub loop-printing-init : goal.loop-printing-init
 loop-printing-init g c = record {
@@ -99,7 +96,7 @@ loop-printing-preserved g c =
           (c.in_ok-count.ensures.printed other)
           c.in_ok-count.ensures.form c.in_ok-count.ensures.asked
           (rw c.as_str.ensures.value at c.in_ok-write_text-2.ensures.written)
-          refl refl refl c.clear.ensures.bytes (c.drop_front.ensures.text ∙ ap (drop c.in_ok-count.count) (sym c.deref.ensures.value));
+          refl refl refl refl c.clear.ensures.bytes (c.drop_front.ensures.text ∙ ap (drop c.in_ok-count.count) (sym c.deref.ensures.value));
       empty = c.clear.ensures.bytes;
       reads = subst (λ n. (count : ℕ) × (n + count ≡ READS) × AreReads g.R.StepReader.reads count c.args.input.now c.read_more.new.input)
           (sym c.drop_front.ensures.reads)
@@ -155,3 +152,22 @@ returns-in_err-has_ended-clause-failed g c =
 
 pub returns-in_err-write_text-clause-reads : goal.returns-in_err-write_text-clause-reads
 returns-in_err-write_text-clause-reads g c = (0, no_read c.args.input.now)
+
+pub returns-in_err-write_text-clause-cut : goal.returns-in_err-write_text-clause-cut
+returns-in_err-write_text-clause-cut g c =
+    if_err _ c.from_residual.result (cut-title c.args.extensions c.args.form c.args.title.now (g.R.Read.remaining c.args.input.now)
+    (g.W.Write.contents c.args.output.now) (g.W.Write.contents c.write_text.new.output) c.write_text.ensures.front)
+
+pub returns-in_err-write_text-2-clause-cut : goal.returns-in_err-write_text-2-clause-cut
+returns-in_err-write_text-2-clause-cut g c =
+    let read = c.in_ok-has_ended.ensures.read in
+    if_err _ c.from_residual-in_err-write_text-2.result (cut-lines c.args.extensions c.args.form c.args.title.now (g.R.Read.remaining c.args.input.now)
+    (g.W.Write.contents c.args.output.now) c.in_ok-has_ended.has_ended (g.R.Read.remaining c.read_more.new.input)
+    (g.W.Write.contents c.loop-printing.output) (g.W.Write.contents c.write_text-in-loop-printing.new.output) c.loop-printing.printing c.print.new.self
+    c.deref.result.now c.in_ok-count.count
+    (begun-read c.args.extensions c.args.form c.args.title.now (g.R.Read.remaining c.args.input.now) (g.W.Write.contents c.args.output.now)
+    (g.R.Read.remaining c.loop-printing.input)
+    (g.R.Read.remaining c.read_more.new.input) (g.W.Write.contents c.loop-printing.output) c.loop-printing.printing c.loop-printing.unread.text.items
+    c.deref.result.now read.0 c.loop-printing.invariant.begun read.1 (c.deref.ensures.value ∙ read.2))
+    (rw c.as_str.ensures.value at c.write_text-in-loop-printing.ensures.front)
+    c.in_ok-count.ensures.printed c.in_ok-count.ensures.form c.in_ok-count.ensures.asked c.in_ok-count.ensures.ended c.in_ok-has_ended.ensures.end)

@@ -10,10 +10,10 @@ invariant-loop-printing g l = record {
   begun : Begun l.fn.extensions l.fn.form l.title (g.R.Read.remaining l.fn.input) (g.R.Read.remaining l.input)
       (g.W.Write.contents l.fn.output) (g.W.Write.contents l.output)
       l.printing l.unread.text.items;
-  empty : string_bytes l.printing.printer.text ≡ [];
+  empty : string_bytes l.printing.text.printer.text ≡ [];
   reads : (count : ℕ) × (l.unread.reads + count ≡ READS) × AreReads g.R.StepReader.reads count l.fn.input l.input;
-  lines : l.printing.printer.at.lines + (length l.unread.text.items + 65536 * l.unread.reads) ≤ 18446744073709486080;
-  bytes : l.printing.printer.at.bytes + (length l.unread.text.items + 65536 * l.unread.reads) ≤ 18446744073709486080;
+  lines : l.printing.text.printer.at.lines + (length l.unread.text.items + 65536 * l.unread.reads) ≤ 18446744073709486080;
+  bytes : l.printing.text.printer.at.bytes + (length l.unread.text.items + 65536 * l.unread.reads) ≤ 18446744073709486080;
 }
 
 abbrev pub decreases-loop-printing : goal.decreases-loop-printing

@@ -1,6 +1,6 @@
 use Rattle.std.proofs.Common.{[], ◌++◌, length, drop, string_bytes, refl, sym, ap, subst, arith, append-nil}
 use Rattle.std.proofs.lemmas.List.{drop-drop, length-drop}
-use Rattle.markdown_blocks.proofs.taken.TakenLemmas.{slice_behind}
+use Rattle.markdown_blocks.proofs.taken.TakenLemmas.{slice_after}
 use Rattle.page_inlines.specs.labels.Labels.{labels_of}
 use Rattle.page_inlines.specs.page.Printed.{IsPrinted}
 use Rattle.page_inlines.proofs.page.PageLemmas.{LeftText, none_left, whole_page, block_text}
@@ -8,20 +8,20 @@ use Rattle.page_inlines.proofs.page.lines_of_page.Goals as goal
 
 pub loop-content-init : goal.loop-content-init
 loop-content-init c = record {
-  within = omega arith;
+  within = c.text_start-bytes.ensures.within;
   few = omega arith;
   goes = λ later left.
       let known = labels_of c.in_ok-of_page.field-0.definitions in
       subst (λ t. IsPrinted c.args.page.now (t ++ later)) (sym c.new.ensures.bytes)
       (whole_page known c.args.page.now later c.in_ok-of_page.ensures
-      (subst (λ o. LeftText known c.args.page.now 0 0 o c.args.page.now later) c.new-walk.ensures.none left));
+      (rw (c.new-walk.ensures.none, c.text_start-bytes.ensures.start) at left));
 }
 
 pub loop-content-preserved : goal.loop-content-preserved
 loop-content-preserved c =
     let known = labels_of c.in_ok-of_page.field-0.definitions in
     let page = c.args.page.now in
-    let same = slice_behind page c.loop-content.bytes in
+    let same = slice_after page c.loop-content.bytes in
     let size = ap length same in
     let within = rw c.in-Some.is at c.in_ok-step.ensures.within in
     let step = rw (c.in-Some.is, same) at c.in_ok-step.ensures.step in
@@ -42,6 +42,6 @@ loop-content-preserved c =
 
 pub returns-in_default : goal.returns-in_default
 returns-in_default c =
-    let none = rw (c.in_default.is, slice_behind c.args.page.now c.loop-content.bytes) at c.in_ok-step.ensures.all in
+    let none = rw (c.in_default.is, slice_after c.args.page.now c.loop-content.bytes) at c.in_ok-step.ensures.all in
     subst (IsPrinted c.args.page.now) (append-nil (string_bytes c.loop-content.out.text))
     (c.loop-content.invariant.goes [] (none_left _ _ _ _ c.loop-content.walk _ (none refl)))

@@ -1,4 +1,5 @@
-use Rattle.std.proofs.Common.{refl, sym, ◌∙◌}
+use Rattle.std.proofs.Common.{[], append-nil, sym, ◌∙◌}
+use Rattle.std.proofs.KnownBytes.{Appends-nil}
 use Rattle.std.specs.Prelude.{Some, None}
 use Rattle.std.proofs.lemmas.Result.{IfOk-weaker, IfErr-weaker}
 use Rattle.page_programs.specs.Runs.{from_input, from_file, not_opened}
@@ -23,14 +24,17 @@ returns-then-eq-clause-checked g c =
 pub returns-then-eq-clause-stopped : goal.returns-then-eq-clause-stopped
 returns-then-eq-clause-stopped g c =
     IfErr-weaker c.check_page.result _ _
-    (λ stop all. (λ before. from_input _ _ _ _ _ _ _ (sym c.eq.ensures ∙ c.if-eq.true) (all.0 before), all.1))
+    (λ stop all. (all.0, λ before. from_input _ _ _ _ _ _ _ (sym c.eq.ensures ∙ c.if-eq.true) (all.1 before), all.2))
     (page_stopped (g.L.FindsFiles.finds c.args.checks.now.finder.now) c.args.checks.now.form c.args.checks.now.setting g.R.Read.remaining
-    g.R.StepReader.reads c.args.name.now c.args.input.now c.check_page.new.input _ c.check_page.result
-    c.check_page.ensures.unwritten c.check_page.ensures.failed c.check_page.ensures.reads)
+    g.R.StepReader.reads c.args.name.now c.args.input.now c.check_page.new.input g.W.Write.contents c.args.output.now c.check_page.new.output
+    c.check_page.result c.check_page.ensures.unwritten c.check_page.ensures.cut c.check_page.ensures.failed c.check_page.ensures.reads)
 
 pub returns-in-Err-clause-stopped : goal.returns-in-Err-clause-stopped
-returns-in-Err-clause-stopped g c =
-    (λ before. not_opened _ _ _ _ _ c.in-Err.reason (sym c.eq.ensures ∙ c.if-eq.false) c.in-Err.ensures, λ _. refl)
+returns-in-Err-clause-stopped g c = (
+  [],
+  λ before. rw append-nil (not_opened _ _ _ _ _ c.in-Err.reason (sym c.eq.ensures ∙ c.if-eq.false) c.in-Err.ensures),
+  Appends-nil (g.W.Write.contents c.args.output.now),
+)
 
 pub returns-clause-checked : goal.returns-clause-checked
 returns-clause-checked g c =
@@ -50,9 +54,10 @@ pub returns-clause-stopped : goal.returns-clause-stopped
 returns-clause-stopped g c =
     IfErr-weaker c.check_page-2.result _ _
     (λ stop all. (
-      λ before. from_file _ _ _ _ _ _ _ c.in-Ok.file c.check_page-2.new.input (sym c.eq.ensures ∙ c.if-eq.false) c.in-Ok.ensures (all.0 before),
-      all.1,
+      all.0,
+      λ before. from_file _ _ _ _ _ _ _ c.in-Ok.file c.check_page-2.new.input (sym c.eq.ensures ∙ c.if-eq.false) c.in-Ok.ensures (all.1 before),
+      all.2,
     ))
     (page_stopped (g.L.FindsFiles.finds c.args.checks.now.finder.now) c.args.checks.now.form c.args.checks.now.setting g.F.File.Read.remaining
-    g.F.File.StepReader.reads c.args.name.now c.in-Ok.file c.check_page-2.new.input _ c.check_page-2.result
-    c.check_page-2.ensures.unwritten c.check_page-2.ensures.failed c.check_page-2.ensures.reads)
+    g.F.File.StepReader.reads c.args.name.now c.in-Ok.file c.check_page-2.new.input g.W.Write.contents c.args.output.now c.check_page-2.new.output
+    c.check_page-2.result c.check_page-2.ensures.unwritten c.check_page-2.ensures.cut c.check_page-2.ensures.failed c.check_page-2.ensures.reads)

@@ -5,4 +5,4 @@ use Rattle.page_links.proofs.checking.check_operands.Goals as goal
 
 pub returns-in-Err-clause-stopped : goal.returns-in-Err-clause-stopped
 returns-in-Err-clause-stopped g c =
-    ([], no_memory _ _ c.args.input.now c.args.files.now (Some []), λ unwritten. Appends-nil (g.W.Write.contents c.args.output.now))
+    ([], no_memory _ _ c.args.input.now c.args.files.now (Some []), Appends-nil (g.W.Write.contents c.args.output.now))

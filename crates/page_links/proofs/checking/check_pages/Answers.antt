@@ -1,7 +1,6 @@
 use Rattle.std.proofs.Common.{ℕ, List, [], ◌++◌, ◌||◌, ◌≡◌, Some, None, slice_index_or, refl, sym, ap, ap₂, subst, ◌∙◌, arith}
 use Rattle.std.proofs.lemmas.List.{at_drop_more, drop_all}
 use Rattle.std.proofs.KnownBytes.{Appends-nil, Appends-trans}
-use Rattle.std.specs.Io.KnownBytes.{Appends}
 use Rattle.page_programs.specs.Runs.{none_left, printed, stopped}
 use Rattle.page_programs.specs.Words.{texts}
 use Rattle.page_links.specs.checking.Checking.{ChecksAll, is_reported}
@@ -16,15 +15,16 @@ returns-in-Err-clause-stopped g c =
     let before = c.loop-name.invariant in
     let here = c.in-Err.ensures.stopped in
     let name = (slice_index_or c.args.names.now c.loop-name.name-index record { ref_ptr = (0, 0); now = [] }).now in (
-      before.0,
-      before.3 c.check_named.new.input c.check_named.new.files before.0 (Some (name, c.in-Err.stop))
+      before.0 ++ here.0,
+      before.3 c.check_named.new.input c.check_named.new.files (before.0 ++ here.0) (Some (name, c.in-Err.stop))
           (subst (λ (ns : List (List ℕ)). ChecksAll (g.L.FindsFiles.finds c.args.checks.now.finder.now) c.args.checks.now.form c.args.checks.now.setting
           g.R.Read.remaining g.R.StepReader.reads g.F.OpensFiles.opens g.F.File.Read.remaining g.F.File.StepReader.reads ns c.loop-name.input
-          c.loop-name.files before.0 c.check_named.new.input c.check_named.new.files before.0 (Some (name, c.in-Err.stop)))
+          c.loop-name.files before.0 c.check_named.new.input c.check_named.new.files (before.0 ++ here.0) (Some (name, c.in-Err.stop)))
           (sym (at_drop_more texts c.args.names.now c.loop-name.name-index _ c.loop-name-test.true))
-          (stopped _ _ c.loop-name.input c.check_named.new.input c.loop-name.files c.check_named.new.files (Some before.0) (Some before.0) c.in-Err.stop
-          (here.0 before.0))),
-      λ unwritten. subst (λ out. Appends (g.W.Write.contents c.args.output.now) (g.W.Write.contents out) before.0) (sym (here.1 unwritten)) before.2,
+          (stopped _ _ c.loop-name.input c.check_named.new.input c.loop-name.files c.check_named.new.files (Some before.0) (Some (before.0 ++ here.0))
+          c.in-Err.stop (here.1 before.0))),
+      Appends-trans (g.W.Write.contents c.args.output.now) (g.W.Write.contents c.loop-name.output) (g.W.Write.contents c.check_named.new.output)
+          before.0 here.0 before.2 here.2,
     )
 
 pub loop-name-preserved : goal.loop-name-preserved

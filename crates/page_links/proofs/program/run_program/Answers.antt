@@ -18,6 +18,13 @@ pub returns-then-is_check-clause-version : goal.returns-then-is_check-clause-ver
 returns-then-is_check-clause-version g c = λ zero version.
     absurd (not_asked c.args.words.now (sym c.is_check.ensures ∙ c.if-is_check.true) (inr version))
 
+pub returns-then-is_check-clause-help_front : goal.returns-then-is_check-clause-help_front
+returns-then-is_check-clause-help_front g c = λ help. absurd (not_asked c.args.words.now (sym c.is_check.ensures ∙ c.if-is_check.true) (inl help))
+
+pub returns-then-is_check-clause-version_front : goal.returns-then-is_check-clause-version_front
+returns-then-is_check-clause-version_front g c = λ version.
+    absurd (not_asked c.args.words.now (sym c.is_check.ensures ∙ c.if-is_check.true) (inr version))
+
 pub returns-then-is_check-clause-unread : goal.returns-then-is_check-clause-unread
 returns-then-is_check-clause-unread g c = λ asked. absurd (not_asked c.args.words.now (sym c.is_check.ensures ∙ c.if-is_check.true) asked)
 

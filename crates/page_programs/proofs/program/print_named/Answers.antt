@@ -12,7 +12,7 @@ returns-then-eq-clause-printed g c =
     g.R.Read.remaining g.R.StepReader.reads c.args.name.now c.args.input.now c.print_page.new.input (g.W.Write.contents c.args.output.now)
     (g.W.Write.contents c.print_page.new.output) c.as_str.result.now (c.as_str.ensures.value ∙ c.in_ok-title.ensures) c.print_page.result
     c.print_page.ensures.printed c.print_page.ensures.read c.print_page.ensures.ended
-    c.print_page.ensures.begun c.print_page.ensures.failed c.print_page.ensures.reads)
+    c.print_page.ensures.begun c.print_page.ensures.failed c.print_page.ensures.cut c.print_page.ensures.reads)
 
 pub returns-in-Err-clause-printed : goal.returns-in-Err-clause-printed
 returns-in-Err-clause-printed g c =
@@ -30,7 +30,7 @@ returns-clause-printed g c =
     g.F.File.Read.remaining g.F.File.StepReader.reads c.args.name.now c.in-Ok.file c.print_page-2.new.input (g.W.Write.contents c.args.output.now)
     (g.W.Write.contents c.print_page-2.new.output) c.as_str-2.result.now (c.as_str-2.ensures.value ∙ c.in_ok-title.ensures) c.print_page-2.result
     c.print_page-2.ensures.printed c.print_page-2.ensures.read c.print_page-2.ensures.ended
-    c.print_page-2.ensures.begun c.print_page-2.ensures.failed c.print_page-2.ensures.reads)
+    c.print_page-2.ensures.begun c.print_page-2.ensures.failed c.print_page-2.ensures.cut c.print_page-2.ensures.reads)
 
 pub returns-in_err-title-clause-printed : goal.returns-in_err-title-clause-printed
 returns-in_err-title-clause-printed g c =

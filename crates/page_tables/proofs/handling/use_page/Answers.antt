@@ -82,3 +82,18 @@ returns-in-Check g c = rw c.in-Check.is (
     c.in-Err-write_whole.ensures.refused,
   ),
 )
+
+pub returns : goal.returns
+returns g c = (
+  made_text c.args.page.now c.in-Ok.look.made,
+  string_bytes c.in-Ok.look.lines,
+  (
+    record {
+      notes = string_bytes c.in-Ok.look.notes;
+      is_said = rw (c.is_check.ensures ∙ ap is_check c.in-Replace.is) at c.in-Ok.ensures.said;
+      is_given = rw c.as_str.ensures.value at c.complain.ensures.given;
+    },
+    refl,
+    c.in-Err-replace_with.ensures.refused,
+  ),
+)

@@ -1,5 +1,7 @@
 use Rattle.std.proofs.Common.{refl}
 use Rattle.program_faults.specs.Steps.{no_part, part}
+use Rattle.program_faults.proofs.StepLemmas.{printed-none}
+use Rattle.page_tables.specs.declared.help.TheConstants.{HELP, VERSION}
 use Rattle.page_tables.proofs.program.run_program.Goals as goal
 
 pub returns-in-Some-clause-unknown : goal.returns-in-Some-clause-unknown
@@ -9,3 +11,9 @@ returns-in-Some-clause-unknown g c =
       part _ _ _ _ _ c.complain.ensures.given (part _ _ _ _ _ c.complain-in-Some.ensures.given
           (part _ _ _ _ _ c.complain-in-Some-2.ensures.given (part _ _ _ _ _ c.complain-in-Some-3.ensures.given (no_part _)))),
     )
+
+pub returns-in-Some-clause-help_front : goal.returns-in-Some-clause-help_front
+returns-in-Some-clause-help_front g c = λ help. (HELP.now, printed-none (g.W.Write.contents c.args.output.now) HELP.now)
+
+pub returns-in-Some-clause-version_front : goal.returns-in-Some-clause-version_front
+returns-in-Some-clause-version_front g c = λ version. (VERSION.now, printed-none (g.W.Write.contents c.args.output.now) VERSION.now)

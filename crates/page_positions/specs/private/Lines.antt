@@ -2,8 +2,8 @@
 use Rattle.std.specs.Prelude.{ℕ, ◌≡◌, ◌≤◌, ◌+◌, ◌-◌, List, drop, length}
 use Rattle.markdown_scanners_tree.specs.Bytes.{line_length}
 use Rattle.markdown_scanners_tree.specs.scanners.TextLines.{lines_of}
-use Rattle.page_links.specs.declared.positions.Line.{Line}
-use Rattle.page_links.specs.positions.Positions.{position_in, position_of}
+use Rattle.page_positions.specs.declared.Line.{Line}
+use Rattle.page_positions.specs.Positions.{position_in, position_of}
 
 -- This is a line of the page, or its end: each line before has a byte, it is as long as the first of those that are left, and what is
 -- said of an offset from here on is what is said of it in the page.

@@ -1,8 +1,12 @@
 //! Lines and columns of a page.
-ghost use Rattle.std.specs.Prelude.{◌≡◌, ◌⊎◌, ◌<◌, ◌≤◌, length};
-ghost use Rattle.page_links.specs.positions.Positions.{offset_of, position_of};
-ghost use Rattle.page_links.specs.positions.private.Lines.{IsLineOf};
+#![tactic(auto)]
 
+ghost use Rattle.std.specs.Prelude.{◌≡◌, ◌⊎◌, ◌<◌, ◌≤◌, length};
+ghost use Rattle.markdown_blocks.specs.byte_order_mark.ByteOrderMark.{text_of, text_start};
+ghost use Rattle.page_positions.specs.Positions.{offset_of, position_of, text_offset, text_position};
+ghost use Rattle.page_positions.specs.private.Lines.{IsLineOf};
+
+use markdown_blocks::byte_order_mark::text_start;
 use markdown_scanners_tree::scanners::scan_line;
 
 /// Where something begins in a page, as editors say it.
@@ -33,6 +37,13 @@ impl Line {
             start: 0,
             end: scan_line(page),
         }
+    }
+
+    /// The first line of the text of a page, which may begin with a byte order mark.
+    pub fn first_of_text(page: &[u8]) -> Line
+        ensures line { IsLineOf (text_of page.now) result }
+    {
+        Line::first(&page[text_start(page)..])
     }
 
     // The next line, or the end of the page.
@@ -96,4 +107,17 @@ pub fn position_of(page: &[u8], offset: usize) -> Position
     ensures back { offset < length page.now → offset_of page.now result ≡ offset }
 {
     position_at(page, &mut Line::first(page), offset)
+}
+
+/// The same of the text of a page, of which this is a line, where the offset is one of the page. A byte
+/// order mark that the page begins with is in no column.
+pub fn text_position_at(page: &[u8], line: &mut Line, offset: usize) -> Position
+    requires line { IsLineOf (text_of page.now) line.old }
+    ensures line { IsLineOf (text_of page.now) line.new }
+    ensures position { result ≡ text_position page.now offset }
+    ensures back { text_start page.now ≤ offset → offset < length page.now
+        → text_offset page.now result ≡ offset }
+{
+    let start = text_start(page);
+    position_at(&page[start..], line, offset.saturating_sub(start))
 }

@@ -1,7 +1,7 @@
 -- It is a line of the page that the offset isn't before.
 use Rattle.std.proofs.Common.{◌+◌, ◌-◌, ◌≤◌, length}
-use Rattle.page_links.specs.positions.private.Lines.{IsLineOf}
-use Rattle.page_links.proofs.positions.Line.holding.Given as goal
+use Rattle.page_positions.specs.private.Lines.{IsLineOf}
+use Rattle.page_positions.proofs.Line.holding.Given as goal
 
 abbrev pub invariant-loop-line : goal.invariant-loop-line
 invariant-loop-line l = record { is_line : IsLineOf l.page l.line; begun : l.line.start ≤ l.offset }

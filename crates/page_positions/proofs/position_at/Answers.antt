@@ -1,6 +1,6 @@
 use Rattle.std.proofs.Common.{arith, sym, length, ◌≤◌}
-use Rattle.page_links.proofs.PositionLemmas.{position_found}
-use Rattle.page_links.proofs.positions.position_at.Goals as goal
+use Rattle.page_positions.proofs.PositionLemmas.{position_found}
+use Rattle.page_positions.proofs.position_at.Goals as goal
 
 pub returns-clause-position : goal.returns-clause-position
 returns-clause-position c =

@@ -1,8 +1,8 @@
 use Rattle.std.proofs.Common.{◌≡◌, ◌∙◌, ◌-◌, ap, arith, drop, length, take}
 use Rattle.std.proofs.lemmas.List.{length-drop, take_all}
 use Rattle.markdown_scanners_tree.specs.Bytes.{line_length}
-use Rattle.page_links.proofs.PositionLemmas.{next_is_line}
-use Rattle.page_links.proofs.positions.Line.next.Goals as goal
+use Rattle.page_positions.proofs.PositionLemmas.{next_is_line}
+use Rattle.page_positions.proofs.Line.next.Goals as goal
 
 pub returns-clause-line : goal.returns-clause-line
 returns-clause-line c =

@@ -2,12 +2,13 @@
 use Rattle.std.proofs.Common.{ℕ, suc, ◌+◌, ◌-◌, ◌<◌, ◌≤◌, ◌≡◌, List, [], ◌∷◌, length, take, nat_lt, sym, ap, subst, arith, inl, inr}
 use Rattle.std.specs.List.{concat}
 use Rattle.std.proofs.lemmas.Bool.{cases_Bool, ltb-true, ltb-false}
-use Rattle.std.proofs.lemmas.List.{length-append}
+use Rattle.std.proofs.lemmas.List.{length-append, length-drop}
 use Rattle.markdown_scanners_tree.specs.scanners.TextLines.{lines_of}
 use Rattle.markdown_scanners_tree.proofs.ForCallers.{lines_joined}
-use Rattle.page_links.specs.declared.positions.Position.{Position}
-use Rattle.page_links.specs.positions.Positions.{offset_of, position_in, position_of}
-use Rattle.page_links.proofs.PositionLemmas.{in_first, past_first}
+use Rattle.markdown_blocks.specs.byte_order_mark.ByteOrderMark.{text_of, text_start}
+use Rattle.page_positions.specs.declared.Position.{Position}
+use Rattle.page_positions.specs.Positions.{offset_of, position_in, position_of, text_offset, text_position}
+use Rattle.page_positions.proofs.PositionLemmas.{in_first, past_first}
 
 -- this position is there in lines of which the first has this number
 record IsBack (number : ℕ) (lines : List (List ℕ)) (offset : ℕ) (position : Position) : Type 0 where
@@ -44,3 +45,10 @@ is_back number (line ∷ later) offset within = elim (cases_Bool (nat_lt offset 
 
 pub offset_back : (page : List ℕ) (offset : ℕ) → offset < length page → offset_of page (position_of page offset) ≡ offset
 offset_back page offset within = (is_back 1 (lines_of page) offset (omega (arith, within, ap length (lines_joined page)))).back
+
+pub text_offset_back : (page : List ℕ) (offset : ℕ) → text_start page ≤ offset → offset < length page
+    → text_offset page (text_position page offset) ≡ offset
+text_offset_back page offset begun within =
+    let back =
+    offset_back (text_of page) (offset - text_start page) (omega (arith, begun, within, length-drop (text_start page) page)) in
+    omega (arith, back, begun)

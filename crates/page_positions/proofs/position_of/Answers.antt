@@ -1,7 +1,7 @@
 use Rattle.std.proofs.Common.{ap, ◌∙◌}
-use Rattle.page_links.specs.positions.Positions.{offset_of}
-use Rattle.page_links.proofs.OffsetLemmas.{offset_back}
-use Rattle.page_links.proofs.positions.position_of.Goals as goal
+use Rattle.page_positions.specs.Positions.{offset_of}
+use Rattle.page_positions.proofs.OffsetLemmas.{offset_back}
+use Rattle.page_positions.proofs.position_of.Goals as goal
 
 pub returns-clause-back : goal.returns-clause-back
 returns-clause-back c =

@@ -6,9 +6,9 @@ use Rattle.std.proofs.lemmas.List.{drop-drop, length-drop, length-take-le}
 use Rattle.markdown_scanners_tree.specs.Bytes.{line_length}
 use Rattle.markdown_scanners_tree.specs.scanners.TextLines.{lines_of}
 use Rattle.markdown_scanners_tree.proofs.ForCallers.{first_line-taken}
-use Rattle.page_links.specs.declared.positions.Line.{Line}
-use Rattle.page_links.specs.positions.Positions.{position_in, position_of}
-use Rattle.page_links.specs.positions.private.Lines.{IsLineOf}
+use Rattle.page_positions.specs.declared.Line.{Line}
+use Rattle.page_positions.specs.Positions.{position_in, position_of}
+use Rattle.page_positions.specs.private.Lines.{IsLineOf}
 
 -- an offset in the first line
 pub in_first : (number : ℕ) (line : List ℕ) (later : List (List ℕ)) (offset : ℕ) → offset < length line
