@@ -14,7 +14,7 @@ type Sums = (u128, u128);
 // end.
 type Cut = (&'static [u8], usize, Sums, Sums);
 
-// The sums are those of the stored run of `cmark_cuts`.
+// The sums are those that `tests/differential/cuts.py` counts.
 const CUTS: &[Cut] = &[
     (b"<!--", 5000, (4974300, 23878800), (4974700, 23879600)),
     (
