@@ -89,16 +89,31 @@ fn push_text(text: &mut String, event: Event) -> Result<(), AllocError> {
 
 /// The words of a page in order, without its markup: what white space parts, or a block.
 pub fn words(alloc: Global, page: &str) -> Result<Vec<String>, AllocError> {
+    split_words(alloc, text_of(alloc, page)?.as_str())
+}
+
+// The text of a page, in which spaces part what are not parts of one word.
+fn text_of(alloc: Global, page: &str) -> Result<String, AllocError> {
     let mut text = String::new(alloc);
     for event in Parser::new(alloc, page)? {
-        match event? {
-            Event::Start(tag) => part_words(&mut text, tag.to_end())?,
-            Event::End(end) => part_words(&mut text, end)?,
-            inner => push_text(&mut text, inner)?,
-        }
+        push_event(&mut text, event?)?;
     }
+    Ok(text)
+}
+
+// Adds the text of an event of a page.
+fn push_event(text: &mut String, event: Event) -> Result<(), AllocError> {
+    match event {
+        Event::Start(tag) => part_words(text, tag.to_end()),
+        Event::End(end) => part_words(text, end),
+        inner => push_text(text, inner),
+    }
+}
+
+// What white space parts.
+fn split_words(alloc: Global, text: &str) -> Result<Vec<String>, AllocError> {
     let mut words = Vec::new(alloc);
-    for word in text.as_str().split_whitespace() {
+    for word in text.split_whitespace() {
         words.push(String::from_str(alloc, word)?)?;
     }
     Ok(words)
@@ -123,24 +138,49 @@ pub struct CodeBlock {
 
 /// The code blocks of a page in order.
 pub fn code_blocks(alloc: Global, page: &str) -> Result<Vec<CodeBlock>, AllocError> {
-    let mut blocks = Vec::new(alloc);
-    let mut current = None;
+    let mut blocks = CodeBlocks {
+        ended: Vec::new(alloc),
+        begun: None,
+    };
     for event in Parser::new(alloc, page)? {
-        match event? {
-            Event::Start(tag) => current = begun_code(alloc, tag)?,
-            Event::End(_) => {
-                if let Some(block) = current.take() {
-                    blocks.push(block)?;
-                }
-            }
-            inner => {
-                if let Some(block) = &mut current {
-                    push_text(&mut block.text, inner)?;
-                }
-            }
+        blocks.take(alloc, event?)?;
+    }
+    Ok(blocks.ended)
+}
+
+// The code blocks that have ended, and the one that has not.
+#[derive(Drop)]
+struct CodeBlocks {
+    ended: Vec<CodeBlock>,
+    begun: Option<CodeBlock>,
+}
+
+impl CodeBlocks {
+    // Takes the next event of the page.
+    fn take(&mut self, alloc: Global, event: Event) -> Result<(), AllocError> {
+        match event {
+            Event::Start(tag) => self.begun = begun_code(alloc, tag)?,
+            Event::End(_) => return self.end(),
+            inner => return self.push(inner),
+        }
+        Ok(())
+    }
+
+    // Ends the code block that has begun, if one has.
+    fn end(&mut self) -> Result<(), AllocError> {
+        if let Some(block) = self.begun.take() {
+            self.ended.push(block)?;
+        }
+        Ok(())
+    }
+
+    // Adds the text of an event to the code block that has begun, if one has.
+    fn push(&mut self, event: Event) -> Result<(), AllocError> {
+        match &mut self.begun {
+            Some(block) => push_text(&mut block.text, event),
+            None => Ok(()),
         }
     }
-    Ok(blocks)
 }
 
 // The code block that begins with a tag, if one does, without lines.

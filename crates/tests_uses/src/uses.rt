@@ -1,0 +1,21 @@
+//! Tests of `cmark_uses`, under the names of its modules.
+mod blocks;
+mod comments;
+mod contents;
+mod definitions;
+mod events;
+mod extensions;
+mod footnotes;
+mod headings;
+mod html;
+mod labels;
+mod lines;
+mod link_definitions;
+mod links;
+mod lists;
+mod options;
+mod outline;
+mod pages;
+mod pass;
+mod tables;
+mod walk;

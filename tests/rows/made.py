@@ -1,0 +1,71 @@
+"""Rows that are too long to write, or whose answers stand elsewhere: the help and the version of each command, the stored runs, labels and parentheses as long
+and as deep as they may be, blocks of many lines and in many others, and the examples of CommonMark, which tests/commonmark has."""
+import sys
+
+sys.dont_write_bytecode = True
+from rows import TOP, Row, stored_run
+
+sys.path.append(str(TOP / "tests/html"))
+from spec import COMMONMARK, examples
+
+FILLAQUT = TOP / "crates/fillaqut"
+COMMANDS = ("html", "events", "blocks", "inlines", "links", "tables")
+
+
+def row(name, command, page, printed):
+    return Row("tests/rows/made.py", name, command.split(), "", page, printed, 0, b"")
+
+
+def answers():
+    """Help and version are printed whole, and nothing is read."""
+    version = (TOP / "VERSION").read_bytes()
+    yield row("help_is_printed_whole", "fillaqut -h", None, (FILLAQUT / "stdout").read_bytes())
+    yield row("the_version_is_that_of_the_repository", "fillaqut --version", None, b"fillaqut " + version)
+    for command in COMMANDS:
+        help_text = (FILLAQUT / f"help/{command}.txt").read_bytes()
+        for word in ("--help", "-h", "a -h"):
+            yield row("help_is_printed_whole", f"fillaqut {command} {word}", None, help_text)
+        for word in ("--version", "--version --help"):
+            yield row("the_version_is_that_of_the_repository", f"fillaqut {command} {word}", None, b"fillaqut " + version)
+    yield row("help_is_printed_whole", "fillaqut blocks --json a -h", None, (FILLAQUT / "help/blocks.txt").read_bytes())
+
+
+def stored():
+    """The stored runs of the commands, on a page of every construct."""
+    for command in COMMANDS:
+        run = stored_run(FILLAQUT / "runs" / command)
+        yield row(f"stored_run_of_{command}", f"fillaqut {command} {run.words}", run.page, run.printed)._replace(said=run.said)
+
+
+def definition(letters, pairs):
+    """A label of so many letters, a destination of so many pairs of parentheses, and an underline."""
+    return b"[%s]: %s%sb\n===\n" % (b"a" * letters, b"(" * pairs, b")" * pairs)
+
+
+def definitions():
+    """Labels have 999 characters at most (CommonMark 0.31.2, 6.3), and parentheses nest 32 deep at most, as cmark 0.30.2 has it."""
+    defined, text = b"1 1 0 definition\n2 2 0 paragraph\n", b"1 2 0 setext 1\n"
+    yield row("labels_have_999_characters_at_most", "fillaqut blocks", definition(999, 1), defined)
+    yield row("labels_have_999_characters_at_most", "fillaqut blocks", definition(1000, 1), text)
+    yield row("parentheses_nest_32_deep_at_most", "fillaqut blocks", definition(1, 32), defined)
+    yield row("parentheses_nest_32_deep_at_most", "fillaqut blocks", definition(1, 33), text)
+
+
+def large():
+    """A block that is longer than many reads, and a hundred thousand items in each other."""
+    count = 100_000
+    shown = b"1 %d 0 paragraph\n%d %d 0 blank\n%d %d 0 heading 1\n" % (count, *[count + 1] * 2, *[count + 2] * 2)
+    yield row("a_block_is_longer_than_many_reads", "fillaqut blocks", b"a\n" * count + b"\n# b\n", shown)
+    items = b"".join(b"1 1 %d item + 0\n" % depth for depth in range(count))
+    lists = b"".join(b"1 1 %d list + 0 tight\n" % depth for depth in reversed(range(count)))
+    yield row("a_hundred_thousand_items_may_be_nested", "fillaqut blocks", b"+ " * count, items + b"1 1 %d blank\n" % count + lists)
+
+
+def of_specification():
+    """The HTML of the examples of CommonMark 0.31.2."""
+    for example in examples(COMMONMARK):
+        yield row(f"example_{example.number}", "fillaqut html", example.page, example.html)
+
+
+# The rows by the names under which they are counted.
+MADE = {"answers": answers, "stored": stored, "definitions_made": definitions, "large": large, COMMONMARK.stem: of_specification}
