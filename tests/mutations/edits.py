@@ -3,12 +3,15 @@ import re
 import shutil
 import sys
 from pathlib import Path
+from typing import NamedTuple
 
 TOP = Path(__file__).resolve().parents[2]
 sys.path.append(str(TOP / "docs"))
 import totals_file
 
 TOTALS = TOP / "tests/mutations/totals"
+# What a proof reads of a crate.
+PARTS = ("src", "specs", "proofs")
 
 
 def totals():
@@ -16,17 +19,27 @@ def totals():
     return {name: tuple(map(int, numbers.split())) for name, numbers in totals_file.read(TOTALS).items()}
 
 
+class Edit(NamedTuple):
+    """A wrong body: of which crate, by what name, and the lines that say what to write in place of what."""
+
+    crate: str
+    name: str
+    text: str
+
+    @property
+    def file(self):
+        """The name of its file in must-fail/."""
+        return f"{self.name}.edit"
+
+
 def in_gate(crate):
-    return sorted((TOP / "crates" / crate / "must-fail").glob("*.edit"))
+    return [Edit(crate, path.stem, path.read_text()) for path in sorted((TOP / "crates" / crate / "must-fail").glob("*.edit"))]
 
 
 def out_of_gate(crate):
-    return sorted((TOP / "tests/mutations" / crate).glob("*.edit"))
-
-
-def crate_of(edit):
-    """The name of the crate whose body an edit changes."""
-    return edit.parent.parent.name if edit.parent.name == "must-fail" else edit.parent.name
+    file = TOP / f"tests/mutations/{crate}.edits"
+    parts = re.split(r"^name: ", file.read_text(), flags=re.M)[1:] if file.exists() else []
+    return [Edit(crate, *part.split("\n", 1)) for part in parts]
 
 
 def free_memory():
@@ -47,8 +60,8 @@ def replaced(text, path, old, new):
 
 def edited(edit):
     """The texts of the files that an edit changes, by their path in the crate. Each pair is over what the pairs before it made."""
-    crate, texts, path, old = TOP / "crates" / crate_of(edit), {}, None, None
-    for line in edit.read_text().split("\n"):
+    crate, texts, path, old = TOP / "crates" / edit.crate, {}, None, None
+    for line in edit.text.split("\n"):
         word, _, rest = line.partition(":")
         rest = rest.removeprefix(" ")
         if word == "file":
@@ -68,19 +81,18 @@ def edited(edit):
 
 
 def copied(scratch):
-    """Copies what proofs and builds read of the tree into a folder, with the libraries that are built."""
+    """Copies what proofs and builds read of the tree into a folder."""
     for name in ("crates.txt", "HANDLES", "README.md", "LICENSE", "VERSION", "CHANGELOG.md"):
         shutil.copy(TOP / name, scratch)
     for name in ("packages", "docs"):
         shutil.copytree(TOP / name, scratch / name, ignore=shutil.ignore_patterns("target"))
     for crate in (TOP / "crates").iterdir():
-        for part in ("src", "specs", "proofs"):
+        for part in PARTS:
             if (crate / part).is_dir():
                 shutil.copytree(crate / part, scratch / "crates" / crate.name / part)
-        library = crate / "out/rlib"
-        if (library / "stamp").is_file():
-            shutil.copytree(library, scratch / "crates" / crate.name / "out/rlib")
         for part in ("stdin", "stdout", "args"):
             if (crate / part).is_file():
                 shutil.copy(crate / part, scratch / "crates" / crate.name)
+        if (crate / "runs").is_dir():
+            shutil.copytree(crate / "runs", scratch / "crates" / crate.name / "runs")
     return scratch

@@ -1,130 +1,125 @@
-"""Has the prover try wrong bodies, in groups and side by side, over what it has kept of the crate as it stands.
+"""Has the prover try wrong bodies by the commands of `rt`, which tries the edits of a crate's must-fail/ over one more proof of the crate, and
+says of each what comes of it.
 
-`rt must-fail` tries the edits of a crate one after another. So this checks groups of edits by the inside of rt (`rt_internals.py`); each
-edit that its group does not show to be refused is tried as `rt must-fail` tries it.
+`rt must-fail` is asked in a scratch copy of what it reads of the tree, where they are the crate's only edits: it begins with what `rt check` and
+`rt lib` have kept of the same files anywhere on this machine. `rt ci` is asked in the tree itself, where they stand beside the crate's own until it ends.
 """
+import contextlib
 import os
+import random
+import re
+import shutil
 import subprocess
-import threading
+import sys
+import tempfile
 import time
-from concurrent.futures import ThreadPoolExecutor
 from pathlib import Path
 
-from calls import Calls, asked_for, calls_in_code, calls_in_sources
-from edits import TOP, crate_of, free_memory
-from edit_groups import PROVED, edits_in, groups_of, refused_in, texts_of
-from rt_internals import Prover
+from crate_list import CRATES, libraries, made_of
+from edits import PARTS, TOP, out_of_gate
+
+# What rt says of an edit: the crate, the edit, what comes of it, and why.
+SAID = re.compile(r"^(?:rt: )?must-fail (\w+)/(\S+\.edit): (refused|NOT REFUSED|BAD EDIT|NOT TRIED)\b(.*)$", re.M)
+REFUSED = "refused"
+# Of an edit that is refused by a limit of the prover, or as a proof file names what it took away.
+HARDLY = " (only b"
+LINES_OF_A_FAILURE = 30
 
 
-def build_libraries(crates):
-    """Builds the libraries among these crates, and those that they stand on."""
-    folders = [item.folder for crate in crates for item in [*crate.below(), crate] if not (item.is_program or item.is_static)]
-    for folder in dict.fromkeys(folders):
-        if subprocess.run(["rt", "lib"], cwd=folder, stdout=subprocess.DEVNULL).returncode:
-            raise SystemExit(f"tests/mutations/run: {Path(folder).name} is not proved as it stands, so its edits say nothing")
-
-
-class MemoryGate:
-    """Lets a check begin where there is memory for it, and for what others may come to take; one at least goes on."""
-
-    # In kilobytes: what must be free, beside what the checks that began in the last seconds may yet take.
-    FREE, EACH, GROWS = 6_000_000, 2_000_000, 30
-
-    def __init__(self):
-        self.lock, self.begun = threading.Lock(), {}
-
-    def is_free(self):
-        young = sum(time.monotonic() - since < self.GROWS for since in list(self.begun.values()))
-        return not self.begun or free_memory() - young * self.EACH >= self.FREE
-
-    def run(self, check):
-        """What the check answers."""
-        with self.lock:
-            while not self.is_free():
-                time.sleep(2)
-            self.begun[check] = time.monotonic()
-        try:
-            return check()
-        finally:
-            del self.begun[check]
-
-
-class Checks:
-    """The checks of all crates: as many side by side as there are lanes, and memory for. They give way to what else goes on."""
-
-    NICE = 10
-
-    def __init__(self, lanes):
-        # a thread of Linux has a niceness of its own, which what it starts has too
-        self.prover, self.gate, self.lanes = Prover(), MemoryGate(), ThreadPoolExecutor(lanes, initializer=os.nice, initargs=(self.NICE,))
-
-    def begin(self, what, check):
-        """Has a check run, which answers later, and says how long it took."""
-        return self.lanes.submit(self.timed, what, check)
-
-    def timed(self, what, check):
-        since, answer = self.gate.run(lambda: (time.monotonic(), check()))
-        print(f"{time.monotonic() - since:4.0f} s  {what}", flush=True)
-        return answer
-
-    def as_it_stands(self, crate, kept):
-        """What a check of the crate as it stands says, which proves it."""
-        status, said = self.begin(crate.name, lambda: self.prover.check(crate, {}, [], kept)).result()
-        if status:
-            raise SystemExit(f"tests/mutations/run: {crate.name} is not proved as it stands, so its edits say nothing")
-        return said
-
-
-def refused_together(prover, crate, group, kept):
-    """The edits of a group that one check shows to be refused."""
-    texts = texts_of(group)
-    _, said = prover.check(crate, texts, asked_for(group), kept)
-    return refused_in(group, said) if prover.are_read(said, texts) else set()
-
-
-def refused_in_groups(checks, crate, groups, kept):
-    """The edits of these groups that are refused in checks of the groups."""
-    name_of = lambda group: f"{crate.name}, {', '.join(sorted(edit.stem for edit in edits_in(group)))}"
-    found = [checks.begin(name_of(group), lambda item=group: refused_together(checks.prover, crate, item, kept)) for group in groups]
-    return set().union(*(trial.result() for trial in found))
-
-
-def tried_over(checks, crate, edits, calls, kept):
-    """The edits that checks of groups show to be refused, or of their own functions alone, and what rt says of each other one."""
-    refused = refused_in_groups(checks, crate, groups_of(edits, calls), kept)
-    others = [group for edit in edits if edit not in refused for group in groups_of([edit], calls)]
-    refused |= refused_in_groups(checks, crate, others, kept)
-    alone = lambda edit: checks.begin(f"{crate.name}, {edit.stem}", lambda: checks.prover.try_alone(crate, edit, kept))
-    said = {edit: alone(edit) for edit in edits if edit not in refused}
-    return refused, {edit: trial.result() for edit, trial in said.items()}
-
-
-def tried(checks, crate, edits):
-    """Whether each edit is refused, and what rt says of it where it was tried alone. That all is proved as it stands is seen
-    before and after. A library's code says what calls what, else the sources do."""
-    kept = Path(crate.folder) / "out/incremental"  # where `rt check` and `rt lib` keep theirs
-    kept.mkdir(parents=True, exist_ok=True)
-    proved = PROVED.findall(checks.as_it_stands(crate, kept))
-    calls = Calls(crate.name, calls_in_code(crate.folder) or calls_in_sources(crate.name, proved))
-    refused, alone = tried_over(checks, crate, edits, calls, kept)
-    checks.as_it_stands(crate, kept)
-    print(f"{crate.name}: {len(refused)} tried in groups, {len(alone)} alone", flush=True)
-    return [(True, "") if edit in refused else alone[edit] for edit in edits]
-
-
-def prove_all(edits, lanes):
-    """Tries the edits, those of all crates side by side, and prints what is not refused. An edit that is refused only since a
-    proof names what it took away is counted as refused, with a line. The libraries are built first."""
-    checks, of_crate = Checks(lanes), {}
-    crates = checks.prover.crates(TOP)
+def copied(scratch, edits):
+    """A crate and those below it, with these edits of it as its only ones."""
+    crate = edits[0].crate
+    (scratch / ".git").mkdir()  # rt looks for the top of a repository no further
+    shutil.copy(TOP / "HANDLES", scratch)
+    below = made_of(crate)
+    lines = [line for line in CRATES.read_text().splitlines(keepends=True) if re.split(r"[ :]", line)[0] in below]
+    (scratch / "crates.txt").write_text("".join(lines))
+    for name in below:
+        for part in PARTS:
+            if (TOP / "crates" / name / part).is_dir():
+                shutil.copytree(TOP / "crates" / name / part, scratch / "crates" / name / part)
+    (scratch / "crates" / crate / "must-fail").mkdir()
     for edit in edits:
-        of_crate.setdefault(crate_of(edit), []).append(edit)
-    build_libraries([crates[name] for name in of_crate])
-    with ThreadPoolExecutor(max(1, len(of_crate))) as pool:
-        found = [item for its in pool.map(lambda name: tried(checks, crates[name], of_crate[name]), of_crate) for item in its]
-    for is_refused, text in found:
-        if not is_refused or "(only b" in text:
-            print(text.removeprefix("must-fail "), flush=True)
-    refused = sum(is_refused for is_refused, _ in found)
-    print(f"{refused} refused, {len(found) - refused} not refused")
-    return 1 if refused != len(edits) or not edits else 0
+        (scratch / "crates" / crate / "must-fail" / edit.file).write_text(edit.text)
+
+
+HOW = {"stdin": subprocess.DEVNULL, "stdout": subprocess.PIPE, "stderr": subprocess.STDOUT, "text": True, "errors": "replace"}
+
+
+def said_of(edits, lanes):
+    """All that `rt must-fail` prints of the edits of a crate, and its status."""
+    with tempfile.TemporaryDirectory(prefix="mutations-") as folder:
+        copied(Path(folder), edits)
+        ran = subprocess.run(["rt", "must-fail", edits[0].crate], cwd=folder, env={**os.environ, "RT_JOBS": str(lanes)}, **HOW)
+    return ran.stdout, ran.returncode
+
+
+def count_refused(edits, printed):
+    """How many of these edits of a crate the prover refuses, by what rt has printed. Those that it does not refuse, or hardly, are named."""
+    said = {name: (what, why) for _, name, what, why in SAID.findall(printed)}
+    for edit in edits:
+        what, why = said.get(edit.file, ("NO ANSWER", ""))
+        if what != REFUSED or HARDLY in why:
+            print(f"{edit.crate}/{edit.name}: {what}{why}", flush=True)
+    return sum(said.get(edit.file, [""])[0] == REFUSED for edit in edits)
+
+
+def are_refused(edits, lanes):
+    """Whether the prover refuses each of these edits of a crate. It says how many, and how long that took."""
+    since = time.monotonic()
+    printed, status = said_of(edits, lanes)
+    refused = count_refused(edits, printed)
+    is_well = status == 0 and refused == len(edits) > 0
+    if not is_well:
+        print(*printed.splitlines()[-LINES_OF_A_FAILURE:], sep="\n")
+    print(f"{edits[0].crate}: {refused} of {len(edits)} refused, in {time.monotonic() - since:.0f} s", flush=True)
+    return is_well
+
+
+@contextlib.contextmanager
+def placed(edits):
+    """These edits of a crate stand among those that `rt ci` tries of it."""
+    folder = TOP / "crates" / edits[0].crate / "must-fail"
+    is_new = not folder.exists()
+    folder.mkdir(exist_ok=True)
+    copies = [folder / edit.file for edit in edits]
+    if taken := [copy for copy in copies if copy.exists()]:
+        raise SystemExit(f"tests/mutations/run: {taken[0]} is there already")
+    try:
+        for edit, copy in zip(edits, copies):
+            copy.write_text(edit.text)
+        yield
+    finally:
+        for copy in copies:
+            copy.unlink(missing_ok=True)
+        if is_new:
+            folder.rmdir()
+
+
+def pass_in_ci(edits):
+    """Runs `rt ci` over the tree with these edits of a crate among its own, and returns whether it passes and the prover refuses each."""
+    lines = []
+    with placed(edits), subprocess.Popen(["rt", "ci"], cwd=TOP, **HOW) as running:
+        for line in running.stdout:
+            sys.stdout.write(line)
+            sys.stdout.flush()
+            lines.append(line)
+    refused = count_refused(edits, "".join(lines))
+    print(f"{edits[0].crate}: {refused} of the {len(edits)} wrong bodies that were drawn are refused", flush=True)
+    return running.returncode == 0 and refused == len(edits) > 0
+
+
+def drawn(seed, count, crate=None):
+    """So many edits of one crate, or all where it has fewer: of this crate, or of one that the seed draws, of more edits the likelier."""
+    chosen = random.Random(seed)
+    by_crate = {name: out_of_gate(name) for name in sorted(libraries()) if out_of_gate(name)}
+    taken = by_crate[crate or chosen.choices([*by_crate], map(len, by_crate.values()))[0]]
+    found = sorted(chosen.sample(taken, min(count, len(taken))))
+    print(f"drawn by the seed {seed}: {len(found)} of the {len(taken)} wrong bodies of {found[0].crate}", flush=True)
+    return found
+
+
+def prove_all(by_crate, lanes):
+    """Tries the edits of each crate, one crate after another; the status is 1 where one is not refused, and where there is none."""
+    found = [are_refused(edits, lanes) for edits in by_crate if edits]
+    return 0 if found and all(found) else 1
