@@ -1,30 +1,21 @@
-"""What cmark_events is run on: its words, its input, and what it then prints and answers with ample memory."""
+"""What fillaqut events is run on: its words, its input, and what it then prints and answers with ample memory."""
 import page_program
-from page_program import Page, complaints_of, named_of, unread_of, usage_of
+from page_program import DEEP, Page, complaints_of, named_of, unread_of, usage_of
 
 KNOWN, OTHER = page_program.KNOWN, page_program.OTHER
-
-# How many reads and writes a run on a long input makes at least.
-MANY = 100
-
-# So many block quotes in each other take more memory than the first request gives room.
-DEEP = 40
-
-# Reads are made as long as there are bytes.
-READS = None
 
 
 class Events(Page):
     """A page whose events are written by one write, after all of it is read; before that nothing is."""
 
-    program = b"cmark_events"
+    command = "events"
 
 
 FORMS = (
-    b"usage: cmark_events [--tables] [--strikethrough] [--wikilinks] [--tasks] [--] [FILE ..]\n"
-    b"       cmark_events -h | --help | --version\n"
+    b"usage: fillaqut events [--tables] [--strikethrough] [--wikilinks] [--tasks] [--] [FILE ..]\n"
+    b"       fillaqut events -h | --help | --version\n"
 )
-USAGE, COMPLAINTS = usage_of(Events.program, FORMS), complaints_of(Events.program, FORMS)
+USAGE, COMPLAINTS = usage_of(FORMS), complaints_of(FORMS)
 UNREAD, NAMED = unread_of(Events), named_of(Events, b'0 1 start paragraph\n0 1 text "a"\n0 1 end paragraph\n')
 
 
@@ -118,11 +109,6 @@ def open_code(count):
 def long():
     """Pages that take more than MANY reads of 4,096 bytes."""
     return [headings(52_000), a_paragraph(70_000)]
-
-
-def passing():
-    """None: a page is held whole."""
-    return []
 
 
 def large():

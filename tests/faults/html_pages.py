@@ -1,30 +1,21 @@
-"""What cmark_html is run on: its words, its input, and what it then prints and answers with ample memory."""
+"""What fillaqut html is run on: its words, its input, and what it then prints and answers with ample memory."""
 import page_program
-from page_program import Page, complaints_of, named_of, unread_of, usage_of
+from page_program import DEEP, Page, complaints_of, named_of, unread_of, usage_of
 
 KNOWN, OTHER = page_program.KNOWN, page_program.OTHER
-
-# How many reads and writes a run on a long input makes at least.
-MANY = 100
-
-# So many block quotes in each other take more memory than the first request gives room.
-DEEP = 40
-
-# Reads are made as long as there are bytes.
-READS = None
 
 
 class Html(Page):
     """A page whose HTML is written by one write, after all of it is read; before that nothing is."""
 
-    program = b"cmark_html"
+    command = "html"
 
 
 FORMS = (
-    b"usage: cmark_html [--safe] [--to html|events|json] [-e NAME].. [--gfm] [--] [FILE ..]\n"
-    b"       cmark_html -h | --help | --version\n"
+    b"usage: fillaqut html [--safe] [--to html|events|json] [-e NAME].. [--gfm] [--] [FILE ..]\n"
+    b"       fillaqut html -h | --help | --version\n"
 )
-USAGE, COMPLAINTS = usage_of(Html.program, FORMS), complaints_of(Html.program, FORMS)
+USAGE, COMPLAINTS = usage_of(FORMS), complaints_of(FORMS)
 UNREAD, NAMED = unread_of(Html), named_of(Html, b"<p>a</p>\n")
 
 A_PAGE = Html("a page", "", b"# a\n\nb\n===\n", b"<h1>a</h1>\n<h1>b</h1>\n")
@@ -74,11 +65,6 @@ def quotes(depth):
 def long():
     """A page that takes more than MANY reads of 4,096 bytes."""
     return [headings(52_000)]
-
-
-def passing():
-    """None: a page is held whole."""
-    return []
 
 
 def large():

@@ -1,8 +1,6 @@
 """What cmark_scan is run on: its words, its input, and what it then prints and answers with ample memory."""
 from program_runs import Scan
 
-# How many reads and writes a run on a long input makes at least.
-MANY = 100
 # How many reads are made at most.
 READS = 1_048_576
 # It takes no files.
@@ -84,8 +82,3 @@ def large():
         references(210_000),
         Scan("long plain text", "unescape", letters, letters),
     ]
-
-
-def passing():
-    """None: all of the input is held."""
-    return []

@@ -1,25 +1,16 @@
-"""What cmark_links is run on: its words, its input, and what it then prints and answers with ample memory."""
+"""What fillaqut links is run on: its words, its input, and what it then prints and answers with ample memory."""
 import re
 
 import page_program
-from page_program import Page, complaints_of, named_of, unread_of, usage_of
+from page_program import DEEP, Page, complaints_of, named_of, unread_of, usage_of
 
 KNOWN, OTHER = page_program.KNOWN, page_program.OTHER
-
-# How many reads and writes a run on a long input makes at least.
-MANY = 100
-
-# So many block quotes in each other take more memory than the first request gives room.
-DEEP = 40
-
-# Reads are made as long as there are bytes.
-READS = None
 
 
 class Links(Page):
     """A page whose lines are written by one write, after all of it is read; before that nothing is."""
 
-    program = b"cmark_links"
+    command = "links"
 
 
 def under(name, shown):
@@ -27,8 +18,8 @@ def under(name, shown):
     return re.sub(rb"(?m)^-:", lambda _: name.encode() + b":", shown)
 
 
-FORMS = b"usage: cmark_links [--json] [--check] [--gfm] [--wikilinks] [--] [FILE ..]\n       cmark_links -h | --help | --version\n"
-USAGE, COMPLAINTS = usage_of(Links.program, FORMS), complaints_of(Links.program, FORMS)
+FORMS = b"usage: fillaqut links [--json] [--check] [--gfm] [--wikilinks] [--] [FILE ..]\n       fillaqut links -h | --help | --version\n"
+USAGE, COMPLAINTS = usage_of(FORMS), complaints_of(FORMS)
 UNREAD, NAMED = unread_of(Links), named_of(Links, b"", under)
 
 A_PAGE = Links("a page", "", b"# [a](b)\n\nc <de:f>\n", b'-:1:3: link inline "b" ""\n-:3:3: link autolink "de:f" ""\n')
@@ -73,11 +64,6 @@ def quotes(depth):
 def long():
     """A page that takes more than MANY reads of 4,096 bytes."""
     return [autolinks(70_000)]
-
-
-def passing():
-    """None: a page is held whole."""
-    return []
 
 
 def large():

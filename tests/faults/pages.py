@@ -1,34 +1,32 @@
-"""What cmark_blocks is run on: its words, its input, and what it then prints and answers with ample memory."""
+"""What fillaqut blocks is run on: its words, its input, and what it then prints and answers with ample memory."""
+import sys
+
+sys.dont_write_bytecode = True
 import page_program
-from page_program import Page, complaints_of, named_of, unread_of, usage_of
+from page_program import DEEP, Page, complaints_of, named_of, unread_of, usage_of
+from program_runs import TOP
+
+sys.path.append(str(TOP / "tests/rows"))
+from rows import FOLDER, rows_of
 
 KNOWN, OTHER = page_program.KNOWN, page_program.OTHER
 
-# How many reads and writes a run on a long input makes at least.
-MANY = 100
-
 # In bytes.
 SMALL_MEMORY = 1 << 23
-
-# So many containers in each other take more memory than the first request gives room.
-DEEP = 40
-
-# Reads are made as long as there are bytes.
-READS = None
 
 
 class Blocks(Page):
     """A page whose blocks are written while it is read, by one write for each part of it."""
 
-    program = b"cmark_blocks"
+    command = "blocks"
 
     def is_front(self, out):
         """The lines of its first blocks."""
         return self.out.startswith(out) and out[-1:] in (b"", b"\n")
 
 
-FORMS = b"usage: cmark_blocks [--json] [--footnotes] [--definition-lists] [--] [FILE ..]\n       cmark_blocks -h | --help | --version\n"
-USAGE, COMPLAINTS = usage_of(Blocks.program, FORMS), complaints_of(Blocks.program, FORMS)
+FORMS = b"usage: fillaqut blocks [--json] [--footnotes] [--definition-lists] [--] [FILE ..]\n       fillaqut blocks -h | --help | --version\n"
+USAGE, COMPLAINTS = usage_of(FORMS), complaints_of(FORMS)
 UNREAD, NAMED = unread_of(Blocks), named_of(Blocks, b"1 1 0 paragraph\n")
 
 A_PAGE = Blocks("a page", "", b"# a\n\nb\n===\n", b"1 1 0 heading 1\n2 2 0 blank\n3 4 0 setext 1\n")
@@ -59,6 +57,27 @@ SMALL = [
     Blocks("definitions", "", b"[a]: /b\n[c]:\n/d\ne\n", b"1 1 0 definition\n2 3 0 definition\n4 4 0 paragraph\n"),
     Blocks("deep containers", "", b">" * DEEP + b"a\n", b"".join(b"1 1 %d quote\n" % index for index in range(DEEP)) + b"1 1 %d paragraph\n" % DEEP),
     Blocks("no page", "", b"", b""),
+]
+
+
+# Pages that are read in two parts, cut at each place, and a byte at a time.
+WHOLE = ("a_page_is_printed_block_by_block", "a_page_cut_at_any_place_prints_the_same")
+CUT = [Blocks(row.name, "", row.page, row.printed) for row in rows_of(FOLDER / "blocks.txt")[0] if row.name in WHOLE]
+
+# Pages that can't be read to their ends: of what was read before a fault, the blocks are printed whose end is read.
+BROKEN = [
+    Blocks("a page that breaks off", "", page, shown)
+    for page, shown in [
+        (b"", b""),
+        (b"# a\n", b""),
+        (b"# a\n\nb\n", b"1 1 0 heading 1\n2 2 0 blank\n"),
+        (b"# a\r", b""),
+        (b"# a\r\n\r", b""),
+        (b"    a\n\n\n", b""),
+        (b"    a\n\n\nb\n", b"1 1 0 indented\n2 3 0 blank\n"),
+        (b"> a\n\nb", b"1 1 0 quote\n1 1 1 paragraph\n"),
+        (b"a\n---", b""),
+    ]
 ]
 
 

@@ -1,6 +1,8 @@
 """One run of a built program under refuse.c, what became of it, and which builds are run."""
 import os
 import resource
+import signal
+import socket
 import subprocess
 import sys
 import tempfile
@@ -70,9 +72,9 @@ class Scan:
         return out == self.out[: writes * size]
 
 
-def read_to_end(file):
-    with os.fdopen(file, "rb") as item:
-        return item.read().decode()
+def asked_of(named):
+    """What is asked of refuse.c, as words of an environment."""
+    return {f"FAULTS_{name.upper()}": str(value) for name, value in named.items()}
 
 
 def prepared(closed, memory):
@@ -87,32 +89,80 @@ def prepared(closed, memory):
     return prepare if closed or memory else None
 
 
+class Loaded:
+    """A program that is loaded once with its words and its input, and run as often as it is asked to, each time from its start."""
+
+    def __init__(self, program, words, given):
+        self.key = words, given
+        self.files = [os.fdopen(os.memfd_create(name), "r+b", buffering=0) for name in ("given", "out", "err", "report")]
+        self.socket, theirs = socket.socketpair(socket.AF_UNIX, socket.SOCK_SEQPACKET)
+        self.socket.settimeout(SECONDS)
+        given_to, out, err, report = self.files
+        given_to.write(given)
+        env = program.env | asked_of({"serve": theirs.fileno(), "tell": report.fileno()})
+        how = {"stdin": given_to, "stdout": out, "stderr": err, "env": env, "pass_fds": [theirs.fileno(), report.fileno()]}
+        self.process = subprocess.Popen([str(program.path), *words], start_new_session=True, **how)
+        theirs.close()
+
+    def run(self, asked):
+        self.socket.send("\t".join(["", *map("=".join, asked_of(asked).items())]).encode() or b"\t")
+        late = b""
+        try:
+            status = os.waitstatus_to_exitcode(int.from_bytes(self.socket.recv(4), sys.byteorder))
+        except TimeoutError:
+            status, late = -signal.SIGKILL, b"(it had not ended after %d seconds)" % SECONDS
+            os.killpg(self.process.pid, signal.SIGKILL)
+        out, err, report = (os.pread(file.fileno(), os.fstat(file.fileno()).st_size, 0) for file in self.files[1:])
+        return Run(out, err + late, status, report.decode())
+
+    def close(self):
+        self.socket.close()
+        self.process.wait()
+        for file in self.files:
+            file.close()
+
+
 class Program:
-    """A built program, run with the library of refuse.c preloaded."""
+    """A built program, or a command of it, run with the library of refuse.c preloaded."""
 
-    def __init__(self, path, library):
-        self.path, self.library, self.name = path, library, path.name
+    def __init__(self, path, library, command=""):
+        self.path, self.name = path, f"{path.name} {command}".strip()
+        self.first = [command] if command else []
+        self.env = {"LD_PRELOAD": str(library)}
+        self.loaded = None
 
-    def run(self, words, given=b"", closed=(), memory=None, stdin=None, stdout=subprocess.PIPE, **asked):
-        """Runs it. What is asked of refuse.c is named without FAULTS_, in lower case; the bytes given are its input unless
-        stdin is a file."""
-        report, writing = os.pipe()
-        env = {"LD_PRELOAD": str(self.library), "FAULTS_TELL": str(writing)}
-        env.update({f"FAULTS_{name.upper()}": str(number) for name, number in asked.items()})
-        with tempfile.TemporaryFile() as file:
+    def run(self, words, given=b"", **how):
+        """Runs it. What is asked of refuse.c is named without FAULTS_, in lower case; the bytes given are its input. Where descriptors
+        are closed or others, or memory is limited, it is loaded anew."""
+        words = [*self.first, *words]
+        if how.keys() & {"closed", "memory", "stdin", "stdout"}:
+            return self.run_anew(words, given, **how)
+        if not self.loaded or self.loaded.key != (words, given) or self.loaded.process.poll() is not None:
+            self.unload()
+            self.loaded = Loaded(self, words, given)
+        return self.loaded.run(how)
+
+    def unload(self):
+        if self.loaded:
+            self.loaded.close()
+        self.loaded = None
+
+    def run_anew(self, words, given, closed=(), memory=None, stdin=None, stdout=subprocess.PIPE, **asked):
+        with tempfile.TemporaryFile() as file, tempfile.TemporaryFile() as report:
             file.write(given)
             file.seek(0)
-            how = {"stdin": file if stdin is None else stdin, "stdout": stdout, "stderr": subprocess.PIPE, "env": env}
-            how.update(pass_fds=[writing], preexec_fn=prepared(closed, memory))
+            how = {"stdin": file if stdin is None else stdin, "stdout": stdout, "stderr": subprocess.PIPE}
+            how |= {"env": self.env | asked_of({**asked, "tell": report.fileno()})}
+            how |= {"pass_fds": [report.fileno()], "preexec_fn": prepared(closed, memory)}
             started = subprocess.Popen([str(self.path), *words], **how)
-            os.close(writing)
             try:
                 out, err = started.communicate(timeout=SECONDS)
             except subprocess.TimeoutExpired:
                 started.kill()
                 out, err = started.communicate()
                 err += b"(it had not ended after %d seconds)" % SECONDS
-        return Run(out or b"", err, started.returncode, read_to_end(report))
+            report.seek(0)
+            return Run(out or b"", err, started.returncode, report.read().decode())
 
 
 class Tally:

@@ -1,7 +1,8 @@
-"""Runs of cmark_scan and cmark_blocks with memory, reads and writes refused: each has the output of the ample run, or status
+"""Runs of cmark_scan and fillaqut blocks with memory, reads and writes refused: each has the output of the ample run, or status
 3 and a word on why. What they are run on stands in inputs.py and pages.py, and is called `inputs` here."""
 import errno
 import os
+import signal
 import tempfile
 from pathlib import Path
 
@@ -9,6 +10,8 @@ from page_program import reason
 
 # How many bytes a read of a long input gives.
 PAGE = 4_096
+# How many reads and writes a run on a long input makes at least.
+MANY = 100
 HALF_GIBIBYTE = 1 << 29
 TOO_MANY = 10_000
 FAILING_READS = (errno.EIO, errno.EINTR, errno.EAGAIN)
@@ -144,9 +147,9 @@ def real_faults(program, scan, tally):
 
 
 def endless_input(program, inputs, scan, tally):
-    if inputs.READS:
+    if most := getattr(inputs, "READS", None):
         run = program.run(scan.words, endless=1)
-        well = is_ended(run, scan.read_fault(0)) and run.count("reads") == inputs.READS
+        well = is_ended(run, scan.read_fault(0)) and run.count("reads") == most
         tally.check(f"{program.name} {scan.name}, endless input a byte a read", well, run)
     run = program.run(scan.words, endless=4096, memory=HALF_GIBIBYTE)
     well = is_ended(run, scan.no_memory()) and run.count("reads") > 0
@@ -175,6 +178,32 @@ def named_files(program, inputs, tally):
         tally.check(f"{program.name}, {name}", (run.out, run.err, run.status) == (out, err, status), run)
 
 
+def cut_page(program, scan, tally):
+    """A page in two parts, cut at each place."""
+    for size in range(1, len(scan.given)):
+        run = program.run(scan.words, scan.given, read_first=size)
+        tally.check(f"{program.name} {scan.name}, cut after {size} bytes", run.counts and scan.is_answered(run), run)
+
+
+def broken_page(program, scan, tally):
+    """A page whose first read gives all that is given, and whose second fails: as input, and as a file. And a file that can't be opened,
+    after one that is printed."""
+    second = 2 if scan.given else 1
+    run = program.run(scan.words, scan.given, read_fail=second, errno=errno.EIO)
+    tally.check(f"{program.name} {scan.name}", (run.out, run.err, run.status) == (scan.out, scan.read_fault(errno.EIO), 3), run)
+    with tempfile.NamedTemporaryFile() as file:
+        file.write(scan.given)
+        file.flush()
+        fault = b"%s: %s: %%s\n" % (scan.program, os.fsencode(file.name))
+        run = program.run([file.name], file_fail=second, errno=errno.EIO)
+        well = (run.out, run.err, run.status) == (scan.out, fault % reason(errno.EIO), 3)
+        tally.check(f"{program.name} {scan.name}, in a file", well, run)
+        whole = program.run([file.name])
+        run = program.run([file.name, file.name], open_fail=2, errno=errno.EACCES)
+        well = (run.out, run.err, run.status) == (whole.out, fault % reason(errno.EACCES), 3) and whole.status == 0
+        tally.check(f"{program.name} {scan.name}, before a file that is not opened", well, run)
+
+
 class Replaced:
     """A file alone in its folder, and what becomes of it by --write."""
 
@@ -198,12 +227,30 @@ class Replaced:
         return (run.out, run.err, run.status) == (b"", self.notes, 0) and self.holds(self.after)
 
     def is_refused(self, run, number):
-        said = b"%s: %s: not replaced: %s\n" % (self.program.name.split(".")[0].encode(), os.fsencode(self.file), reason(number))
+        said = b"fillaqut: %s: not replaced: %s\n" % (os.fsencode(self.file), reason(number))
         return (run.out, run.err, run.status) == (b"", self.notes + said, 3) and self.holds(self.before)
+
+    def copies(self):
+        """What the files hold that are beside it, by their names."""
+        return {path.name: path.read_bytes() for path in self.file.parent.iterdir() if path != self.file}
+
+    def is_left_with_a_copy(self, run, number):
+        said = b"fillaqut: %s: written in part; what it held is in a file beside it: %s\n"
+        said %= (os.fsencode(self.file), reason(number))
+        return (run.out, run.err, run.status) == (b"", self.notes + said, 3) and self.copies() == {".page.md.0.old": self.before}
+
+    def is_whole(self):
+        """The text that it held, or that it gets, is whole: in the file, or in the copy."""
+        held, copies = self.file.read_bytes(), self.copies()
+        return held in (self.before, self.after) or copies == {".page.md.0.old": self.before}
+
+    def clear(self):
+        for name in self.copies():
+            (self.file.parent / name).unlink()
 
     def is_without_memory(self, run):
         """Refused before or after it is said what is left as it is."""
-        return run.out == b"" and run.status == 3 and run.err.startswith((self.notes, b"cmark_tables: ")) and self.holds(self.before)
+        return run.out == b"" and run.status == 3 and run.err.startswith((self.notes, b"fillaqut: ")) and self.holds(self.before)
 
 
 def failing_steps(program, case, number, tally):
@@ -218,8 +265,33 @@ def failing_steps(program, case, number, tally):
                 break
             is_again = number == errno.EINTR and replaced.is_done(run)
             tally.check(what, is_again or replaced.is_refused(run, number), run)
-        least = 0 if replaced.before == replaced.after else 5 + len(replaced.after) // 5
+        least = 0 if replaced.before == replaced.after else 7 + len(replaced.before) // 5 + len(replaced.after) // 5
         tally.check(f"{program.name} {replaced.name}, steps that failed", n > least, why=f"{n} of {least}")
+
+
+def cut_off(program, case, tally):
+    """All steps that replace a file fail from each on, or the program is killed at it: what the file held stays whole, in it or in a copy."""
+    with tempfile.TemporaryDirectory() as scratch:
+        replaced = Replaced(program, case, scratch)
+        for n in range(1, replaced.run(write_size=5).count("steps") + 1):
+            run = replaced.run(step_from=n, errno=errno.ENOSPC, write_size=5)
+            well = replaced.is_refused(run, errno.ENOSPC) or replaced.is_left_with_a_copy(run, errno.ENOSPC)
+            tally.check(f"{program.name} {replaced.name}, steps from {n} on", well, run)
+            replaced.clear()
+            run = replaced.run(step_kill=n, write_size=5)
+            tally.check(f"{program.name} {replaced.name}, killed at step {n}", run.status == -signal.SIGKILL and replaced.is_whole(), run)
+            replaced.clear()
+
+
+def changed_meanwhile(program, case, tally):
+    """The file gets one more byte when its copy is made; then it stands with that."""
+    with tempfile.TemporaryDirectory() as scratch:
+        replaced = Replaced(program, case, scratch)
+        run = replaced.run(change=replaced.file)
+        said = b"fillaqut: %s: not replaced: it has changed since it was read\n" % os.fsencode(replaced.file)
+        stands = run.err == replaced.notes + said and run.status == 3 and replaced.holds(replaced.before + b"\n")
+        well = replaced.is_done(run) if replaced.before == replaced.after else stands
+        tally.check(f"{program.name} {replaced.name}, changed meanwhile", well, run)
 
 
 def replaced_without_memory(program, case, tally):
@@ -249,10 +321,10 @@ def run_scans(program, inputs, tally):
         writes_of(program, scan, (1, 7), tally)
         failing_writes(program, scan, 1, FAILING_WRITES, tally)
     for scan in inputs.long():
-        failing_reads(program, scan, inputs.MANY, tally, read_size=PAGE)
-        short_reads(program, scan, inputs.MANY, tally, read_size=PAGE)
-        failing_writes(program, scan, len(scan.out) // inputs.MANY, (errno.ENOSPC, 0), tally)
-    for scan in inputs.passing():
+        failing_reads(program, scan, MANY, tally, read_size=PAGE)
+        short_reads(program, scan, MANY, tally, read_size=PAGE)
+        failing_writes(program, scan, len(scan.out) // MANY, (errno.ENOSPC, 0), tally)
+    for scan in getattr(inputs, "passing", list)():
         in_small_memory(program, scan, inputs.SMALL_MEMORY, tally)
     for scan in inputs.large():
         reads_of(program, scan, (4095,), tally)
@@ -260,9 +332,16 @@ def run_scans(program, inputs, tally):
     other_words(program, inputs, tally)
     failing_errors(program, inputs, tally)
     named_files(program, inputs, tally)
+    for scan in getattr(inputs, "CUT", []):
+        cut_page(program, scan, tally)
+        reads_of(program, scan, (1,), tally)
+    for scan in getattr(inputs, "BROKEN", []):
+        broken_page(program, scan, tally)
     for case in getattr(inputs, "REPLACED", []):
         for number in (*FAILING_STEPS, errno.EINTR):
             failing_steps(program, case, number, tally)
+        cut_off(program, case, tally)
+        changed_meanwhile(program, case, tally)
         replaced_without_memory(program, case, tally)
     for scan in inputs.PLAIN:
         real_faults(program, scan, tally)

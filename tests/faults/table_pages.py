@@ -1,20 +1,14 @@
-"""What cmark_tables is run on: its words, its input or a file, and what it then prints, says and answers with ample memory."""
+"""What fillaqut tables is run on: its words, its input or a file, and what it then prints, says and answers with ample memory."""
 import page_program
 from page_program import Page, complaints_of, named_of, unread_of, usage_of
 
 KNOWN, OTHER = page_program.KNOWN, page_program.OTHER
 
-# How many reads and writes a run on a long input makes at least.
-MANY = 100
-
-# Reads are made as long as there are bytes.
-READS = None
-
 
 class Tables(Page):
     """A page whose text is written by one write, after all of it is read and what is said of its tables; before that nothing is."""
 
-    program = b"cmark_tables"
+    command = "tables"
 
     def write_fault(self, number):
         return self.err + super().write_fault(number)
@@ -22,10 +16,10 @@ class Tables(Page):
 
 MISFIT = b"row has more cells than its table has columns, and the table is left as it is\n"
 EMPTY = b"row has no cell, and its table is left as it is\n"
-FORMS = b"usage: cmark_tables [--check | --write] [--] [FILE ..]\n       cmark_tables -h | --help | --version\n"
-USAGE, COMPLAINTS = usage_of(Tables.program, FORMS), complaints_of(Tables.program, FORMS)
+FORMS = b"usage: fillaqut tables [--check | --write] [--] [FILE ..]\n       fillaqut tables -h | --help | --version\n"
+USAGE, COMPLAINTS = usage_of(FORMS), complaints_of(FORMS)
 UNREAD = unread_of(Tables)
-NAMED = named_of(Tables, b"a", notes=lambda name: b"%s:27:1: %s%s:43:1: %s" % (name.encode(), MISFIT, name.encode(), EMPTY))
+NAMED = named_of(Tables, b"a", notes=lambda name: b"%s:27:1: %s%s:43:1: %s" % (name.encode(), MISFIT, name.encode(), EMPTY), goes_on=True)
 
 ROUGH, SMOOTH = b"a|b\n-|-:\n1|2\n", b"| a   |   b |\n| --- | --: |\n| 1   |   2 |\n"
 
@@ -74,11 +68,6 @@ def open_code(count):
 def long():
     """A page that takes more than MANY reads of 4,096 bytes."""
     return [rows(110_000)]
-
-
-def passing():
-    """None: a page is held whole."""
-    return []
 
 
 def large():

@@ -1,2 +1,0 @@
-/* Stands for cmark_events in the tests of tests/faults/run. */
-#include "cmark_blocks.c"
