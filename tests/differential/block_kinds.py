@@ -1,4 +1,4 @@
-"""The ways in which cmark_blocks is known to differ from cmark 0.30.2 and cmark-gfm 0.29, each with the section that decides.
+"""The ways in which fillaqut blocks is known to differ from cmark 0.30.2 and cmark-gfm 0.29, each with the section that decides.
 
 Sections are of CommonMark 0.31.2 where none other is named.
 """
@@ -6,15 +6,13 @@ import re
 from collections import namedtuple
 from itertools import zip_longest
 
-from block_trees import EMPTY, agree, alike, has_later_header, lines_in, tables_of
+from block_trees import EMPTY, agree, alike
 
 # What of a line containers may take.
 CONTAINERS = rb"(?:[ \t>]|[-+*](?=[ \t])|[0-9]{1,9}[.)](?=[ \t]))*"
 
-# An opening fence and white space that is not trimmed from its info string; a delimiter row with a colon elsewhere than at the ends
-# of a cell.
+# An opening fence and white space that is not trimmed from its info string.
 INFO = rb"(?:~{3,}|`{3,})(?:[ \t]*[\v\f]|[^\r\n]*[\v\f][ \t\v\f]*(?:[\r\n]|$))"
-OTHER_CELL = rb"^[-:| \t>]*(?:-[ \t]*:[ \t]*[-:]|::)[-:| \t]*\r?$"
 
 # A way to differ: what a page of it has, the section, and whether a page is one.
 Kind = namedtuple("Kind", "words section fits")
@@ -73,7 +71,7 @@ def begins_an_item(page):
 
 
 def in_a_table_page(pattern):
-    """That cmark_blocks finds a table in a page with this."""
+    """That fillaqut blocks finds a table in a page with this."""
     found = re.compile(pattern, re.M)
     return lambda page: page.has_our_table() and found.search(page.text) is not None
 
@@ -109,22 +107,6 @@ def parts_at_a_list(is_tight, kind):
     return fits
 
 
-def is_column(first, lines):
-    """Whether the table that begins at this line has no pipe in its delimiter row, and so one column."""
-    return not any(b"|" in line for line in lines[first : first + 1])
-
-
-def has_only_columns(ours, document, lines):
-    """Whether cmark-gfm alone finds tables, and all of them are of one column without a pipe."""
-    tables = [] if has_later_header(document) else tables_of(document)
-    return bool(tables) and all(is_column(lines_in(table)[0], lines) for table in tables) and all(block.kind != "table" for block in ours)
-
-
-def has_a_column(page):
-    """That cmark-gfm finds such a table, beside others."""
-    return any(block.kind == "table" and is_column(block.first, page.lines) for block in page.theirs)
-
-
 def has_other_white_space(page):
     """That cmark-gfm finds a table whose header or delimiter row has a form feed or a vertical tab."""
     rows = [b"".join(page.lines[block.first - 1 : block.first + 1]) for block in page.theirs if block.kind == "table"]
@@ -145,16 +127,11 @@ KINDS = {
     "cdata": Kind("have <![CDATA[ in small letters", "4.6, condition 5", begins(rb"<!\[(?!CDATA)(?i:cdata)\[")),
     "raw": Kind("have <pre/> or the like alone in its line", "4.6, condition 7", begins(rb"<(?i:pre|script|style|textarea)/>")),
     "name": Kind("have <search> or <source>", "4.6, condition 6", begins(rb"</?(?i:search|source)(?=[\s/>]|$)")),
-    "heading": Kind("have # before a form feed or vertical tab", "4.2", begins(rb"#{1,6}[\v\f]")),
     "info": Kind("have a form feed or vertical tab at an end of an info string", "4.5", begins(INFO)),
     "escape": Kind("have an escaped & in an info string", "2.4", begins(rb"(?:~{3,}|`{3,})[^\r\n]*\\&")),
     "marker": Kind("have a list marker before a form feed or vertical tab", "5.2", begins_an_item),
-    "underline": Kind("have an underline before a form feed or vertical tab", "4.3", begins(rb"(?:=+|-+)[ \t]*[\v\f]")),
-    "blank": Kind("have a line of form feeds or vertical tabs", "2.1", begins(rb"[ \t]*[\v\f][ \t\v\f]*(?:[\r\n]|$)")),
     "begin": Kind("begin an item with blank lines", "5.2", begins_blank),
-    "cell": Kind("have a colon between a delimiter cell's hyphens", "GFM 4.10", in_a_table_page(OTHER_CELL)),
     "pipe": Kind("have a row of one pipe", "GFM 4.10", in_a_table_page(rb"^(?:[ \t>]|[-+*]|[0-9]{1,9}[.)])*\|[ \t]*\r?$")),
-    "column": Kind("have a table of one column without a pipe", "GFM 4.10", has_a_column),
     "space": Kind("have a form feed or vertical tab in a table's first rows", "GFM 4.10", has_other_white_space),
     "older": Kind("have a table, and a block of <textarea>", "4.6, condition 1", in_a_table_page(rb"<textarea")),
     # Known before the blocks are compared: cmark-gfm writes no places of these lines.

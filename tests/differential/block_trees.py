@@ -1,4 +1,4 @@
-"""What cmark_blocks, cmark and cmark-gfm say of the blocks and containers of a page, in one form. Pages and texts of them are bytes."""
+"""What fillaqut blocks, cmark and cmark-gfm say of the blocks and containers of a page, in one form. Pages and texts of them are bytes."""
 import html.entities
 import os
 import re
@@ -8,7 +8,8 @@ from pathlib import Path
 from xml.etree import ElementTree
 
 TOP = Path(__file__).resolve().parents[2]
-OURS = [os.environ.get("CMARK_BLOCKS", str(TOP / "crates/cmark_blocks/out/cmark_blocks"))]
+FILLAQUT = os.environ.get("FILLAQUT", str(TOP / "crates/fillaqut/out/fillaqut"))
+OURS = [FILLAQUT, "blocks"]
 # What is not UTF-8 they replace by U+FFFD: else their patterns end there.
 AS_XML = ["--validate-utf8", "--sourcepos", "-t", "xml"]
 CMARK = [os.environ.get("CMARK", "cmark"), *AS_XML]
@@ -17,7 +18,7 @@ CMARK_GFM = [os.environ.get("CMARK_GFM", "cmark-gfm"), "-e", "table", *AS_XML]
 # The elements of cmark, and the kinds of blocks and containers that they are.
 BLOCKS = {"thematic_break": "break", "heading": "heading", "code_block": "code", "html_block": "html", "table": "table", "paragraph": "paragraph"}
 CONTAINERS = {"block_quote": "quote", "item": "item"}
-# Kinds of cmark_blocks that cmark has under one name.
+# Kinds of fillaqut blocks that cmark has under one name.
 SAME_KIND = {"setext": "heading", "indented": "code", "fenced": "code"}
 
 LINE = re.compile(rb"[^\r\n]*(?:\r\n|\n|\r)|[^\r\n]+")
@@ -72,7 +73,7 @@ def meaning(found):
 
 
 def resolved(info):
-    """The info string that cmark_blocks prints as cmark has it: its bytes, with escapes and references in it resolved."""
+    """The info string that fillaqut blocks prints as cmark has it: its bytes, with escapes and references in it resolved."""
     text = re.sub(rb"\\u00(..)", lambda item: bytes([int(item[1], 16)]), info).replace(b"\0", REPLACEMENT)
     reference = rb"&(?:#[xX]([0-9a-fA-F]{1,6})|#([0-9]{1,7})|([a-zA-Z][a-zA-Z0-9]*));"
     return in_attribute(re.sub(rb"\\([!-/:-@[-`{-~])|" + reference, meaning, text))
@@ -98,7 +99,7 @@ def in_order(found):
 
 
 def our_rows(page):
-    """What cmark_blocks prints of a page: of each line its numbers, the kind, and the words after it."""
+    """What fillaqut blocks prints of a page: of each line its numbers, the kind, and the words after it."""
     rows = [row.split(b" ") for row in said_by(OURS, page).splitlines()]
     return [(int(first), int(last), int(depth), kind.decode(), more) for first, last, depth, kind, *more in rows]
 
@@ -129,7 +130,7 @@ def our_block(row, begin, lines, defined):
 
 
 def our_blocks(page):
-    """What cmark_blocks says of a page, and the lines of its definitions. Blank lines and definitions are no blocks of cmark."""
+    """What fillaqut blocks says of a page, and the lines of its definitions. Blank lines and definitions are no blocks of cmark."""
     lines, rows = lines_of(page), our_rows(page)
     defined = definitions_in(rows)
     blocks = [pair for pair in zip(rows, begins_of(rows)) if pair[0][3] not in ("blank", "definition")]

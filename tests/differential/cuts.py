@@ -1,7 +1,5 @@
 #!/usr/bin/env python3
-"""Prints what cmark_cuts has to print: what the definitions answer on hostile texts cut near their ends, added up.
-
-    tests/differential/cuts.py | cmp - crates/cmark_cuts/stdout
+"""Prints what packages/c/tests/cuts.c has to print: what the definitions answer on hostile texts cut near their ends, added up.
 
 Nothing here knows the library: each part is answered from docs/DEFINITIONS.md (answers.py), or counted by hand. Where a
 figure comes from stands above its function. Bracketed sections are of CommonMark 0.31.2.

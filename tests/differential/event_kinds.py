@@ -1,4 +1,4 @@
-"""The ways in which cmark_events is known to differ from pulldown-cmark 0.9.2, each with the section that decides.
+"""The ways in which fillaqut events is known to differ from pulldown-cmark 0.9.2, each with the section that decides.
 
 Sections are of CommonMark 0.31.2.
 """
@@ -143,13 +143,13 @@ def others(parting):
 
 
 def is_alone(parting):
-    """That cmark has the events that cmark_events has."""
+    """That cmark has the events that fillaqut events has."""
     ours = our_shape([pair.our for pair in parting.pairs if pair.our])
     return any(how_many_alike(parting.page, ours, other) == len(ours) == len(other) for other in others(parting))
 
 
 def is_alone_there(parting):
-    """That cmark has the events that cmark_events has up to where the two part, and not those of pulldown-cmark."""
+    """That cmark has the events that fillaqut events has up to where the two part, and not those of pulldown-cmark."""
     if parting.our is None:
         return False
     ours = our_shape([pair.our for pair in parting.pairs if pair.our])
@@ -157,15 +157,15 @@ def is_alone_there(parting):
     return any(how_many_alike(parting.page, ours, other) >= len(front) and theirs != other[: len(theirs)] for other in others(parting))
 
 
-def task_at(parting):
-    """The marker of a task that one of the pair is, or one of the pair before it."""
-    near = [event for pair in parting.pairs[max(parting.at - 1, 0) : parting.at + 1] for event in pair]
+def task_at(parting, last=0):
+    """The marker of a task that one of the pair is, or one of the pair before it, or of so many after it."""
+    near = [event for pair in parting.pairs[max(parting.at - 1, 0) : parting.at + 1 + last] for event in pair]
     return next((event for event in reversed(near) if event and event.words in TASKS), None)
 
 
 def has_marker_alone(parting):
-    """That nothing but white space stands in the line after the marker of a task."""
-    marker = task_at(parting)
+    """That nothing but white space stands in the line after the marker of a task, which for pulldown-cmark a paragraph may follow."""
+    marker = task_at(parting, 1)
     return marker is not None and BLANK_REST.match(parting.page, marker.end) is not None
 
 
@@ -173,6 +173,12 @@ def has_marker_below(parting):
     """That the marker of a task begins a line, in which no list marker stands."""
     marker = task_at(parting)
     return marker is not None and not parting.page[parting.page.rfind(b"\n", 0, marker.start) + 1 : marker.start].strip(b" \t>")
+
+
+def has_tab_in_marker(parting):
+    """That the marker of a task has neither a space nor an x between its brackets."""
+    marker = task_at(parting)
+    return marker is not None and parting.page[marker.start + 1 : marker.start + 2] not in (b" ", b"x", b"X")
 
 
 def has_block_in_task(parting):
@@ -214,11 +220,6 @@ def in_lines(text):
     return text.replace(b"\r\n", b"\n")
 
 
-def has_endings(pair):
-    """That lines of code or HTML end in a carriage return and a line feed."""
-    return pair.our.words in ("text", "html") and in_lines(pair.our.texts[0]) in (pair.their.texts[0], in_lines(pair.their.texts[0]))
-
-
 def has_indent(pair):
     """That lines of HTML are indented."""
     ours, theirs = (INDENT.sub(b"", in_lines(side.texts[0])) for side in pair) if pair.of("html") else (True, False)
@@ -236,7 +237,6 @@ def has_escaped_pipe(pair):
 
 
 TEXT_KINDS = {
-    "endings": Kind("have lines of code or HTML that end in CR LF, which is a line feed for pulldown-cmark", "2.1", has_endings),
     "indent": Kind("have HTML lines with an indent, which pulldown-cmark may leave out", "4.6", has_indent),
     "code": Kind("are a code span with a line ending at its edge, which is a space", "6.1", has_ending_in_code),
     "pipe": Kind("are a code span with an escaped pipe in a table, whose backslash pulldown-cmark keeps", "GFM 4.10", has_escaped_pipe),
@@ -252,9 +252,10 @@ EVENT_KINDS = {
     "comment": Kind("have a comment with two hyphens in it, or that begins with > or ->", "6.6", has_comment),
     "declaration": Kind("have a declaration with a small letter, or a letter alone", "6.6", has(DECLARATION)),
     "symbol": Kind("have a symbol that is not ASCII beside delimiters", "6.2", lambda parting: has_symbol(parting.around())),
-    "ends": Kind("have the marker of a task that ends its line, not one for pulldown-cmark or followed by a new paragraph", "GFM 5.3", has_marker_alone),
+    "ends": Kind("have the marker of a task for pulldown-cmark that white space follows alone in its line", "GFM 5.3", has_marker_alone),
     "below": Kind("have the marker of a task in a later line than that of its item, which is not one for pulldown-cmark", "GFM 5.3", has_marker_below),
     "inside": Kind("have a heading or code that begins with the marker of a task, or for pulldown-cmark a block after one", "GFM 5.3", has_block_in_task),
+    "brackets": Kind("have the marker of a task for pulldown-cmark with a tab between its brackets, which is text", "GFM 5.3", has_tab_in_marker),
     "alone": Kind("have for cmark, or with extensions for cmark-gfm, the events that they have here", "pulldown-cmark 0.9.2 alone", is_alone),
     "there": Kind("have them up to where they part from pulldown-cmark", "pulldown-cmark 0.9.2 alone", is_alone_there),
     "quote": Kind("have a block quote that interrupts a paragraph, which goes on for pulldown-cmark", "5.1", has_quote),
@@ -279,10 +280,6 @@ def is_tab(parting):
     return (parting.pair.of("text") or parting.pair.element() == "code block") and not parting.is_end and parting.page[parting.our : parting.their] == b"\t"
 
 
-def is_half_ending(parting):
-    return parting.pair.of("text") and not parting.is_end and parting.page[parting.our : parting.their] == b"\r"
-
-
 def is_indent(parting):
     return parting.pair.of("html") and not parting.is_end and parting.our < parting.their and not parting.page[parting.our : parting.their].strip(b" \t")
 
@@ -290,6 +287,12 @@ def is_indent(parting):
 def is_last_line(parting):
     """That a page ends with spaces after HTML that is closed."""
     return parting.pair.of("html") and parting.is_end and parting.their == len(parting.page) and not parting.page[parting.our : parting.their].strip(b" \t")
+
+
+def is_part_of_tab(parting):
+    """That a page ends with HTML whose last line is a part of a tab, the rest of which a container takes."""
+    beyond = parting.page[parting.their : parting.our]
+    return parting.pair.of("html") and parting.is_end and parting.our == len(parting.page) and b"\t" in beyond and not beyond.strip(b" \t>")
 
 
 def is_fence(parting):
@@ -303,11 +306,6 @@ def is_blank(parting):
 
 def is_of_task(parting):
     return parting.pair.our.words.endswith(" paragraph") and not parting.is_end and MARKER.fullmatch(parting.page, parting.our, parting.their) is not None
-
-
-def is_before_start(parting):
-    """That a range has no bytes for pulldown-cmark."""
-    return parting.is_end and parting.their <= parting.pair.their.start < parting.our
 
 
 def is_collapsed(parting):
@@ -328,15 +326,14 @@ PLACE_KINDS = {
     "escape": Kind("begin with the backslash of an escape, for pulldown-cmark after it", "2.4", is_escape),
     "marker": Kind("begin with the marker of a container, for pulldown-cmark with the space before it", "5.1, 5.2", is_marker),
     "tab": Kind("begin with a tab of which some columns are text, for pulldown-cmark after it", "2.2", is_tab),
-    "half": Kind("begin with the CR of CR LF, for pulldown-cmark after it", "2.1", is_half_ending),
     "indent": Kind("begin with the indent of HTML, for pulldown-cmark after it", "4.6", is_indent),
     "closed": Kind("end with the line that closes HTML, for pulldown-cmark after the spaces at the end of the page", "4.6", is_last_line),
+    "part": Kind("end with a last line of HTML that is a part of a tab, for pulldown-cmark before it", "2.2", is_part_of_tab),
     "fence": Kind("end with the line of a closing fence, for pulldown-cmark before its line ending", "4.5", is_fence),
     "blank": Kind("end with the last block of a container, for pulldown-cmark after the blank lines that follow", "5.1, 5.2", is_blank),
     "row": Kind("end with the text of a row, for pulldown-cmark after its line ending", "GFM 4.10", is_row),
     "cell": Kind("are those of a cell's content, for pulldown-cmark with the spaces around it", "GFM 4.10", is_cell),
     "task": Kind("begin with the marker of a task, for pulldown-cmark after it", "GFM 5.3", is_of_task),
-    "turned": Kind("end before or where they begin for pulldown-cmark, after the marker of a task alone", "pulldown-cmark 0.9.2 alone", is_before_start),
     "collapsed": Kind("end after the [] of a collapsed reference, for pulldown-cmark before it", "6.3", is_collapsed),
 }
 

@@ -1,11 +1,10 @@
-"""What cmark_events and pulldown-cmark 0.9.2 say of the events of a page, in one form. Pages and texts of them are bytes."""
-import os
+"""What fillaqut events and pulldown-cmark 0.9.2 say of the events of a page, in one form. Pages and texts of them are bytes."""
 import re
 from collections import namedtuple
 
-from block_trees import TOP, said_by
+from block_trees import FILLAQUT, said_by
 
-OURS = [os.environ.get("CMARK_EVENTS", str(TOP / "crates/cmark_events/out/cmark_events"))]
+OURS = [FILLAQUT, "events"]
 
 LINE = re.compile(rb'([0-9]+) ([0-9]+) ([a-z][a-z0-9 ]*?)((?: "[^"]*"| (?:id|class) "[^"]*")*)')
 NO_TEXT = b"not UTF-8\n"

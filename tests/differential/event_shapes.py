@@ -1,4 +1,4 @@
-"""What cmark_events and cmark, or cmark-gfm with tables and strikethrough, say of the elements and texts of a page, in one form, without
+"""What fillaqut events and cmark, or cmark-gfm with tables and strikethrough, say of the elements and texts of a page, in one form, without
 ranges. Pages and texts of them are bytes."""
 import re
 

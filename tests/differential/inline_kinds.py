@@ -1,4 +1,4 @@
-"""The ways in which cmark_inlines is known to differ from cmark 0.30.2 in a block, each with the section that decides.
+"""The ways in which fillaqut inlines is known to differ from cmark 0.30.2 in a block, each with the section that decides.
 
 Sections are of CommonMark 0.31.2.
 """

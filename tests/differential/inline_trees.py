@@ -1,11 +1,10 @@
-"""What cmark_inlines and cmark say of the inlines of a page, in one form. Pages and texts of them are bytes."""
-import os
+"""What fillaqut inlines and cmark say of the inlines of a page, in one form. Pages and texts of them are bytes."""
 import re
 from collections import namedtuple
 
-from block_trees import CMARK, TOP, in_attribute, lines_in, meaning, name_of, parsed, said_by, without_control
+from block_trees import CMARK, FILLAQUT, in_attribute, lines_in, meaning, name_of, parsed, said_by, without_control
 
-OURS = [os.environ.get("CMARK_INLINES", str(TOP / "crates/cmark_inlines/out/cmark_inlines"))]
+OURS = [FILLAQUT, "inlines"]
 
 BLOCK = re.compile(rb"([0-9]+) ([0-9]+) [0-9]+ (heading|setext|paragraph)( [1-6])?")
 INLINE = re.compile(rb'  ([0-9]+) ([0-9]+) ([a-z ]+?)((?: "[^"]*")*)')
@@ -28,7 +27,7 @@ THEIR_TEXTS = {"text": "text", "code": "code", "html_inline": "html"}
 
 
 def bytes_of(quoted):
-    """The bytes that cmark_inlines prints in quotation marks."""
+    """The bytes that fillaqut inlines prints in quotation marks."""
     return NUMBERED.sub(lambda item: bytes([int(item[1], 16)]), quoted)
 
 
@@ -58,7 +57,7 @@ def target_of(how, texts):
 
 
 def our_said(kind, texts):
-    """What a line of cmark_inlines says: inlines in the form of both."""
+    """What a line of fillaqut inlines says: inlines in the form of both."""
     words = kind.split(b" ")
     if words[0] == b"start":
         name = words[1].decode()
@@ -135,7 +134,7 @@ def meets(block, others):
 
 def in_pairs(ours, theirs):
     """Blocks of both that stand in the same lines, in order; None where these are not of one kind. A paragraph of cmark that is a table,
-    whose cells cmark_inlines leaves out, has no other; a paragraph or heading of cmark begins with the definitions before it."""
+    whose cells fillaqut inlines leaves out, has no other; a paragraph or heading of cmark begins with the definitions before it."""
     ours, theirs = [block for block in ours if meets(block, theirs)], [block for block in theirs if meets(block, ours)]
     if [block.kind for block in ours] != [block.kind for block in theirs]:
         return None

@@ -1,4 +1,4 @@
-"""The ways in which the links of cmark_links are known to differ from those of cmark 0.30.2 and cmark-gfm 0.29, each with the section that decides.
+"""The ways in which the links of fillaqut links are known to differ from those of cmark 0.30.2 and cmark-gfm 0.29, each with the section that decides.
 
 Sections are of CommonMark 0.31.2.
 """

@@ -1,4 +1,4 @@
-"""The ways in which the HTML of cmark_html is known to differ from that of cmark 0.30.2 and cmark-gfm 0.29.0, each with the section that decides.
+"""The ways in which the HTML of fillaqut html is known to differ from that of cmark 0.30.2 and cmark-gfm 0.29.0, each with the section that decides.
 
 Sections are of CommonMark 0.31.2. A difference is of a kind where nothing else differs: both are the same without what the kind is of, taken out
 of the HTML, or else of the page, which both then make anew.
@@ -79,7 +79,7 @@ def has_loose_list(difference):
 # The changes are made one after another, and a page is of the kind of the first after which both have the same.
 CHANGES = {
     "endings": (
-        Kind("have lines of code or HTML that end in CR LF or CR, which is LF for cmark", "2.1", lambda difference: b"\r" in difference.page),
+        Kind("have a tag with a line ending that is CR LF or CR, which is LF for cmark", "2.1", lambda difference: b"\r" in difference.page),
         without_returns,
     ),
     "tasks": (Kind("have a task, whose attributes cmark-gfm writes in another order", "GFM 5.3", lambda difference: difference.is_extended), without_slashes),
@@ -157,7 +157,7 @@ PAGE_KINDS = {
         substituted(rb"<!(?=[a-z]|\[(?!CDATA)(?i:cdata)\[|[A-Z]>)", b"xx")),
     "names": PageKind("have search, source, or a closed name of condition 1", "4.6",
         substituted(rb"(?i)(</?)(?:search|source|pre/|script/|style/|textarea/)", rb"\1x")),
-    "space": PageKind("have a form feed or a vertical tab, which is white space here", "2.1", substituted(rb"[\f\v]", b"x")),
+    "space": PageKind("have a form feed or a vertical tab, which for cmark is space at ends", "2.1", substituted(rb"[\f\v]", b"x")),
     "escape": PageKind("have an escaped & in a destination, title or info string, which cmark resolves first", "2.4", substituted(rb"\\&", b"x")),
     "begin": PageKind("have an item that begins with two blank lines, which ends at the second", "5.2",
         substituted(rb"(?m)^([ >]*(?:[-*+]|[0-9]+[.)]))[ \t]*(?=\r?\n[ \t>]*\r?\n)", rb"\1 x")),
@@ -166,7 +166,7 @@ PAGE_KINDS = {
 }
 # The same of pages that are read with extensions.
 EXTENDED_KINDS = {
-    "task": PageKind("have a task whose marker is text for cmark-gfm, or ends its line", "GFM 5.3", substituted(rb"\[[ \t\v\fxX]\]", b"(y)")),
+    "task": PageKind("have a task that is not in the line of its item for cmark-gfm, or has no words there", "GFM 5.3", substituted(rb"\[[ xX]\]", b"(y)")),
     "tilde": PageKind("have tildes beside other delimiters, over which cmark-gfm passes", "6.2", kept_or(MARKERS + rb"~{3,}", rb"~")),
     "parentheses": PageKind("have parentheses that are not balanced in a destination, which cmark-gfm takes", "6.3", without_parentheses),
     "table": PageKind("have a table for one of them", "GFM 4.10", without_tables),

@@ -8,7 +8,7 @@ sys.path.append(str(Path(__file__).resolve().parents[1] / "differential"))
 from block_pages import BY_OLDER_RULES, LINES, ODD, ROWS, TASKS, made_paragraphs
 from block_pages import made as made_blocks
 
-# Without what is not UTF-8, which cmark_html refuses.
+# Without what is not UTF-8, which fillaqut html refuses.
 ODD_LINES = LINES + [text for text in ODD if max(text) < 0x80]
 WITH_EXTENSIONS = [line for line in LINES if not BY_OLDER_RULES.match(line)] + 2 * ROWS + 2 * TASKS + [b"~a~ ~~b~~", b"~~c ~d~~", b"|~~e|~f~|"]
 
@@ -21,8 +21,8 @@ def made(seed, count):
         ("paragraphs", made_paragraphs(seed, count), False),
         ("pages with rows and tasks", made_blocks(WITH_EXTENSIONS, seed, count), True),
         ("paragraphs with extensions", made_paragraphs(seed + 1, count), True),
-        ("pages of tokens", made_of_tokens(seed, count), False),
-        ("pages of tokens with extensions", made_of_tokens(seed + 1, count), True),
+        ("pages of tokens", made_smuggled(seed, count), False),
+        ("pages of tokens with extensions", made_smuggled(seed + 1, count), True),
     ]
 
 # What pages are made of that try to smuggle a script.
@@ -34,11 +34,6 @@ TOKENS = [
     b"<a href=", b"<!--", b"-->", b"--!>", b"<![CDATA[", b"]]>", b"<?", b"?>", b"<!x", b"&colon;", b"&#58;", b"&#x6a;", b"&Tab;", b"&NewLine;", b"&quot;",
     b"&#34;", b"&lt;", b"&gt;", b"&amp;", b"&#0;", b"\xc2\xa0", b"\xef\xbb\xbf",
 ]
-
-
-def made_of_tokens(seed, count):
-    """Such pages, but for those that begin with a byte order mark, which cmark leaves out."""
-    return [text for text in made_smuggled(seed, count) if not text.startswith(b"\xef\xbb\xbf")]
 
 
 def made_smuggled(seed, count):

@@ -1,4 +1,4 @@
-"""What cmark_html, cmark and cmark-gfm make of a page. Pages and HTML are bytes."""
+"""What fillaqut html, cmark and cmark-gfm make of a page. Pages and HTML are bytes."""
 import os
 import shutil
 import subprocess
@@ -7,16 +7,16 @@ import sys
 sys.dont_write_bytecode = True
 from spec import TOP
 
-OURS = os.environ.get("CMARK_HTML", str(TOP / "crates/cmark_html/out/cmark_html"))
+OURS = [os.environ.get("FILLAQUT", str(TOP / "crates/fillaqut/out/fillaqut")), "html"]
 CMARK = os.environ.get("CMARK", "cmark")
 CMARK_GFM = os.environ.get("CMARK_GFM", "cmark-gfm")
 EXTENSIONS = ("table", "strikethrough", "tasklist")
 SECONDS = 60
 
-PLAIN = [OURS]
-SAFE = [OURS, "--safe"]
-EXTENDED = [OURS, "--gfm"]
-SAFE_EXTENDED = [OURS, "--safe", "--gfm"]
+PLAIN = OURS
+SAFE = [*OURS, "--safe"]
+EXTENDED = [*OURS, "--gfm"]
+SAFE_EXTENDED = [*OURS, "--safe", "--gfm"]
 THEIRS = [CMARK, "--unsafe"]
 THEIRS_EXTENDED = [CMARK_GFM, "--unsafe", *(word for extension in EXTENSIONS for word in ("-e", extension))]
 

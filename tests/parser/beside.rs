@@ -1,4 +1,4 @@
-//! Makes each call of the passes twice: as `before`, and over the crate `proved_markdown`. The first answer is given on. Where
+//! Makes each call of the passes twice: as `before`, and over the crate `fillaqut`. The first answer is given on. Where
 //! the second is another, it is noted.
 
 use std::cell::{Cell, RefCell};

@@ -1,10 +1,10 @@
-//! What the passes call, under the names by which they call it, over the crate `proved_markdown`.
+//! What the passes call, under the names by which they call it, over the crate `fillaqut`.
 
 use std::borrow::Cow;
 use std::convert::TryFrom;
 
-use proved_markdown::Skip;
-pub(crate) use proved_markdown::{
+use fillaqut::Skip;
+pub(crate) use fillaqut::{
     is_ascii_punctuation, is_ascii_whitespace, is_ascii_whitespace_no_nl, scan_blank_line, scan_blockquote_start,
     scan_ch, scan_ch_repeat, scan_closing_code_fence, scan_code_fence, scan_eol, scan_hrule, scan_html_type_7,
     scan_link_dest, scan_nextline, scan_whitespace_no_nl, starts_html_block_type_6,
@@ -15,12 +15,12 @@ use crate::{Alignment, HeadingLevel, LinkType};
 
 /// The guard of the block that is read last. Each block is a text of its own, up to its end.
 #[derive(Clone, Default)]
-pub(crate) struct HtmlScanGuard<'input>(proved_markdown::HtmlScanGuard<'input>);
+pub(crate) struct HtmlScanGuard<'input>(fillaqut::HtmlScanGuard<'input>);
 
 impl<'input> HtmlScanGuard<'input> {
-    fn of(&mut self, text: &'input [u8]) -> &mut proved_markdown::HtmlScanGuard<'input> {
+    fn of(&mut self, text: &'input [u8]) -> &mut fillaqut::HtmlScanGuard<'input> {
         if !std::ptr::eq(self.0.text(), text) {
-            self.0 = proved_markdown::HtmlScanGuard::new(text);
+            self.0 = fillaqut::HtmlScanGuard::new(text);
         }
         &mut self.0
     }
@@ -48,12 +48,12 @@ pub(crate) fn scan_inline_html_processing<'input>(
 #[derive(Clone)]
 pub(crate) struct LineStart<'line> {
     bytes: &'line [u8],
-    start: proved_markdown::LineStart<'line>,
+    start: fillaqut::LineStart<'line>,
 }
 
 impl<'line> LineStart<'line> {
     pub(crate) fn new(bytes: &[u8]) -> LineStart {
-        LineStart { bytes, start: proved_markdown::LineStart::new(bytes) }
+        LineStart { bytes, start: fillaqut::LineStart::new(bytes) }
     }
 
     pub(crate) fn scan_space(&mut self, count: usize) -> bool {
@@ -73,7 +73,7 @@ impl<'line> LineStart<'line> {
     }
 
     /// The byte at which a line start of these bytes stands.
-    fn next(&self, start: &proved_markdown::LineStart) -> Option<u8> {
+    fn next(&self, start: &fillaqut::LineStart) -> Option<u8> {
         self.bytes.get(start.bytes_scanned()).copied()
     }
 
@@ -139,7 +139,7 @@ fn begins_item(byte: u8) -> bool {
 pub(crate) fn scan_while(data: &[u8], mut accepts: impl FnMut(u8) -> bool) -> usize {
     match data.first() {
         Some(&first) if accepts(first) => {
-            scan_accepted(first, accepts, |bytes| proved_markdown::scan_while(data, bytes), |length| data.get(length).copied())
+            scan_accepted(first, accepts, |bytes| fillaqut::scan_while(data, bytes), |length| data.get(length).copied())
         }
         _ => 0,
     }
@@ -150,7 +150,7 @@ pub(crate) fn scan_rev_while(data: &[u8], mut accepts: impl FnMut(u8) -> bool) -
     match data.last() {
         Some(&last) if accepts(last) => {
             let before = |length| data[..data.len() - length].last().copied();
-            scan_accepted(last, accepts, |bytes| proved_markdown::scan_rev_while(data, bytes), before)
+            scan_accepted(last, accepts, |bytes| fillaqut::scan_rev_while(data, bytes), before)
         }
         _ => 0,
     }
@@ -177,21 +177,21 @@ fn scan_accepted(
 }
 
 pub(crate) fn scan_atx_heading(data: &[u8]) -> Option<HeadingLevel> {
-    HeadingLevel::try_from(proved_markdown::scan_atx_heading(data)? as usize).ok()
+    HeadingLevel::try_from(fillaqut::scan_atx_heading(data)? as usize).ok()
 }
 
 pub(crate) fn scan_setext_heading(data: &[u8]) -> Option<(usize, HeadingLevel)> {
-    let (length, level) = proved_markdown::scan_setext_heading(data)?;
+    let (length, level) = fillaqut::scan_setext_heading(data)?;
     Some((length, HeadingLevel::try_from(level as usize).ok()?))
 }
 
 pub(crate) fn scan_table_head(data: &[u8]) -> (usize, Vec<Alignment>) {
-    let (length, columns) = proved_markdown::scan_table_head(data);
+    let (length, columns) = fillaqut::scan_table_head(data);
     let alignment = |column| match column {
-        proved_markdown::Alignment::None => Alignment::None,
-        proved_markdown::Alignment::Left => Alignment::Left,
-        proved_markdown::Alignment::Center => Alignment::Center,
-        proved_markdown::Alignment::Right => Alignment::Right,
+        fillaqut::Alignment::None => Alignment::None,
+        fillaqut::Alignment::Left => Alignment::Left,
+        fillaqut::Alignment::Center => Alignment::Center,
+        fillaqut::Alignment::Right => Alignment::Right,
     };
     (length, columns.into_iter().map(alignment).collect())
 }
@@ -206,7 +206,7 @@ pub(crate) fn scan_listitem(bytes: &[u8]) -> Option<(usize, u8, usize, usize)> {
 }
 
 fn scan_item(bytes: &[u8]) -> Option<(usize, u8, usize, usize)> {
-    let mut start = proved_markdown::LineStart::new(bytes);
+    let mut start = fillaqut::LineStart::new(bytes);
     let (delimiter, number, indent) = start.scan_list_marker_with_indent(0)?;
     Some((start.bytes_scanned(), delimiter, number as usize, indent))
 }
@@ -217,20 +217,20 @@ pub(crate) fn scan_empty_list(data: &[u8]) -> bool {
 }
 
 pub(crate) fn scan_refdef_title(text: &str) -> Option<(usize, &str)> {
-    proved_markdown::scan_link_title(text, 0)
+    fillaqut::scan_link_title(text, 0)
 }
 
 pub(crate) fn scan_entity(bytes: &[u8]) -> (usize, Option<CowStr<'static>>) {
-    let (length, meaning) = proved_markdown::scan_entity(bytes);
+    let (length, meaning) = fillaqut::scan_entity(bytes);
     (length, meaning.map(CowStr::from))
 }
 
 pub(crate) fn unescape(input: &str) -> CowStr<'_> {
-    proved_markdown::unescape(input, false).into()
+    fillaqut::unescape(input, false).into()
 }
 
 pub(crate) fn scan_autolink(text: &str, start_ix: usize) -> Option<(usize, CowStr<'_>, LinkType)> {
-    if let Some((end, uri, _)) = proved_markdown::scan_autolink(text, start_ix) {
+    if let Some((end, uri, _)) = fillaqut::scan_autolink(text, start_ix) {
         return Some((end, uri.into(), LinkType::Autolink));
     }
     super::scan_email(text, start_ix).map(|(end, address)| (end, address, LinkType::Email))
@@ -240,11 +240,11 @@ pub(crate) fn scan_html_block_inner(
     data: &[u8],
     newline_handler: Option<&dyn Fn(&[u8]) -> usize>,
 ) -> Option<(Vec<u8>, usize)> {
-    if let Some(length) = proved_markdown::scan_html_tag(data) {
+    if let Some(length) = fillaqut::scan_html_tag(data) {
         return Some((Vec::new(), length));
     }
     let (end, skips) = lines_of_tag(data, newline_handler?);
-    proved_markdown::scan_html_block_inner(&data[..end], &skips).expect("skips rise")
+    fillaqut::scan_html_block_inner(&data[..end], &skips).expect("skips rise")
 }
 
 /// Behind the first byte that no tag goes past, `<` or `>` outside of quotes, with what the handler leaves out of the lines
@@ -286,7 +286,7 @@ pub(crate) fn scan_link_label_rest<'text>(
         return Some(found);
     }
     let (end, skips) = lines_of_label(text.as_bytes(), linebreak_handler)?;
-    let label = proved_markdown::scan_link_label_rest(&text[..end], &skips, false);
+    let label = fillaqut::scan_link_label_rest(&text[..end], &skips, false);
     label.expect("skips rise").map(|(length, label)| (length, label.into()))
 }
 
@@ -294,7 +294,7 @@ pub(crate) fn scan_link_label_rest<'text>(
 fn label_in_a_line(text: &str) -> Option<(usize, CowStr<'_>)> {
     let near = &text.as_bytes()[..text.len().min(NEAR)];
     let end = memchr::memchr2(b']', b'\n', near).filter(|end| near[*end] == b']')?;
-    let (length, label) = proved_markdown::scan_link_label_rest(&text[..=end], &[], false).ok()??;
+    let (length, label) = fillaqut::scan_link_label_rest(&text[..=end], &[], false).ok()??;
     // a label that stands there as it is has no line ending
     let is_whole = matches!(label, Cow::Borrowed(own) if own.len() + 1 == length);
     (is_whole || !text[..length].contains('\r')).then(|| (length, label.into()))
@@ -332,11 +332,11 @@ fn lines_of_label(bytes: &[u8], handler: &dyn Fn(&[u8]) -> Option<usize>) -> Opt
 
 /// A label in the table of definitions, equal to those that match it. The passes make one under this name.
 #[derive(Clone, PartialEq, Eq, Hash)]
-pub(crate) struct UniCase<'text>(proved_markdown::LinkLabel<'text>);
+pub(crate) struct UniCase<'text>(fillaqut::LinkLabel<'text>);
 
 impl<'text> UniCase<'text> {
     pub(crate) fn new(label: CowStr<'text>) -> Self {
-        UniCase(proved_markdown::LinkLabel::new(label))
+        UniCase(fillaqut::LinkLabel::new(label))
     }
 }
 

@@ -188,7 +188,7 @@ def make_workspace(scratch):
     (scratch / ".cargo").mkdir()
     (scratch / ".cargo/config.toml").write_text(CONFIG.format(registry=REGISTRY))
     (scratch / "Cargo.toml").write_text(WORKSPACE)
-    ours = f'proved-markdown = {{ path = "{TOP / "packages/rust"}" }}\n'
+    ours = f'fillaqut = {{ path = "{TOP / "packages/rust"}" }}\n'
     copy_package(scratch, "original")
     names = make_swapped(scratch, ours)
     make_beside(scratch, ours)

@@ -1,4 +1,4 @@
-//! Prints the events of pulldown-cmark 0.9.2 on the page that standard input has, a line for each, as cmark_events prints its own.
+//! Prints the events of pulldown-cmark 0.9.2 on the page that standard input has, a line for each, as fillaqut events prints its own.
 use pulldown_cmark::{CodeBlockKind, Event, LinkType, Options, Parser, Tag};
 use std::fmt::Write;
 use std::io::Read;
