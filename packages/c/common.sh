@@ -3,15 +3,14 @@
 cd "$(dirname "${BASH_SOURCE[0]}")/../.." || exit
 top=$PWD
 version=$(cat VERSION)
-header=packages/c/include/proved_markdown.h
+header=packages/c/include/fillaqut.h
 crate=crates/markdown_scanners_c
 made=$crate/out/libmarkdown_scanners_c.a # as the kit makes it, of the crate alone
 proof=$crate/out/proof.txt               # what was said when that was made, after its checksum
-archive=out/libproved_markdown.a
-shared_name=libproved_markdown.so.${version%%.*}
+archive=out/libfillaqut.a
+shared_name=libfillaqut.so.${version%%.*}
 shared=out/$shared_name
-packed_programs=(cmark_html cmark_links cmark_tables cmark_blocks cmark_scan)
-earlier_name=libmarkdown_scanners.so.${version%%.*} # of programs that were linked before
+packed_programs=(fillaqut cmark_scan)
 script=$(basename "$0")
 scratch=$(mktemp -d)
 trap 'rm -rf "$scratch"' EXIT

@@ -1,5 +1,5 @@
 //! The scanners of `markdown_scanners_tree` and `markdown_inlines`, and the blocks of
-//! `markdown_blocks`, as C functions, whose header is `proved_markdown.h`.
+//! `markdown_blocks`, as C functions, whose header is `fillaqut.h`.
 //!
 //! A slice is two parameters in C: a pointer, and then the length in elements. A reference to a
 //! struct is a pointer to it; a struct that is answered is returned by value. `alloc: Global` is

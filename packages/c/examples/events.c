@@ -1,6 +1,6 @@
 /* Prints the outline of the page that it reads from the standard input: of each heading its line, its level and its text.
- * cc -Ipackages/c/include packages/c/examples/events.c out/libproved_markdown.a -o events */
-#include "markdown_parser.h"
+ * cc -Ipackages/c/include packages/c/examples/events.c out/libfillaqut.a -o events */
+#include "fillaqut_parser.h"
 
 #include <stdio.h>
 

@@ -1,7 +1,7 @@
 /* Prints the HTML of the page that it reads from the standard input, with tables, strikethrough and task lists; with `--safe` that of a
  * page by someone who is not trusted.
- * cc -Ipackages/c/include packages/c/examples/html.c out/libproved_markdown.a -o html */
-#include "proved_markdown.h"
+ * cc -Ipackages/c/include packages/c/examples/html.c out/libfillaqut.a -o html */
+#include "fillaqut.h"
 
 #include <stdio.h>
 #include <stdlib.h>

@@ -1,5 +1,5 @@
-/* Prints the outline of a Markdown file. cc -Ipackages/c/include packages/c/examples/outline.c out/libproved_markdown.a -o outline */
-#include "proved_markdown.h"
+/* Prints the outline of a Markdown file. cc -Ipackages/c/include packages/c/examples/outline.c out/libfillaqut.a -o outline */
+#include "fillaqut.h"
 #include <errno.h>
 #include <stdio.h>
 #include <stdlib.h>

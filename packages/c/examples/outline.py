@@ -1,5 +1,5 @@
 #!/usr/bin/env python3
-"""Prints the outline of a Markdown file, as outline.c does, by the Python package proved_markdown: the one that is
+"""Prints the outline of a Markdown file, as outline.c does, by the Python package fillaqut: the one that is
 installed, else that of the tree, over the shared library that packages/c/build makes:
 
     packages/c/build && packages/c/examples/outline.py README.md
@@ -28,12 +28,12 @@ def fail(what, why):
 
 
 try:
-    import proved_markdown as mds
+    import fillaqut as mds
 except ImportError:
     sys.path.insert(0, str(TOP / "packages/python"))
-    os.environ.setdefault("PROVED_MARKDOWN_LIBRARY", str(TOP / "out/libproved_markdown.so.0"))
+    os.environ.setdefault("FILLAQUT_LIBRARY", str(TOP / "out/libfillaqut.so.0"))
     try:
-        import proved_markdown as mds
+        import fillaqut as mds
     except ImportError as error:
         fail("library", error)
 

@@ -1,7 +1,7 @@
 /* Prints the headings of a page while it is read from the standard input: the line of each, `#` as often as its level says, and its
  * text. Its memory is that of the longest block and the deepest nesting.
- * cc -Ipackages/c/include packages/c/examples/stream.c out/libproved_markdown.a -o stream */
-#include "proved_markdown.h"
+ * cc -Ipackages/c/include packages/c/examples/stream.c out/libfillaqut.a -o stream */
+#include "fillaqut.h"
 
 #include <stdio.h>
 #include <stdlib.h>
@@ -78,11 +78,16 @@ static bool tell_block(struct page *page) {
 
 int main(void) {
     struct page page = {.text = grown(NULL, 0)};
-    do {
-        read_more(&page);
+    read_more(&page);
+    if (page.length >= 3 && memcmp(page.text, "\xef\xbb\xbf", 3) == 0)
+        page.printed = 3; /* a byte order mark is no part of the first block */
+    for (;;) {
         while (tell_block(&page)) {
         }
-    } while (!page.has_ended);
+        if (page.has_ended)
+            break;
+        read_more(&page);
+    }
     free(page.text), free(page.containers);
     if (fflush(stdout) || ferror(stdout))
         stop("the output can't be written");

@@ -142,12 +142,17 @@ static size_t is_returned(int example, const struct mds_block *block, size_t at,
     return count;
 }
 
-/* Fed byte by byte the page has the same blocks, and these have the same content. */
+/* How many bytes of a page are the byte order mark that it begins with. */
+static size_t mark_length(const char *page, size_t length) {
+    return length >= 3 && memcmp(page, "\xef\xbb\xbf", 3) == 0 ? 3 : 0;
+}
+
+/* Fed byte by byte, after its byte order mark, the page has the same blocks, and these have the same content. */
 static void is_fed(int example, const char *page, size_t length, const struct mds_block *blocks) {
     struct mds_open_blocks open = {0, 0, 0};
     struct mds_block block;
     uint8_t first[LONGEST * LONGEST], second[LONGEST * LONGEST];
-    size_t at = 0, end = 0, line = 0, depth = 0;
+    size_t at = mark_length(page, length), end = at, line = 0, depth = 0;
     for (const char *bytes = given(BYTES, page, length); at < length; at += block.bytes, line += block.lines) {
         struct mds_line_block found = fed(bytes, length, at, &end, &open, &block);
         same(example, "status", found.status, MDS_OK);

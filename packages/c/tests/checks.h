@@ -4,7 +4,7 @@
 #ifndef CHECKS_H
 #define CHECKS_H
 
-#include "proved_markdown.h"
+#include "fillaqut.h"
 
 /* A room for each thing that one call may be given. */
 enum room { BYTES, OTHER_BYTES, LIST, BUFFER, REST, ROOMS };

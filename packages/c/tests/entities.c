@@ -1,7 +1,7 @@
-/* What each line of the input means, in the form in which html_entities_names prints it: of a name its meaning in HTML, or
- * `none`; of a line that begins with `text `, the rest with its references resolved. Each call has the room that the
- * header says is enough, and no more. */
-#include "proved_markdown.h"
+/* Prints what each line of the input means, as packages/entities/meanings has it of packages/entities/asked: of a name its
+ * meaning in HTML, or `none`; of a line that begins with `text `, the rest with its references resolved. Each call has the
+ * room that the header says is enough, and no more. */
+#include "fillaqut.h"
 
 #include <stdio.h>
 #include <stdlib.h>

@@ -1,6 +1,6 @@
 /* The events of pages, on the rows of packages/pages.tsv; the handle over them; options and texts that are refused; and made pages, whose
  * events balance, and their ranges nest and cut no character. */
-#include "markdown_parser.h"
+#include "fillaqut_parser.h"
 #include "tables.h"
 
 #include <stdio.h>

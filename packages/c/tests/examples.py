@@ -7,8 +7,8 @@ import re
 import sys
 from pathlib import Path
 
-HEADER = Path(__file__).resolve().parents[1] / "include/proved_markdown.h"
-FRONT = """#include "proved_markdown.h"
+HEADER = Path(__file__).resolve().parents[1] / "include/fillaqut.h"
+FRONT = """#include "fillaqut.h"
 #include <stdio.h>
 #include <string.h>
 

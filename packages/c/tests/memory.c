@@ -4,7 +4,7 @@
  * and neither do these fourteen where the header says so. The linker puts the functions __wrap_.. in the place of the C library's
  * (--wrap). */
 #include "checks.h"
-#include "markdown_parser.h"
+#include "fillaqut_parser.h"
 #include "requests.h"
 
 #include <stdlib.h>

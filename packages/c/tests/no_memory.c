@@ -1,6 +1,6 @@
 /* Calls that need no memory, for memory.c: with each request refused they answer as ever, and make none. */
 #include "checks.h"
-#include "markdown_parser.h"
+#include "fillaqut_parser.h"
 #include "requests.h"
 
 /* The call makes no request. */

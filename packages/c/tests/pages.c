@@ -5,7 +5,7 @@
  *
  * pages UNIT COUNT: the units are bullets of one line, and one run passes them all but the last, after which no space
  * stands. */
-#include "proved_markdown.h"
+#include "fillaqut.h"
 #include <stdio.h>
 #include <stdlib.h>
 #include <string.h>

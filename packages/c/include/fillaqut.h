@@ -52,15 +52,15 @@
  * `rt lib --cpu=x86-64` in the crate's folder: it has 3 KB more, and its outline of 1.8 MB of Markdown takes 2% fewer
  * instructions, that of lines of 200 bytes 4% more.
  */
-#ifndef PROVED_MARKDOWN_H
-#define PROVED_MARKDOWN_H
+#ifndef FILLAQUT_H
+#define FILLAQUT_H
 
 #include <stdbool.h>
 #include <stddef.h>
 #include <stdint.h>
 
 #if SIZE_MAX != UINT64_MAX
-#error "proved_markdown.h is for 64-bit machines"
+#error "fillaqut.h is for 64-bit machines"
 #endif
 
 #ifdef __cplusplus
@@ -646,10 +646,11 @@ struct mds_blocks {
 };
 
 /* All blocks of a page, in order. A container stands before the leaf blocks in it, and its end after them; they nest, and
- * each that begins ends. The lines of the leaf blocks, joined, are the page. Of a paragraph that begins with link
- * reference definitions each of these is a leaf block, and what is left of it the last. Most pages have fewer blocks than
- * lines. Where the buffer is too short it is left as it was, and `count` says how many blocks it needs room for. Memory is
- * asked for, for the blocks and while the page is read: MDS_NO_MEMORY. (3, 4, 5)
+ * each that begins ends. The lines of the leaf blocks, joined, are the page, but for a byte order mark, U+FEFF, that it
+ * begins with, which no block has. Of a paragraph that begins with link reference definitions each of these is a leaf block,
+ * and what is left of it the last. Most pages have fewer blocks than lines. Where the buffer is too short it is left as it
+ * was, and `count` says how many blocks it needs room for. Memory is asked for, for the blocks and while the page is read:
+ * MDS_NO_MEMORY. (3, 4, 5)
  *
  *     struct mds_block blocks[4];
  *     mds_scan_blocks("# A\n\n> b\nc", 10, blocks, 4).count == 5
@@ -664,8 +665,8 @@ struct mds_blocks mds_scan_blocks(const void *bytes, size_t length, struct mds_b
 /* The content of a leaf block of mds_scan_blocks. Of a paragraph or a heading it is the text for inline scanners: what its
  * lines have after their containers, without the spaces and tabs before it, without the closing `#` of a heading and
  * the underline, and without white space at the end; the other line endings stay. Of a definition it is all of it. Of
- * code and HTML it is the lines after their containers, of code without its indent and its fences; columns of a tab that
- * is cut are spaces. A thematic break, blank lines and a table have none.
+ * code and HTML it is the lines after their containers, of code without its indent and its fences, each with a line feed
+ * for its line ending; columns of a tab that is cut are spaces. A thematic break, blank lines and a table have none.
  *
  * `containers` are the containers that the block stands in, outermost first, each as the block with which it began: those
  * that have begun before it and not ended. Its first line goes on with `kept` of them, and begins the others: `kept` are
@@ -704,7 +705,7 @@ struct mds_line_block {
  * ended, a block is returned once whole lines show where it ends, and a last line that is not whole is not looked at: MDS_NOTHING
  * says that more is needed, or, where the input has ended, that there are no bytes. The block has `block->bytes` bytes, after
  * which the next call reads; offsets in it are those in the bytes. Who asks again with each line reads a long block as often as
- * it has lines: ask again once there are twice as many bytes.
+ * it has lines: ask again once there are twice as many bytes. The first call begins after a byte order mark, if the page has one.
  *
  * `containers` is an array of the caller's, of which `open->depth` at the front are open, outermost first. Where the status is
  * MDS_OK those that are open after the block are written there, and their number to `open->depth`. They are as mds_block_content
@@ -984,7 +985,7 @@ struct mds_events {
  *
  * Where one of the buffers is too short both are left as they were, MDS_TOO_SHORT, and the same call with buffers of `count` events
  * and `length` bytes makes them anew, and is MDS_OK. How long texts are at most is not known, as of mds_html. An event for each eight
- * bytes of the text, and as many bytes as the text has, and 64 of each, are enough for most pages. markdown_parser.h has a handle that
+ * bytes of the text, and as many bytes as the text has, and 64 of each, are enough for most pages. fillaqut_parser.h has a handle that
  * keeps both buffers.
  *
  * MDS_BAD_KIND and MDS_NOT_UTF8 as of mds_html. Memory is asked for as by mds_html, with the events and their texts in place of the

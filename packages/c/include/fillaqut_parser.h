@@ -1,4 +1,4 @@
-/* The events of a page, one after another, by a handle over mds_events of proved_markdown.h, which is proved to answer those of the
+/* The events of a page, one after another, by a handle over mds_events of fillaqut.h, which is proved to answer those of the
  * page. The handle is written in C, in this header, and is compiled with the program that includes it: it is tested, and not proved.
  *
  *     struct mds_parser parser;
@@ -19,10 +19,10 @@
  *
  * Threads. Handles know nothing of one another. One handle may be passed from thread to thread, and is used by one at a time.
  */
-#ifndef MARKDOWN_PARSER_H
-#define MARKDOWN_PARSER_H
+#ifndef FILLAQUT_PARSER_H
+#define FILLAQUT_PARSER_H
 
-#include "proved_markdown.h"
+#include "fillaqut.h"
 
 #include <stdlib.h>
 
