@@ -1,6 +1,6 @@
 #!/usr/bin/env python3
-"""Compiles the crate markdown_scanners_c, whose proof is kept in KEPT, as WebAssembly modules in FOLDER: proved_markdown.wasm with a
-32-bit memory, proved_markdown64.wasm with a 64-bit one.
+"""Compiles the crate markdown_scanners_c, whose proof is kept in KEPT, as WebAssembly modules in FOLDER: fillaqut.wasm with a
+32-bit memory, fillaqut64.wasm with a 64-bit one.
 
 The kit compiles for WebAssembly what calls no C. The three functions of the heap, by which the crate asks for memory, are C's,
 and here the host's. So the kit makes its LLVM code for the plainest x86-64, which has the sizes and the layouts of wasm64, and
@@ -29,7 +29,7 @@ from kit import folder_of, kit, words
 CRATE = "markdown_scanners_c"
 LAYOUT = "e-m:e-p:64:64-p10:8:8-p20:8:8-i64:64-i128:128-n32:64-S128-ni:1:10:20"
 TARGET = "wasm64-unknown-unknown"
-NARROW, WIDE = "proved_markdown.wasm", "proved_markdown64.wasm"
+NARROW, WIDE = "fillaqut.wasm", "fillaqut64.wasm"
 FEATURES = ["-mbulk-memory", "-msign-ext"]
 # What engines have that have 64-bit memories.
 WIDE_FEATURES = [*FEATURES, "-msimd128"]
@@ -95,7 +95,7 @@ def retargeted(code):
 
 
 def functions():
-    header = loaded("bindings", TOP / "packages/c/bindings").Header((TOP / "packages/c/include/proved_markdown.h").read_text())
+    header = loaded("bindings", TOP / "packages/c/bindings").Header((TOP / "packages/c/include/fillaqut.h").read_text())
     return header.functions
 
 
@@ -114,7 +114,7 @@ def section(name, text):
 
 
 def version_section():
-    return section("proved_markdown", (TOP / "VERSION").read_text().strip())
+    return section("fillaqut", (TOP / "VERSION").read_text().strip())
 
 
 def text_of(code, toolchain, scratch):
@@ -153,7 +153,7 @@ def main(kept, folder, bits):
         if "64" in bits:
             (folder / WIDE).write_bytes(linked(text, toolchain, scratch, WIDE_FEATURES) + version_section())
         if "32" in bits:
-            beside = section("proved_markdown64", WIDE) if "64" in bits else b""
+            beside = section("fillaqut64", WIDE) if "64" in bits else b""
             (folder / NARROW).write_bytes(narrowed(linked(text, toolchain, scratch, FEATURES), scratch) + version_section() + beside)
 
 

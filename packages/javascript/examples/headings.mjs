@@ -6,9 +6,9 @@
  */
 import { readFile } from "node:fs/promises";
 import { argv, exit } from "node:process";
-import { load } from "../proved_markdown.mjs"; // where the package is installed, "proved-markdown"
+import { load } from "../fillaqut.mjs"; // where the package is installed, "fillaqut"
 
-/** @param {import("../proved_markdown.mjs").Text<Uint8Array>} page */
+/** @param {import("../fillaqut.mjs").Text<Uint8Array>} page */
 function printHeadings(page) {
     for (const block of page.scanBlocks()) {
         if (!block.level) continue;

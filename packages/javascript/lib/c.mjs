@@ -1,4 +1,4 @@
-// The structs, functions and numbers of proved_markdown.h, as packages/c/bindings has written them.
+// The structs, functions and numbers of fillaqut.h, as packages/c/bindings has written them.
 
 export const VERSION = "0.1.0";
 

@@ -8,6 +8,8 @@ import { containerOf, Leaf, Pages } from "./pages.mjs";
 const { size: SIZE } = c.STRUCTS.block;
 /** Of so many bytes a text is read again with each piece, and a longer one once it is twice as long. */
 const SHORT = 4096;
+/** A byte order mark. */
+const MARK = [0xef, 0xbb, 0xbf];
 
 /**
  * Reads a page that comes piece by piece, and returns each leaf block once what has come shows where it ends. It keeps what is not
@@ -69,6 +71,11 @@ export class BlockReader {
     #returned(hasEnded) {
         const text = new Block(joined(this.#pieces));
         const size = text.bytes.length;
+        // A byte order mark at the start of the page is no part of its first block.
+        if (this.#start === 0 && MARK.every((byte, index) => text.bytes[index] === byte)) {
+            this.#start = MARK.length;
+            this.#size -= MARK.length;
+        }
         try {
             for (let found = this.#next(text, hasEnded); found; found = this.#next(text, hasEnded)) {
                 const at = size - this.#size;

@@ -3,6 +3,8 @@
 /** @typedef {{ call: string, given: unknown[], answer: any }} Returned a call of the package, and its answer */
 /** @typedef {Returned & { kind: string, place: number, pending: number }} Taken what it took of the line, up to a place and columns after */
 
+const [TAB, SPACE, LF, CR] = [..."\t \n\r"].map((character) => character.charCodeAt(0));
+
 /** A line, while it is read: the place in it, and what each call has taken up to there. */
 export class Line {
     /**
@@ -43,8 +45,12 @@ export class Line {
         return answer;
     }
 
+    /** Whether spaces and tabs alone are left: scanBlankLine takes form feeds and vertical tabs for white space too. (2.1) */
     isBlank() {
-        return this.page.scanBlankLine(this.start.place, this.end) !== null;
+        const { bytes } = this.page;
+        let at = this.start.place;
+        while (at < this.end && (bytes[at] === SPACE || bytes[at] === TAB)) at++;
+        return at === this.end || bytes[at] === LF || bytes[at] === CR;
     }
 
     /**

@@ -7,8 +7,10 @@ import { decode, Inline, Joined } from "./paragraph.mjs";
 
 /** How many lines are read in a step. */
 const STEP = 100;
+/** By whether a colon stands before the hyphens, 1, and after them, 2. */
+const ALIGNMENTS = ["none", "left", "right", "center"];
 const HTML = ["", "raw text", "comment", "processing instruction", "declaration", "CDATA", "block", "tag alone"];
-const [TAB, SPACE, VT, FF, LF, CR, PIPE, BACKSLASH] = [..."\t \v\f\n\r|\\"].map((character) => character.charCodeAt(0));
+const [TAB, SPACE, VT, FF, LF, CR, PIPE, BACKSLASH, COLON] = [..."\t \v\f\n\r|\\:"].map((character) => character.charCodeAt(0));
 const ENCODER = new TextEncoder();
 const WHITE = new Set([TAB, SPACE, VT, FF, LF, CR]);
 
@@ -192,13 +194,20 @@ export class Reading {
         return { ...this.#block(line, name, "unescape", [from, to, { inTable: true }], answer), isOfCells: true };
     }
 
-    /** The delimiter row of a table. */
+    /** The delimiter row of a table. `scanTableHead` knows none with tabs beside its hyphens; its cells tell the alignments then. */
     #tableHead(line, block) {
         const returned = this.#call(line, `table of ${block.columns}`, "scanTableHead");
         const { call, given, answer } = returned;
-        const { alignments, end } = /** @type {any} */ (answer);
+        const { alignments, end } = /** @type {any} */ (answer) ?? { alignments: this.#alignments(line), end: line.end };
         Object.assign(this.tables.at(-1), { alignments, call, given, answer, from: line.start.place, to: end });
         return returned;
+    }
+
+    /** How the cells of a delimiter row align their columns. */
+    #alignments(line) {
+        const { bytes } = this.page;
+        const cells = this.#cells(...this.#trimmed(line.start.place, line.end));
+        return cells.map(({ from, to }) => ALIGNMENTS[Number(bytes[from] === COLON) + 2 * Number(bytes[to - 1] === COLON)]);
     }
 
     /** The cells of a row, which pipes part that no backslash stands before. */

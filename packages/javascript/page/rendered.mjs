@@ -63,7 +63,7 @@ function namesOf(event, rows) {
 
 /**
  * The safe HTML of a text, and its elements.
- * @param {import("../proved_markdown.mjs").Scanners} scanners
+ * @param {import("../fillaqut.mjs").Scanners} scanners
  * @param {string} text
  */
 export function rendered(scanners, text) {

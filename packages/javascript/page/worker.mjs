@@ -1,5 +1,5 @@
 /** Reads texts beside the page, so that it never waits: answers what is in a text, the rows that are in sight, and its safe HTML. */
-import { load, NotUtf8, Refusal } from "../proved_markdown.mjs";
+import { load, NotUtf8, Refusal } from "../fillaqut.mjs";
 import { MOST_COLUMNS, rowOf, shortened } from "./columns.mjs";
 import { decode } from "./paragraph.mjs";
 import { Reading } from "./reading.mjs";

@@ -1,7 +1,7 @@
 /** The blocks of pages and their content, on the rows of packages/pages.tsv. What they say is made of the leaf blocks and their containers. */
 import assert from "node:assert/strict";
 import { test } from "node:test";
-import * as mds from "../proved_markdown.mjs";
+import * as mds from "../fillaqut.mjs";
 import { MODULE } from "./module.mjs";
 import { pages } from "./tables.mjs";
 import { hold } from "./totals.mjs";
@@ -38,7 +38,7 @@ function described(text, at = 0, end = text.length) {
 const ways = (page) => [
     described(scanners.text(page)),
     described(scanners.text(Buffer.from(page))),
-    described(scanners.text(`é🍔${page}- é`), 6, 6 + page.length),
+    described(scanners.text(`é🍔${page}- é`), 6, 6 + Buffer.byteLength(page)),
     described(scanners.text(`é🍔${page}- é`, { units: "utf-16" }), 3, 3 + page.length),
 ];
 

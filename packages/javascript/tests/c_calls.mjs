@@ -4,7 +4,7 @@
  * whose places are those of UTF-16 units, after characters of several bytes. All must answer alike.
  */
 import * as c from "../lib/c.mjs";
-import * as mds from "../proved_markdown.mjs";
+import * as mds from "../fillaqut.mjs";
 import { MODULE } from "./module.mjs";
 
 export const NONE = 2n ** 64n - 1n;

@@ -2,7 +2,7 @@
 import assert from "node:assert/strict";
 import { readFileSync } from "node:fs";
 import { test } from "node:test";
-import * as mds from "../proved_markdown.mjs";
+import * as mds from "../fillaqut.mjs";
 import { MODULE } from "./module.mjs";
 import { extensionsOf, pages } from "./tables.mjs";
 import { hold } from "./totals.mjs";

@@ -8,7 +8,7 @@
 import { existsSync, readFileSync } from "node:fs";
 import { createRequire } from "node:module";
 import { argv } from "node:process";
-import { load } from "../proved_markdown.mjs";
+import { load } from "../fillaqut.mjs";
 
 const OTHER = "/usr/share/nodejs/markdown-it/index.js";
 const PACKAGE = new URL("..", import.meta.url);
@@ -36,7 +36,7 @@ async function print(name, making) {
     }
 }
 
-for (const name of ["proved_markdown.wasm", "proved_markdown64.wasm"]) {
+for (const name of ["fillaqut.wasm", "fillaqut64.wasm"]) {
     const extensions = ["table", "strikethrough", "tasklist"];
     for (const options of [{}, { safe: false }, { extensions }]) {
         await print(`${name} ${JSON.stringify(options)}`, async () => {

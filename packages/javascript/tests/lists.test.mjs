@@ -1,7 +1,7 @@
 /** The lists of pages, on the rows of packages/pages.tsv. */
 import assert from "node:assert/strict";
 import { test } from "node:test";
-import * as mds from "../proved_markdown.mjs";
+import * as mds from "../fillaqut.mjs";
 import { MODULE } from "./module.mjs";
 import { pages } from "./tables.mjs";
 import { hold } from "./totals.mjs";

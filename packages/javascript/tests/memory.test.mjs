@@ -2,7 +2,7 @@
 import assert from "node:assert/strict";
 import { test } from "node:test";
 import { Heap } from "../lib/heap.mjs";
-import * as mds from "../proved_markdown.mjs";
+import * as mds from "../fillaqut.mjs";
 import { MODULE } from "./module.mjs";
 
 const PAGE = 65536;

@@ -10,7 +10,7 @@ import { test } from "node:test";
 import { fileURLToPath, pathToFileURL } from "node:url";
 import { inspect } from "node:util";
 import { FUNCTIONS, VERSION } from "../lib/c.mjs";
-import * as mds from "../proved_markdown.mjs";
+import * as mds from "../fillaqut.mjs";
 import { IS_WIDE, MODULE, naming, ofOtherVersion } from "./module.mjs";
 import { TOP } from "./tree.mjs";
 
@@ -187,13 +187,13 @@ test("a text is its own copy, and made texts are as what it is made of", () => {
 });
 
 test("all entities of HTML", () => {
-    const names = new URL("crates/html_entities_names/", TOP);
-    const expected = readFileSync(new URL("stdout", names), "utf8");
-    const found = readFileSync(new URL("stdin", names), "utf8").split("\n").slice(0, -1).map((line) => meaning(line));
+    const names = new URL("packages/entities/", TOP);
+    const expected = readFileSync(new URL("meanings", names), "utf8");
+    const found = readFileSync(new URL("asked", names), "utf8").split("\n").slice(0, -1).map((line) => meaning(line));
     assert.equal(`${found.join("\n")}\n`, expected);
 });
 
-/** What crates/html_entities_names prints of a line. */
+/** What a line of packages/entities/asked means. */
 function meaning(line) {
     if (line.startsWith("text ")) return text(line.slice(5)).unescape();
     return text(`&${line};`).scanEntity()?.text ?? "none";
@@ -228,9 +228,9 @@ async function stopping(address) {
 
 test("of two modules the 64-bit one is taken where the engine runs it", async () => {
     const folder = mkdtempSync(join(tmpdir(), "package-"));
-    for (const name of ["proved_markdown.mjs", "lib"]) cpSync(join(PACKAGE, name), join(folder, name), { recursive: true });
-    writeFileSync(join(folder, "proved_markdown.wasm"), naming(readFileSync(MODULE), "wide.wasm"));
-    const { load } = await import(pathToFileURL(join(folder, "proved_markdown.mjs")));
+    for (const name of ["fillaqut.mjs", "lib"]) cpSync(join(PACKAGE, name), join(folder, name), { recursive: true });
+    writeFileSync(join(folder, "fillaqut.wasm"), naming(readFileSync(MODULE), "wide.wasm"));
+    const { load } = await import(pathToFileURL(join(folder, "fillaqut.mjs")));
     const isRead = async () => (await load()).text("# a").scanAtxHeading() === 1;
     assert.ok(await isRead()); // where it is not there
     writeFileSync(join(folder, "wide.wasm"), "none");
@@ -257,8 +257,8 @@ test("a module that is missing, broken or of another version", async () => {
 test("a bundle that has no URL can be imported, and given the module", async () => {
     const folder = mkdtempSync(join(tmpdir(), "bundle-"));
     cpSync(join(PACKAGE, "lib"), join(folder, "lib"), { recursive: true });
-    const source = readFileSync(join(PACKAGE, "proved_markdown.mjs"), "utf8");
-    assert.ok(source.includes('new URL("./proved_markdown.wasm", import.meta.url)')); // as bundlers look for it
+    const source = readFileSync(join(PACKAGE, "fillaqut.mjs"), "utf8");
+    assert.ok(source.includes('new URL("./fillaqut.wasm", import.meta.url)')); // as bundlers look for it
     writeFileSync(join(folder, "bundle.mjs"), source.replaceAll("import.meta", "({})"));
     const { load } = await import(pathToFileURL(join(folder, "bundle.mjs")));
     await assert.rejects(load(), { name: "ModuleMissing" });
@@ -272,7 +272,7 @@ test("a bundle that has no URL can be imported, and given the module", async () 
 test("each function is called, and the package has one version", () => {
     const names = ["source", "blocks", "events", "inlines", "line_start", "pages", "readers", "text"];
     const files = names.map((name) => new URL(`../lib/${name}.mjs`, import.meta.url));
-    const sources = [...files, new URL("../proved_markdown.mjs", import.meta.url)].map((file) => readFileSync(file, "utf8")).join("");
+    const sources = [...files, new URL("../fillaqut.mjs", import.meta.url)].map((file) => readFileSync(file, "utf8")).join("");
     const missing = Object.keys(FUNCTIONS).filter((name) => !new RegExp(`"${name}"|calls\\.${name}\\b`).test(sources));
     assert.deepEqual(missing, []);
     assert.equal(JSON.parse(readFileSync(new URL("../package.json", import.meta.url), "utf8")).version, VERSION);

@@ -5,7 +5,7 @@
  *     packages/javascript/tests/read.mjs examples    those of the specification, as many as packages/javascript/totals says
  *     packages/javascript/tests/read.mjs disk        the Markdown files of this disk, up to 1 MB each
  */
-import { load } from "../proved_markdown.mjs";
+import { load } from "../fillaqut.mjs";
 import { Reading } from "../page/reading.mjs";
 import { MODULE } from "./module.mjs";
 import { examples, filesOfDisk } from "./pages.mjs";

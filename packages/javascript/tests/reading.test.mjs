@@ -1,7 +1,7 @@
 /** The page's reading in Node: what it says of definitions and underlines, and that it reads each kind of line after each other. */
 import assert from "node:assert/strict";
 import { test } from "node:test";
-import { load } from "../proved_markdown.mjs";
+import { load } from "../fillaqut.mjs";
 import { rowOf } from "../page/columns.mjs";
 import { Reading } from "../page/reading.mjs";
 import { MODULE } from "./module.mjs";

@@ -2,7 +2,7 @@
 import assert from "node:assert/strict";
 import { readFileSync } from "node:fs";
 import { test } from "node:test";
-import { load } from "../proved_markdown.mjs";
+import { load } from "../fillaqut.mjs";
 import { MODULE } from "./module.mjs";
 import { hold } from "./totals.mjs";
 

@@ -1,5 +1,5 @@
 /** What a user of the package writes in TypeScript; what stands after `@ts-expect-error` must have an error. */
-import { load, NotUtf8, type LineStart, type Text } from "proved-markdown";
+import { load, NotUtf8, type LineStart, type Text } from "fillaqut";
 
 const scanners = await load();
 const page: Text<string> = scanners.text("# a\n> [b](c) &amp;");

@@ -1,4 +1,4 @@
-/* The scanners of proved_markdown.h for fast.c, as packages/c/bindings has written them. */
+/* The scanners of fillaqut.h for fast.c, as packages/c/bindings has written them. */
 ANSWER3(Text, mds_text, status, taken, length)
 ANSWER4(ListItem, mds_list_item, length, start, indent, delimiter)
 ANSWER3(Indent, mds_indent, status, place, columns)

@@ -5,7 +5,7 @@
 #include <Python.h>
 #include <string.h>
 
-#include "proved_markdown.h"
+#include "fillaqut.h"
 
 /* Whether so many are given, addresses and numbers; None is the null address. Else an exception is set. */
 static bool taken(size_t *it, int expected, PyObject *const *given, Py_ssize_t count) {
@@ -60,7 +60,7 @@ static PyObject *with_text(PyObject *found, struct buffer *buffer, size_t length
 }
 
 #define ANSWER(name, type, count, ...)                                                                                         \
-    static PyStructSequence_Desc struct_##name = {"proved_markdown._fast." #name, NULL, fields_##name, count};                 \
+    static PyStructSequence_Desc struct_##name = {"fillaqut._fast." #name, NULL, fields_##name, count};                 \
     static PyTypeObject *type_##name;                                                                                          \
     static PyObject *of_##name(struct type it) { return fields(type_##name, count, (const size_t[]){__VA_ARGS__}); }
 #define ANSWER2(name, type, a, b)                                                                                              \

@@ -3,8 +3,8 @@ package's answer. What C gives is given in four forms, by itself, inside of othe
 and all must answer alike."""
 import itertools
 
-import proved_markdown as mds
-from proved_markdown import _c
+import fillaqut as mds
+from fillaqut import _c
 from tables import LARGEST as NONE
 
 FORMS = ["alone", "inside", "buffer", "str"]

@@ -13,20 +13,20 @@ from pathlib import Path
 TOP = Path(__file__).resolve().parents[3]
 sys.dont_write_bytecode = True
 sys.path.insert(0, os.environ.get("PYTHONPATH") or str(TOP / "packages/python"))
-os.environ.setdefault("PROVED_MARKDOWN_LIBRARY", str(TOP / "out/libproved_markdown.so.0"))
+os.environ.setdefault("FILLAQUT_LIBRARY", str(TOP / "out/libfillaqut.so.0"))
 
 
 def scanners(**asked):
     """This package's call."""
-    made = import_module("proved_markdown").html
+    made = import_module("fillaqut").html
     return lambda page: made(page, **asked)
 
 
 # Of each row its name, and what makes the call; ImportError where the package is not installed.
 MAKERS = {
-    "proved_markdown, safe": scanners,
-    "proved_markdown, safe=False": lambda: scanners(safe=False),
-    "proved_markdown, with tables, strikethrough and tasks": lambda: scanners(extensions=["table", "strikethrough", "tasklist"]),
+    "fillaqut, safe": scanners,
+    "fillaqut, safe=False": lambda: scanners(safe=False),
+    "fillaqut, with tables, strikethrough and tasks": lambda: scanners(extensions=["table", "strikethrough", "tasklist"]),
     "markdown_it": lambda: import_module("markdown_it").MarkdownIt("commonmark").render,
     "mistune": lambda: import_module("mistune").html,
     "commonmark": lambda: import_module("commonmark").commonmark,

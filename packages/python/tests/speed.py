@@ -13,11 +13,11 @@ from pathlib import Path
 TOP = Path(__file__).resolve().parents[3]
 sys.dont_write_bytecode = True
 sys.path.insert(0, os.environ.get("PYTHONPATH") or str(TOP / "packages/python"))
-os.environ.setdefault("PROVED_MARKDOWN_LIBRARY", str(TOP / "out/libproved_markdown.so.0"))
+os.environ.setdefault("FILLAQUT_LIBRARY", str(TOP / "out/libfillaqut.so.0"))
 import ctypes
 
-import proved_markdown as mds
-from proved_markdown import _c
+import fillaqut as mds
+from fillaqut import _c
 
 PAGE = "> - [a](<b c> 'd') &auml; <i>, `x`\n# Heading\n---\n<https://a.b>\n|-|:-:|\n  text\n~~~\n" * 100
 # Of each call the text that is timed, where `p` is the page.
@@ -61,7 +61,7 @@ def cost(text, names, runs):
 
 def alone(name, *given):
     """A function of the library, with nothing around it."""
-    library = ctypes.PyDLL(os.environ["PROVED_MARKDOWN_LIBRARY"])
+    library = ctypes.PyDLL(os.environ["FILLAQUT_LIBRARY"])
     found = getattr(library, f"mds_{name}")
     found.restype, found.argtypes = _c.FUNCTIONS[name]
     return found

@@ -2,9 +2,9 @@
 containers."""
 import unittest
 
-import proved_markdown as mds
+import fillaqut as mds
 import tables
-from proved_markdown import BlockKind, BlockQuote, Item
+from fillaqut import BlockKind, BlockQuote, Item
 from test_rows import hold
 
 NUMBERED = {BlockKind.HEADING, BlockKind.SETEXT, BlockKind.HTML}

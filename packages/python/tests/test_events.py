@@ -7,9 +7,9 @@ from html import escape
 from pathlib import Path
 from urllib.parse import quote
 
-import proved_markdown as mds
+import fillaqut as mds
 import tables
-from proved_markdown import Element, EventKind, LinkKind
+from fillaqut import Element, EventKind, LinkKind
 from test_html import asked_of
 from test_rows import hold
 

@@ -3,7 +3,7 @@ import sys
 import unittest
 from pathlib import Path
 
-import proved_markdown as mds
+import fillaqut as mds
 import tables
 from test_rows import hold
 

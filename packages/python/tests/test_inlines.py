@@ -1,9 +1,9 @@
 """The inlines of texts, on the rows of packages/pages.tsv."""
 import unittest
 
-import proved_markdown as mds
+import fillaqut as mds
 import tables
-from proved_markdown import InlineKind, LinkTarget, Span
+from fillaqut import InlineKind, LinkTarget, Span
 from test_rows import hold
 
 TAGS = {

@@ -1,7 +1,7 @@
 """The lists of pages, on the rows of packages/pages.tsv."""
 import unittest
 
-import proved_markdown as mds
+import fillaqut as mds
 import tables
 from test_rows import hold
 

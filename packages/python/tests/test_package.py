@@ -8,8 +8,8 @@ import unicodedata
 import unittest
 from pathlib import Path
 
-import proved_markdown as mds
-from proved_markdown import _c, errors
+import fillaqut as mds
+from fillaqut import _c, errors
 from test_rows import hold
 
 FOLDER = Path(mds.__file__).parent
@@ -168,7 +168,7 @@ class Package(unittest.TestCase):
         tried = 0
         self.assertEqual([name for name in mds.__all__ if not hasattr(mds, name)], [])
         for name in [module.name for module in pkgutil.iter_modules([str(FOLDER)])]:
-            found = doctest.testmod(importlib.import_module(f"proved_markdown.{name}"))
+            found = doctest.testmod(importlib.import_module(f"fillaqut.{name}"))
             self.assertEqual(found.failed, 0)
             tried += found.attempted
         calls = [getattr(mds, name) for name in mds.__all__ if name[0].islower()]

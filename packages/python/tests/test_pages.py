@@ -9,8 +9,8 @@ import re
 import tempfile
 import unittest
 
-import proved_markdown as mds
-from proved_markdown import _pages
+import fillaqut as mds
+from fillaqut import _pages
 
 # Of one byte, two, three and four, so that blocks of 64 characters begin at many places; then a block of ASCII, and at last half a
 # block that has 64 bytes as well.

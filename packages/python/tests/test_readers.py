@@ -1,9 +1,9 @@
 """Pages that come piece by piece have the blocks of the whole page, on the pages of packages/pages.tsv."""
 import unittest
 
-import proved_markdown as mds
+import fillaqut as mds
 import tables
-from proved_markdown import BlockKind, BlockReader, FootnoteDefinition, TermDefinition, read_blocks
+from fillaqut import BlockKind, BlockReader, FootnoteDefinition, TermDefinition, read_blocks
 
 
 def fields_of(block):

@@ -5,10 +5,10 @@ import sys
 import unittest
 from pathlib import Path
 
-import proved_markdown as mds
+import fillaqut as mds
 import tables
 from c_calls import AFTER, CALLS, FORMS, Data, as_bytes, check_skips, label, line_call, line_state, tag, outcome_of
-from proved_markdown import _c
+from fillaqut import _c
 from tables import LARGEST as NONE
 
 sys.path.append(str(Path(__file__).resolve().parents[3] / "docs"))

@@ -2,7 +2,7 @@
 from mmap import mmap
 from typing import Iterator, Optional, assert_type
 
-import proved_markdown as mds
+import fillaqut as mds
 
 
 def of_str(page: str) -> None:

@@ -4,7 +4,7 @@
 use std::path::Path;
 use std::{env, fs, process};
 
-use proved_markdown::{scan_blocks, BlockKind};
+use fillaqut::{scan_blocks, BlockKind};
 
 fn print_headings(page: &[u8]) {
     for block in scan_blocks(page) {

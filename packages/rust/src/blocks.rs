@@ -13,7 +13,7 @@ use crate::values::{found, Alignment, HeadingLevel, ListItem};
 /// Space, tab, LF, VT, FF or CR. (2.1)
 ///
 /// ```
-/// assert!(proved_markdown::is_ascii_whitespace(b'\n'));
+/// assert!(fillaqut::is_ascii_whitespace(b'\n'));
 /// ```
 #[inline]
 #[must_use]
@@ -26,7 +26,7 @@ pub fn is_ascii_whitespace(byte: u8) -> bool {
 /// Space, tab, VT or FF: white space that ends no line. (2.1)
 ///
 /// ```
-/// assert!(!proved_markdown::is_ascii_whitespace_no_nl(b'\n'));
+/// assert!(!fillaqut::is_ascii_whitespace_no_nl(b'\n'));
 /// ```
 #[inline]
 #[must_use]
@@ -39,7 +39,7 @@ pub fn is_ascii_whitespace_no_nl(byte: u8) -> bool {
 /// An ASCII punctuation character. (2.1)
 ///
 /// ```
-/// assert!(proved_markdown::is_ascii_punctuation(b'!'));
+/// assert!(fillaqut::is_ascii_punctuation(b'!'));
 /// ```
 #[inline]
 #[must_use]
@@ -50,7 +50,7 @@ pub fn is_ascii_punctuation(byte: u8) -> bool {
 /// 1 where the first byte is this one, else 0.
 ///
 /// ```
-/// assert_eq!(proved_markdown::scan_ch(b"#a", b'#'), 1);
+/// assert_eq!(fillaqut::scan_ch(b"#a", b'#'), 1);
 /// ```
 #[inline]
 #[must_use]
@@ -63,7 +63,7 @@ pub fn scan_ch(data: &[u8], byte: u8) -> usize {
 /// How many of this byte stand at the front.
 ///
 /// ```
-/// assert_eq!(proved_markdown::scan_ch_repeat(b"##a", b'#'), 2);
+/// assert_eq!(fillaqut::scan_ch_repeat(b"##a", b'#'), 2);
 /// ```
 #[inline]
 #[must_use]
@@ -78,7 +78,7 @@ pub fn scan_ch_repeat(data: &[u8], byte: u8) -> usize {
 /// How many bytes from the front are among the accepted ones. Each is looked for among all of these.
 ///
 /// ```
-/// assert_eq!(proved_markdown::scan_while(b"abca", b"ba"), 2);
+/// assert_eq!(fillaqut::scan_while(b"abca", b"ba"), 2);
 /// ```
 #[inline]
 #[must_use]
@@ -89,7 +89,7 @@ pub fn scan_while(data: &[u8], accepted: &[u8]) -> usize {
 /// The same from the back.
 ///
 /// ```
-/// assert_eq!(proved_markdown::scan_rev_while(b"a \t", b" \t"), 2);
+/// assert_eq!(fillaqut::scan_rev_while(b"a \t", b" \t"), 2);
 /// ```
 #[inline]
 #[must_use]
@@ -100,7 +100,7 @@ pub fn scan_rev_while(data: &[u8], accepted: &[u8]) -> usize {
 /// How many bytes of white space that ends no line stand at the front.
 ///
 /// ```
-/// assert_eq!(proved_markdown::scan_whitespace_no_nl(b" \t\n"), 2);
+/// assert_eq!(fillaqut::scan_whitespace_no_nl(b" \t\n"), 2);
 /// ```
 #[inline]
 #[must_use]
@@ -111,8 +111,8 @@ pub fn scan_whitespace_no_nl(data: &[u8]) -> usize {
 /// The length of the line ending at the front; 0 at the end of the text. (2.1)
 ///
 /// ```
-/// assert_eq!(proved_markdown::scan_eol(b"\r\na"), Some(2));
-/// assert_eq!(proved_markdown::scan_eol(b"a"), None);
+/// assert_eq!(fillaqut::scan_eol(b"\r\na"), Some(2));
+/// assert_eq!(fillaqut::scan_eol(b"a"), None);
 /// ```
 #[inline]
 #[must_use]
@@ -130,7 +130,7 @@ pub fn scan_eol(bytes: &[u8]) -> Option<usize> {
 /// The length of the line at the front with its ending, LF, CR LF or CR; all bytes where there is none. (2.1)
 ///
 /// ```
-/// assert_eq!(proved_markdown::scan_line(b"a\rb\n"), 2);
+/// assert_eq!(fillaqut::scan_line(b"a\rb\n"), 2);
 /// ```
 #[inline]
 #[must_use]
@@ -141,7 +141,7 @@ pub fn scan_line(bytes: &[u8]) -> usize {
 /// The offset after the first LF, or the length where there is none. It knows LF alone.
 ///
 /// ```
-/// assert_eq!(proved_markdown::scan_nextline(b"a\rb\nc"), 4);
+/// assert_eq!(fillaqut::scan_nextline(b"a\rb\nc"), 4);
 /// ```
 #[inline]
 #[must_use]
@@ -152,7 +152,7 @@ pub fn scan_nextline(bytes: &[u8]) -> usize {
 /// The length of the blank line at the front with its ending. (4.9)
 ///
 /// ```
-/// assert_eq!(proved_markdown::scan_blank_line(b" \t\na"), Some(3));
+/// assert_eq!(fillaqut::scan_blank_line(b" \t\na"), Some(3));
 /// ```
 #[inline]
 #[must_use]
@@ -167,7 +167,7 @@ pub fn scan_blank_line(bytes: &[u8]) -> Option<usize> {
 /// The length of the block quote marker at the front, `>` and at most one space. (5.1)
 ///
 /// ```
-/// assert_eq!(proved_markdown::scan_blockquote_start(b"> a"), Some(2));
+/// assert_eq!(fillaqut::scan_blockquote_start(b"> a"), Some(2));
 /// ```
 #[inline]
 #[must_use]
@@ -178,7 +178,7 @@ pub fn scan_blockquote_start(data: &[u8]) -> Option<usize> {
 /// The list item that begins at the front. (5.2)
 ///
 /// ```
-/// use proved_markdown::{scan_listitem, ListItem};
+/// use fillaqut::{scan_listitem, ListItem};
 /// let item = ListItem { length: 4, delimiter: b'.', start: 10, indent: 4 };
 /// assert_eq!(scan_listitem(b"10. a"), Some(item));
 /// ```
@@ -201,7 +201,7 @@ pub fn scan_listitem(bytes: &[u8]) -> Option<ListItem> {
 /// Where `max` is above `usize::MAX / 4`.
 ///
 /// ```
-/// assert_eq!(proved_markdown::calc_indent(b"\t x", 8), (2, 5));
+/// assert_eq!(fillaqut::calc_indent(b"\t x", 8), (2, 5));
 /// ```
 #[inline]
 #[must_use]
@@ -214,8 +214,8 @@ pub fn calc_indent(text: &[u8], max: usize) -> (usize, usize) {
 /// The length of the thematic break at the front, with its line ending; else a place before which none begins. (4.1)
 ///
 /// ```
-/// assert_eq!(proved_markdown::scan_hrule(b"* * *\n"), Ok(6));
-/// assert_eq!(proved_markdown::scan_hrule(b"* * a"), Err(4));
+/// assert_eq!(fillaqut::scan_hrule(b"* * *\n"), Ok(6));
+/// assert_eq!(fillaqut::scan_hrule(b"* * a"), Err(4));
 /// ```
 #[inline]
 pub fn scan_hrule(bytes: &[u8]) -> Result<usize, usize> {
@@ -226,7 +226,7 @@ pub fn scan_hrule(bytes: &[u8]) -> Result<usize, usize> {
 /// The level of the ATX heading at the front. (4.2)
 ///
 /// ```
-/// use proved_markdown::{scan_atx_heading, HeadingLevel};
+/// use fillaqut::{scan_atx_heading, HeadingLevel};
 /// assert_eq!(scan_atx_heading(b"## a"), Some(HeadingLevel::H2));
 /// ```
 #[inline]
@@ -238,7 +238,7 @@ pub fn scan_atx_heading(data: &[u8]) -> Option<HeadingLevel> {
 /// The length of the setext heading underline at the front, with its line ending, and the level. (4.3)
 ///
 /// ```
-/// use proved_markdown::{scan_setext_heading, HeadingLevel};
+/// use fillaqut::{scan_setext_heading, HeadingLevel};
 /// assert_eq!(scan_setext_heading(b"---\na"), Some((4, HeadingLevel::H2)));
 /// ```
 #[inline]
@@ -265,7 +265,7 @@ pub struct ReferenceDefinition {
 /// and without indent. Parentheses in its destination may stand in each other `max_next + 1` deep. (4.7)
 ///
 /// ```
-/// let found = proved_markdown::scan_reference_definition(b"[a]: <b> 'c'\n", 31).unwrap();
+/// let found = fillaqut::scan_reference_definition(b"[a]: <b> 'c'\n", 31).unwrap();
 /// assert_eq!((found.label, found.destination, found.title, found.len), (1..2, 6..7, Some(10..11), 13));
 /// ```
 #[must_use]
@@ -284,7 +284,7 @@ pub fn scan_reference_definition(data: &[u8], max_next: usize) -> Option<Referen
 /// there is none. (GitHub Flavored Markdown 0.29, 4.10)
 ///
 /// ```
-/// use proved_markdown::{scan_table_head, Alignment};
+/// use fillaqut::{scan_table_head, Alignment};
 /// assert_eq!(scan_table_head(b"|-|:-:|\n"), (8, vec![Alignment::None, Alignment::Center]));
 /// ```
 #[inline]
@@ -311,7 +311,7 @@ fn fence(returned: ffi::Fence) -> Option<(usize, u8)> {
 /// The length and the byte of the opening code fence at the front. (4.5)
 ///
 /// ```
-/// assert_eq!(proved_markdown::scan_code_fence(b"~~~~ rust"), Some((4, b'~')));
+/// assert_eq!(fillaqut::scan_code_fence(b"~~~~ rust"), Some((4, b'~')));
 /// ```
 #[inline]
 #[must_use]
@@ -323,7 +323,7 @@ pub fn scan_code_fence(data: &[u8]) -> Option<(usize, u8)> {
 /// byte. At the end of the text it is 0. (4.5)
 ///
 /// ```
-/// assert_eq!(proved_markdown::scan_closing_code_fence(b"```` \n", b'`', 3), Some(5));
+/// assert_eq!(fillaqut::scan_closing_code_fence(b"```` \n", b'`', 3), Some(5));
 /// ```
 #[inline]
 #[must_use]
@@ -334,7 +334,7 @@ pub fn scan_closing_code_fence(bytes: &[u8], fence: u8, count: usize) -> Option<
 /// The length and the byte of the opening line of a metadata block. (An extension of pulldown-cmark)
 ///
 /// ```
-/// assert_eq!(proved_markdown::scan_metadata_block(b"---\na: b\n---\n", true, false), Some((3, b'-')));
+/// assert_eq!(fillaqut::scan_metadata_block(b"---\na: b\n---\n", true, false), Some((3, b'-')));
 /// ```
 #[inline]
 #[must_use]
@@ -345,7 +345,7 @@ pub fn scan_metadata_block(data: &[u8], yaml_style: bool, pluses_style: bool) ->
 /// The length of what closes a metadata block that was opened by the byte.
 ///
 /// ```
-/// assert_eq!(proved_markdown::scan_closing_metadata_block(b"...\n", b'-'), Some(3));
+/// assert_eq!(fillaqut::scan_closing_metadata_block(b"...\n", b'-'), Some(3));
 /// ```
 #[inline]
 #[must_use]
@@ -356,8 +356,8 @@ pub fn scan_closing_metadata_block(bytes: &[u8], fence: u8) -> Option<usize> {
 /// Whether the line at the front can interrupt a paragraph, after at most three columns of indent. (4.8)
 ///
 /// ```
-/// assert!(proved_markdown::interrupts_paragraph(b"- a"));
-/// assert!(!proved_markdown::interrupts_paragraph(b"2. a"));
+/// assert!(fillaqut::interrupts_paragraph(b"- a"));
+/// assert!(!fillaqut::interrupts_paragraph(b"2. a"));
 /// ```
 #[must_use]
 pub fn interrupts_paragraph(line: &[u8]) -> bool {

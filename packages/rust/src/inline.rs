@@ -48,7 +48,7 @@ pub(crate) fn check_place(data: &str, start: usize) {
 /// Where the place is not in the text, between two characters.
 ///
 /// ```
-/// assert_eq!(proved_markdown::scan_wikilink_pipe("[[a|b]]", 2, 3), Some((4, "a")));
+/// assert_eq!(fillaqut::scan_wikilink_pipe("[[a|b]]", 2, 3), Some((4, "a")));
 /// ```
 #[inline]
 #[must_use]
@@ -60,7 +60,7 @@ pub fn scan_wikilink_pipe(data: &str, start_ix: usize, len: usize) -> Option<(us
 /// The same of any bytes; `None` too where the place is past their end.
 ///
 /// ```
-/// assert_eq!(proved_markdown::scan_wikilink_pipe_bytes(b"\xff|", 0, 2), Some((2, &b"\xff"[..])));
+/// assert_eq!(fillaqut::scan_wikilink_pipe_bytes(b"\xff|", 0, 2), Some((2, &b"\xff"[..])));
 /// ```
 #[inline]
 #[must_use]
@@ -76,7 +76,7 @@ pub fn scan_wikilink_pipe_bytes(data: &[u8], start_ix: usize, len: usize) -> Opt
 /// Where the place is not in the text, between two characters.
 ///
 /// ```
-/// assert_eq!(proved_markdown::scan_link_dest("[a](<b c>)", 4, 31), Some((5, "b c")));
+/// assert_eq!(fillaqut::scan_link_dest("[a](<b c>)", 4, 31), Some((5, "b c")));
 /// ```
 #[inline]
 #[must_use]
@@ -89,7 +89,7 @@ pub fn scan_link_dest(data: &str, start_ix: usize, max_next: usize) -> Option<(u
 /// The same of any bytes; `None` too where the place is past their end.
 ///
 /// ```
-/// assert_eq!(proved_markdown::scan_link_dest_bytes(b"\xff )", 0, 31), Some((1, &b"\xff"[..])));
+/// assert_eq!(fillaqut::scan_link_dest_bytes(b"\xff )", 0, 31), Some((1, &b"\xff"[..])));
 /// ```
 #[inline]
 #[must_use]
@@ -106,7 +106,7 @@ pub fn scan_link_dest_bytes(data: &[u8], start_ix: usize, max_next: usize) -> Op
 /// Where the place is not in the text, between two characters.
 ///
 /// ```
-/// assert_eq!(proved_markdown::scan_link_title("[a](/b 'c d')", 7), Some((5, "c d")));
+/// assert_eq!(fillaqut::scan_link_title("[a](/b 'c d')", 7), Some((5, "c d")));
 /// ```
 #[inline]
 #[must_use]
@@ -119,7 +119,7 @@ pub fn scan_link_title(data: &str, start_ix: usize) -> Option<(usize, &str)> {
 /// The same of any bytes; `None` too where the place is past their end.
 ///
 /// ```
-/// assert_eq!(proved_markdown::scan_link_title_bytes(b"(\xff)", 0), Some((3, &b"\xff"[..])));
+/// assert_eq!(fillaqut::scan_link_title_bytes(b"(\xff)", 0), Some((3, &b"\xff"[..])));
 /// ```
 #[inline]
 #[must_use]
@@ -135,7 +135,7 @@ pub fn scan_link_title_bytes(data: &[u8], start_ix: usize) -> Option<(usize, &[u
 /// Where the place is not in the text, between two characters.
 ///
 /// ```
-/// use proved_markdown::{scan_autolink, LinkType};
+/// use fillaqut::{scan_autolink, LinkType};
 /// assert_eq!(scan_autolink("<https://a.b>", 1), Some((13, "https://a.b".into(), LinkType::Autolink)));
 /// ```
 #[inline]
@@ -149,7 +149,7 @@ pub fn scan_autolink(text: &str, start_ix: usize) -> Option<(usize, Cow<'_, str>
 /// The same of any bytes; `None` too where the place is past their end.
 ///
 /// ```
-/// assert_eq!(proved_markdown::scan_autolink_bytes(b"<ab:\xff>", 1), Some((6, &b"ab:\xff"[..])));
+/// assert_eq!(fillaqut::scan_autolink_bytes(b"<ab:\xff>", 1), Some((6, &b"ab:\xff"[..])));
 /// ```
 #[inline]
 #[must_use]
@@ -160,7 +160,7 @@ pub fn scan_autolink_bytes(data: &[u8], start_ix: usize) -> Option<(usize, &[u8]
 /// Whether an HTML block that a name of start condition 6 opens begins here, after the `<`. (4.6)
 ///
 /// ```
-/// assert!(proved_markdown::starts_html_block_type_6(b"div>"));
+/// assert!(fillaqut::starts_html_block_type_6(b"div>"));
 /// ```
 #[inline]
 #[must_use]
@@ -171,7 +171,7 @@ pub fn starts_html_block_type_6(data: &[u8]) -> bool {
 /// The length of the tag at the front that stands alone in its line. (4.6, start condition 7)
 ///
 /// ```
-/// assert_eq!(proved_markdown::scan_html_type_7(b"<b> \n"), Some(3));
+/// assert_eq!(fillaqut::scan_html_type_7(b"<b> \n"), Some(3));
 /// ```
 #[inline]
 #[must_use]
@@ -182,7 +182,7 @@ pub fn scan_html_type_7(data: &[u8]) -> Option<usize> {
 /// The kind of the HTML block that begins at the front, after the indent of its line. (4.6)
 ///
 /// ```
-/// use proved_markdown::{scan_html_block_start, HtmlBlockKind};
+/// use fillaqut::{scan_html_block_start, HtmlBlockKind};
 /// assert_eq!(scan_html_block_start(b"<!-- a"), Some(HtmlBlockKind::Comment));
 /// assert_eq!(scan_html_block_start(b"<a> b"), None);
 /// ```
@@ -194,7 +194,7 @@ pub fn scan_html_block_start(data: &[u8]) -> Option<HtmlBlockKind> {
 /// Whether the line at the front ends an HTML block of this kind: as its last line, or as the blank line after it. (4.6)
 ///
 /// ```
-/// use proved_markdown::{ends_html_block, HtmlBlockKind};
+/// use fillaqut::{ends_html_block, HtmlBlockKind};
 /// assert!(ends_html_block(b"a -->", HtmlBlockKind::Comment));
 /// assert!(!ends_html_block(b"a -->", HtmlBlockKind::BlockName));
 /// ```
@@ -206,7 +206,7 @@ pub fn ends_html_block(line: &[u8], kind: HtmlBlockKind) -> bool {
 /// The length of the open or closing tag at the front, which holds no line ending. (6.6)
 ///
 /// ```
-/// assert_eq!(proved_markdown::scan_html_tag(b"<b c='d'> e"), Some(9));
+/// assert_eq!(fillaqut::scan_html_tag(b"<b c='d'> e"), Some(9));
 /// ```
 #[inline]
 #[must_use]
@@ -218,7 +218,7 @@ pub fn scan_html_tag(data: &[u8]) -> Option<usize> {
 /// none are left out inside it; and its length. (6.6)
 ///
 /// ```
-/// use proved_markdown::{scan_html_block_inner, Skip};
+/// use fillaqut::{scan_html_block_inner, Skip};
 /// let tag = scan_html_block_inner(b"<foo\n> bar>", &[Skip::new(5, 2)]);
 /// assert_eq!(tag, Ok(Some((b"<foo\nbar>".to_vec(), 11))));
 /// ```
@@ -231,7 +231,7 @@ pub fn scan_html_block_inner(data: &[u8], skips: &[Skip]) -> Result<Option<(Vec<
 /// of the page.
 ///
 /// ```
-/// use proved_markdown::{Page, Skip};
+/// use fillaqut::{Page, Skip};
 /// let text = b"> <a\n> b> [c\n> d]";
 /// let skips = [Skip::new(0, 2), Skip::new(5, 2), Skip::new(13, 2)];
 /// let page = Page::new(text, &skips).unwrap();
@@ -248,7 +248,7 @@ impl<'page> Page<'page> {
     /// The page, where the skips are a table of it.
     ///
     /// ```
-    /// use proved_markdown::{BadSkips, Page, Skip};
+    /// use fillaqut::{BadSkips, Page, Skip};
     /// assert_eq!(Page::new(b"a", &[Skip::new(1, 1)]).unwrap_err(), BadSkips);
     /// ```
     #[inline]
@@ -263,7 +263,7 @@ impl<'page> Page<'page> {
     /// Where the place is past the end.
     ///
     /// ```
-    /// let page = proved_markdown::Page::new(b"a b]", &[]).unwrap();
+    /// let page = fillaqut::Page::new(b"a b]", &[]).unwrap();
     /// assert_eq!(page.up_to(3).scan_label(0, false), None);
     /// ```
     #[inline]
@@ -275,7 +275,7 @@ impl<'page> Page<'page> {
     /// The open or closing tag at the place: the offset after it, and its text where something is left out inside it. (6.6)
     ///
     /// ```
-    /// let page = proved_markdown::Page::new(b"a <b\nc>", &[]).unwrap();
+    /// let page = fillaqut::Page::new(b"a <b\nc>", &[]).unwrap();
     /// assert_eq!(page.scan_tag(2), Some((7, None)));
     /// ```
     #[inline]
@@ -298,7 +298,7 @@ impl<'page> Page<'page> {
     /// joined by one space. In a cell of a table a pipe loses the backslash before it. Its own bytes are UTF-8. (6.3)
     ///
     /// ```
-    /// let page = proved_markdown::Page::new(b"[a  b]: c", &[]).unwrap();
+    /// let page = fillaqut::Page::new(b"[a  b]: c", &[]).unwrap();
     /// assert_eq!(page.scan_label(1, false), Some((6, "a b".into())));
     /// ```
     #[inline]
@@ -340,7 +340,7 @@ fn label_at(bytes: &[u8], start: usize, skips: &[Skip], is_in_table: bool) -> Op
 /// bytes, at rising places, each at or after the end that was found before, pass over at most 4n + 8k bytes.
 ///
 /// ```
-/// use proved_markdown::HtmlScanGuard;
+/// use fillaqut::HtmlScanGuard;
 /// let mut guard = HtmlScanGuard::new(b"<!-- a --> <!-- b <!-- c");
 /// assert_eq!(guard.scan_inline_html_comment(2), Some(10));
 /// assert_eq!(guard.scan_inline_html_comment(13), None);
@@ -356,7 +356,7 @@ impl<'text> HtmlScanGuard<'text> {
     /// That of a text of which nothing has been searched.
     ///
     /// ```
-    /// assert_eq!(proved_markdown::HtmlScanGuard::new(b"a").text(), b"a");
+    /// assert_eq!(fillaqut::HtmlScanGuard::new(b"a").text(), b"a");
     /// ```
     #[inline]
     #[must_use]
@@ -367,7 +367,7 @@ impl<'text> HtmlScanGuard<'text> {
     /// The text in which it scans.
     ///
     /// ```
-    /// assert_eq!(proved_markdown::HtmlScanGuard::new(b"<!a>").text().len(), 4);
+    /// assert_eq!(fillaqut::HtmlScanGuard::new(b"<!a>").text().len(), 4);
     /// ```
     #[inline]
     #[must_use]
@@ -385,7 +385,7 @@ impl<'text> HtmlScanGuard<'text> {
     /// there. (6.6)
     ///
     /// ```
-    /// use proved_markdown::HtmlScanGuard;
+    /// use fillaqut::HtmlScanGuard;
     /// assert_eq!(HtmlScanGuard::new(b"a <!-- b --> c").scan_inline_html_comment(4), Some(12));
     /// ```
     #[inline]
@@ -396,7 +396,7 @@ impl<'text> HtmlScanGuard<'text> {
     /// The offset after the processing instruction whose `<?` ends at the place; `None` too where none ends there. (6.6)
     ///
     /// ```
-    /// use proved_markdown::HtmlScanGuard;
+    /// use fillaqut::HtmlScanGuard;
     /// assert_eq!(HtmlScanGuard::new(b"<?a?>").scan_inline_html_processing(2), Some(5));
     /// ```
     #[inline]
@@ -409,8 +409,8 @@ impl<'text> HtmlScanGuard<'text> {
 /// byte is taken for its `&`. All entities of HTML are known. (2.5)
 ///
 /// ```
-/// assert_eq!(proved_markdown::scan_entity(b"&auml;b"), (6, Some("ä".into())));
-/// assert_eq!(proved_markdown::scan_entity(b"&a;"), (0, None));
+/// assert_eq!(fillaqut::scan_entity(b"&auml;b"), (6, Some("ä".into())));
+/// assert_eq!(fillaqut::scan_entity(b"&a;"), (0, None));
 /// ```
 #[inline]
 #[must_use]
@@ -427,7 +427,7 @@ pub fn scan_entity(bytes: &[u8]) -> (usize, Option<Cow<'static, str>>) {
 /// backslashes and a pipe give the pipe. It is the input itself where nothing changes. (2.4, 2.5)
 ///
 /// ```
-/// assert_eq!(proved_markdown::unescape(r"a\*b &amp; c", false), "a*b & c");
+/// assert_eq!(fillaqut::unescape(r"a\*b &amp; c", false), "a*b & c");
 /// ```
 #[inline]
 #[must_use]
@@ -447,7 +447,7 @@ pub fn unescape(input: &str, is_in_table: bool) -> Cow<'_, str> {
 /// (6.3)
 ///
 /// ```
-/// use proved_markdown::{scan_link_label_rest, Skip};
+/// use fillaqut::{scan_link_label_rest, Skip};
 /// assert_eq!(scan_link_label_rest("a b]: c", &[], false), Ok(Some((4, "a b".into()))));
 /// assert_eq!(scan_link_label_rest("a\n> b]", &[Skip::new(2, 2)], false), Ok(Some((6, "a b".into()))));
 /// ```

@@ -118,7 +118,7 @@ pub struct Inlines {
 /// [`scan_link_label_rest`]: crate::scan_link_label_rest
 ///
 /// ```
-/// use proved_markdown::{scan_inlines, InlineExtensions, InlineKind, LinkTarget};
+/// use fillaqut::{scan_inlines, InlineExtensions, InlineKind, LinkTarget};
 /// let inlines: Vec<_> = scan_inlines("*a* [B]", &["b"], InlineExtensions::default()).collect();
 /// assert_eq!((&inlines[0].kind, &inlines[1].range), (&InlineKind::StartEmphasis, &(1..2)));
 /// let InlineKind::StartLink(link) = &inlines[4].kind else { panic!() };

@@ -11,7 +11,7 @@ use crate::raw;
 /// Whether two labels match: their full case foldings are equal. (6.3)
 ///
 /// ```
-/// assert!(proved_markdown::labels_match("ẞ", "SS"));
+/// assert!(fillaqut::labels_match("ẞ", "SS"));
 /// ```
 #[inline]
 #[must_use]
@@ -22,7 +22,7 @@ pub fn labels_match(one: &str, other: &str) -> bool {
 /// The full case folding of a label: two labels match exactly where their keys are equal. (6.3)
 ///
 /// ```
-/// assert_eq!(proved_markdown::label_key("Straße"), "strasse");
+/// assert_eq!(fillaqut::label_key("Straße"), "strasse");
 /// ```
 #[inline]
 #[must_use]
@@ -40,7 +40,7 @@ fn key_of(label: &str) -> Vec<u8> {
 /// A link label, equal to those that match it, for tables of definitions.
 ///
 /// ```
-/// use proved_markdown::LinkLabel;
+/// use fillaqut::LinkLabel;
 /// let labels = std::collections::HashMap::from([(LinkLabel::new("Foo"), "/url")]);
 /// assert_eq!(labels.get(&LinkLabel::new("FOO")), Some(&"/url"));
 /// ```
@@ -54,7 +54,7 @@ impl<'text> LinkLabel<'text> {
     /// The label of a text, as `scan_link_label_rest` writes it.
     ///
     /// ```
-    /// assert_eq!(proved_markdown::LinkLabel::new("Foo"), proved_markdown::LinkLabel::new("foo"));
+    /// assert_eq!(fillaqut::LinkLabel::new("Foo"), fillaqut::LinkLabel::new("foo"));
     /// ```
     #[inline]
     pub fn new(text: impl Into<Cow<'text, str>>) -> Self {
@@ -66,7 +66,7 @@ impl<'text> LinkLabel<'text> {
     /// The text as it was given.
     ///
     /// ```
-    /// assert_eq!(proved_markdown::LinkLabel::new("Foo").as_str(), "Foo");
+    /// assert_eq!(fillaqut::LinkLabel::new("Foo").as_str(), "Foo");
     /// ```
     #[inline]
     #[must_use]

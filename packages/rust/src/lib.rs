@@ -3,7 +3,7 @@
 #![deny(unsafe_code)]
 
 #[cfg(not(all(target_arch = "x86_64", target_pointer_width = "64", target_os = "linux")))]
-compile_error!("proved-markdown is for Linux on x86-64: its library is proved and built for no other machine");
+compile_error!("fillaqut is for Linux on x86-64: its library is proved and built for no other machine");
 
 extern crate alloc;
 

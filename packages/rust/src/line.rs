@@ -9,7 +9,7 @@ use crate::values::BlockQuoteKind;
 /// it.
 ///
 /// ```
-/// use proved_markdown::LineStart;
+/// use fillaqut::LineStart;
 ///
 /// let mut start = LineStart::new(b">\t- item");
 /// assert!(start.scan_blockquote_marker());
@@ -38,7 +38,7 @@ impl<'line> LineStart<'line> {
     /// The front of a line.
     ///
     /// ```
-    /// assert_eq!(proved_markdown::LineStart::new(b"a").bytes_scanned(), 0);
+    /// assert_eq!(fillaqut::LineStart::new(b"a").bytes_scanned(), 0);
     /// ```
     #[inline]
     #[must_use]
@@ -49,7 +49,7 @@ impl<'line> LineStart<'line> {
     /// Takes so many columns of space, or fewer where there are fewer: whether there were as many. (2.2)
     ///
     /// ```
-    /// assert!(!proved_markdown::LineStart::new(b"  a").scan_space(3));
+    /// assert!(!fillaqut::LineStart::new(b"  a").scan_space(3));
     /// ```
     #[inline]
     pub fn scan_space(&mut self, count: usize) -> bool {
@@ -62,7 +62,7 @@ impl<'line> LineStart<'line> {
     /// Takes at most so many columns of space, and answers how many. (2.2)
     ///
     /// ```
-    /// assert_eq!(proved_markdown::LineStart::new(b"  a").scan_space_upto(4), 2);
+    /// assert_eq!(fillaqut::LineStart::new(b"  a").scan_space_upto(4), 2);
     /// ```
     #[inline]
     pub fn scan_space_upto(&mut self, count: usize) -> usize {
@@ -75,7 +75,7 @@ impl<'line> LineStart<'line> {
     /// Drops pending columns, and passes all spaces and tabs, each as one column.
     ///
     /// ```
-    /// let mut start = proved_markdown::LineStart::new(b" \t a");
+    /// let mut start = fillaqut::LineStart::new(b" \t a");
     /// start.scan_all_space();
     /// assert_eq!(start.bytes_scanned(), 3);
     /// ```
@@ -89,7 +89,7 @@ impl<'line> LineStart<'line> {
     /// Whether the line ends there. Pending columns are looked past.
     ///
     /// ```
-    /// assert!(proved_markdown::LineStart::new(b"\r").is_at_eol());
+    /// assert!(fillaqut::LineStart::new(b"\r").is_at_eol());
     /// ```
     #[inline]
     #[must_use]
@@ -102,7 +102,7 @@ impl<'line> LineStart<'line> {
     /// Passes a block quote marker and at most one column of space. (5.1)
     ///
     /// ```
-    /// assert!(proved_markdown::LineStart::new(b"> a").scan_blockquote_marker());
+    /// assert!(fillaqut::LineStart::new(b"> a").scan_blockquote_marker());
     /// ```
     #[inline]
     pub fn scan_blockquote_marker(&mut self) -> bool {
@@ -117,7 +117,7 @@ impl<'line> LineStart<'line> {
     /// Where the indent is above `usize::MAX - 16`.
     ///
     /// ```
-    /// use proved_markdown::LineStart;
+    /// use fillaqut::LineStart;
     /// assert_eq!(LineStart::new(b"10) a").scan_list_marker_with_indent(0), Some((b')', 10, 4)));
     /// assert_eq!(LineStart::new(b"* * *").scan_list_marker_with_indent(0), None);
     /// ```
@@ -136,7 +136,7 @@ impl<'line> LineStart<'line> {
     /// Where the indent is above `usize::MAX - 16`.
     ///
     /// ```
-    /// use proved_markdown::LineStart;
+    /// use fillaqut::LineStart;
     /// assert_eq!(LineStart::new(b": a").scan_definition_list_definition_marker_with_indent(0), Some(2));
     /// ```
     #[inline]
@@ -149,7 +149,7 @@ impl<'line> LineStart<'line> {
     /// Passes a task list item's box: whether it is checked. (GitHub Flavored Markdown 0.29, 5.3)
     ///
     /// ```
-    /// assert_eq!(proved_markdown::LineStart::new(b"[x] a").scan_task_list_marker(), Some(true));
+    /// assert_eq!(fillaqut::LineStart::new(b"[x] a").scan_task_list_marker(), Some(true));
     /// ```
     #[inline]
     pub fn scan_task_list_marker(&mut self) -> Option<bool> {
@@ -160,7 +160,7 @@ impl<'line> LineStart<'line> {
     /// Passes the line of an alert. (An extension of GitHub)
     ///
     /// ```
-    /// use proved_markdown::{BlockQuoteKind, LineStart};
+    /// use fillaqut::{BlockQuoteKind, LineStart};
     /// assert_eq!(LineStart::new(b"[!tip]\n").scan_blockquote_tag(), Some(BlockQuoteKind::Tip));
     /// ```
     #[inline]
@@ -172,7 +172,7 @@ impl<'line> LineStart<'line> {
     /// How many bytes of the line have been passed.
     ///
     /// ```
-    /// let mut start = proved_markdown::LineStart::new(b"> a");
+    /// let mut start = fillaqut::LineStart::new(b"> a");
     /// start.scan_blockquote_marker();
     /// assert_eq!(start.bytes_scanned(), 2);
     /// ```
@@ -185,7 +185,7 @@ impl<'line> LineStart<'line> {
     /// Columns of the last tab that have not been taken.
     ///
     /// ```
-    /// let mut start = proved_markdown::LineStart::new(b"\ta");
+    /// let mut start = fillaqut::LineStart::new(b"\ta");
     /// start.scan_space(1);
     /// assert_eq!(start.remaining_space(), 3);
     /// ```

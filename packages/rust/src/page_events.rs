@@ -125,7 +125,7 @@ pub struct Target<'a> {
 /// The events of a page, in order. All of them are made when it is; a text that stands in the page as it is is lent from there.
 ///
 /// ```
-/// use proved_markdown::{Event, Extensions, Parser, Tag};
+/// use fillaqut::{Event, Extensions, Parser, Tag};
 /// let mut parser = Parser::new("*a* &amp;", Extensions::default());
 /// assert_eq!(parser.nth(1), Some(Event::Start(Tag::Emphasis)));
 /// let texts: Vec<_> = parser.filter(|it| matches!(it, Event::Text(_))).collect();
@@ -148,7 +148,7 @@ impl<'a> Parser<'a> {
     /// The events of a page, which is read with these extensions. (3 to 6)
     ///
     /// ```
-    /// use proved_markdown::{Event, Extensions, Parser};
+    /// use fillaqut::{Event, Extensions, Parser};
     /// assert_eq!(Parser::new("***", Extensions::default()).collect::<Vec<_>>(), [Event::Rule]);
     /// ```
     #[must_use]
@@ -169,7 +169,7 @@ impl<'a> Parser<'a> {
     /// The events that are left, each with the range of its source.
     ///
     /// ```
-    /// use proved_markdown::{Event, Extensions, Parser, Tag};
+    /// use fillaqut::{Event, Extensions, Parser, Tag};
     /// let mut events = Parser::new("> a", Extensions::default()).into_offset_iter();
     /// assert_eq!(events.next(), Some((Event::Start(Tag::BlockQuote), 0..3)));
     /// assert_eq!(events.next(), Some((Event::Start(Tag::Paragraph), 2..3)));

@@ -35,7 +35,7 @@ impl Extensions {
 /// links lead anywhere: it is for text by people who are trusted, and [`safe_html`] for text by others. (3 to 6)
 ///
 /// ```
-/// use proved_markdown::{html, Extensions};
+/// use fillaqut::{html, Extensions};
 /// assert_eq!(html("# A\n<b>", Extensions::default()), "<h1>A</h1>\n<b>\n");
 /// let asked = Extensions { strikethrough: true, ..Extensions::default() };
 /// assert_eq!(html("~~a~~", asked), "<p><del>a</del></p>\n");
@@ -50,7 +50,7 @@ pub fn html(text: &str, extensions: Extensions) -> String {
 /// `rel="nofollow noopener"`. (3 to 6)
 ///
 /// ```
-/// use proved_markdown::{safe_html, Extensions};
+/// use fillaqut::{safe_html, Extensions};
 /// assert_eq!(safe_html("<script>", Extensions::default()), "&lt;script&gt;\n");
 /// let expected = "<p><a href=\"\" rel=\"nofollow noopener\">a</a></p>\n";
 /// assert_eq!(safe_html("[a](javascript:b)", Extensions::default()), expected);
@@ -64,7 +64,7 @@ pub fn safe_html(text: &str, extensions: Extensions) -> String {
 /// Schemes have no colon; where there are none, relative addresses are written alone.
 ///
 /// ```
-/// use proved_markdown::{safe_html_with_schemes, Extensions};
+/// use fillaqut::{safe_html_with_schemes, Extensions};
 /// let expected = "<p><a href=\"ftp://a\" rel=\"nofollow noopener\">ftp://a</a></p>\n";
 /// assert_eq!(safe_html_with_schemes("<ftp://a>", Extensions::default(), &["ftp"]), expected);
 /// let expected = "<p><a href=\"\" rel=\"nofollow noopener\">ftp://a</a></p>\n";

@@ -121,7 +121,7 @@ impl Block<'_> {
     /// The containers that it stands in, outermost first.
     ///
     /// ```
-    /// use proved_markdown::{scan_blocks, Container};
+    /// use fillaqut::{scan_blocks, Container};
     /// let item = Container::Item { place: 2, delimiter: b'-', start: 0, width: 2 };
     /// let block = scan_blocks(b"> - a").next().unwrap();
     /// assert_eq!(block.containers(), [Container::Quote { place: 0 }, item]);
@@ -135,7 +135,7 @@ impl Block<'_> {
     /// ends of all and before each line. Of code and HTML their lines, without containers, indent and fences. Else nothing.
     ///
     /// ```
-    /// let blocks: Vec<_> = proved_markdown::scan_blocks(b"> # A #\n> b\n  c").collect();
+    /// let blocks: Vec<_> = fillaqut::scan_blocks(b"> # A #\n> b\n  c").collect();
     /// assert_eq!((blocks[0].content(), blocks[1].content()), (b"A".to_vec(), b"b\nc".to_vec()));
     /// ```
     #[must_use]
@@ -165,7 +165,7 @@ pub struct Blocks<'a> {
 /// page. A paragraph that begins with link reference definitions comes in parts, each definition as a block of its own.
 ///
 /// ```
-/// use proved_markdown::{scan_blocks, BlockKind, HeadingLevel};
+/// use fillaqut::{scan_blocks, BlockKind, HeadingLevel};
 /// let blocks = scan_blocks(b"[a]: b\nC\n===\n> - d");
 /// let returned: Vec<_> = blocks.map(|it| (it.kind, it.lines.start, it.containers().len())).collect();
 /// let setext = BlockKind::Setext(HeadingLevel::H1);
@@ -268,11 +268,14 @@ pub struct BlockReader {
 /// Of so many bytes a text is read again with each piece, and a longer one once it is twice as long.
 const SHORT: usize = 4096;
 
+/// U+FEFF in UTF-8, which is no part of a page that begins with it.
+const BYTE_ORDER_MARK: &[u8] = b"\xEF\xBB\xBF";
+
 impl BlockReader {
     /// Before the first piece of a page.
     ///
     /// ```
-    /// use proved_markdown::{BlockExtensions, BlockReader, Container};
+    /// use fillaqut::{BlockExtensions, BlockReader, Container};
     /// let mut reader = BlockReader::new(BlockExtensions { footnotes: true, ..BlockExtensions::default() });
     /// reader.feed(b"[^a]: b\n");
     /// reader.end();
@@ -294,7 +297,7 @@ impl BlockReader {
     /// Takes the next bytes of the page.
     ///
     /// ```
-    /// let mut reader = proved_markdown::BlockReader::default();
+    /// let mut reader = fillaqut::BlockReader::default();
     /// reader.feed(b"# A\n> b\n");
     /// assert_eq!(reader.next_block().unwrap().content(), b"A");
     /// assert!(reader.next_block().is_none());
@@ -308,7 +311,7 @@ impl BlockReader {
     /// The page has ended.
     ///
     /// ```
-    /// let mut reader = proved_markdown::BlockReader::default();
+    /// let mut reader = fillaqut::BlockReader::default();
     /// reader.feed(b"a");
     /// assert!(reader.next_block().is_none());
     /// reader.end();
@@ -323,7 +326,7 @@ impl BlockReader {
     /// the front of its content.
     ///
     /// ```
-    /// let mut reader = proved_markdown::BlockReader::default();
+    /// let mut reader = fillaqut::BlockReader::default();
     /// reader.feed(b"# A\n> b\n");
     /// assert_eq!(reader.next_block().unwrap().range, 0..4);
     /// reader.feed(b"c\n# D\n");
@@ -331,6 +334,9 @@ impl BlockReader {
     /// assert_eq!((block.content(), block.lines.clone(), block.containers().len()), (b"b\nc".to_vec(), 1..3, 1));
     /// ```
     pub fn next_block(&mut self) -> Option<Block<'_>> {
+        if self.start == 0 && self.text.starts_with(BYTE_ORDER_MARK) {
+            (self.start, self.used) = (BYTE_ORDER_MARK.len(), BYTE_ORDER_MARK.len());
+        }
         let left = self.text.len() - self.used;
         if !self.has_ended && left < self.needed {
             return None;
@@ -400,7 +406,7 @@ pub struct ListBlock {
 /// The lists of a page, each where it ends: a list in an item comes before the list of that item. (5.3)
 ///
 /// ```
-/// let lists = proved_markdown::scan_lists(b"2) a\n3) b\n\n   c");
+/// let lists = fillaqut::scan_lists(b"2) a\n3) b\n\n   c");
 /// assert_eq!((lists[0].delimiter, lists[0].start, lists[0].is_loose), (b')', 2, true));
 /// assert_eq!((lists.len(), lists[0].depth, lists[0].lines.clone()), (1, 0, 0..4));
 /// ```

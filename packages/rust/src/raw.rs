@@ -1,4 +1,4 @@
-//! The functions of `proved_markdown.h` over slices: all that is unsafe stands here.
+//! The functions of `fillaqut.h` over slices: all that is unsafe stands here.
 //!
 //! The header asks of a caller that a pointer and a length are those of memory that is there, at most `isize::MAX` bytes and
 //! aligned, and that nothing that is written overlaps anything else that a call is given. A slice is such memory, and a
@@ -44,7 +44,7 @@ extern "C" fn check_version() {
     // SAFETY: it is given nothing.
     let returned = unsafe { ffi::mds_version() };
     let fits = returned >= ffi::VERSION && returned >> 16 == ffi::VERSION >> 16;
-    assert!(fits, "proved-markdown is of version {:#08x}, and its library of {returned:#08x}", ffi::VERSION);
+    assert!(fits, "fillaqut is of version {:#08x}, and its library of {returned:#08x}", ffi::VERSION);
 }
 
 /// A shared library may be another one where a program is run than where it was linked.

@@ -88,7 +88,7 @@ fn answer_of(call: LineCall, returned: ffi::LineAnswer) -> LineAnswer {
 /// where the run stopped. (2.2)
 ///
 /// ```
-/// use proved_markdown::{line_rest, run_line, LineAnswer, LineCall, LineStart};
+/// use fillaqut::{line_rest, run_line, LineAnswer, LineCall, LineStart};
 /// let mut start = LineStart::new(b">\t- x");
 /// let run = run_line(&mut start, &[LineCall::Quote, LineCall::Upto(1)]);
 /// assert_eq!(run.answers, [LineAnswer::Quote(true), LineAnswer::Upto(1)]);
@@ -111,7 +111,7 @@ pub fn run_line(start: &mut LineStart, calls: &[LineCall]) -> LineRun {
 /// tabs before a line ending written out. (2.2)
 ///
 /// ```
-/// use proved_markdown::{line_rest, LineStart};
+/// use fillaqut::{line_rest, LineStart};
 /// assert_eq!(line_rest(&LineStart::new(b"a\tb\n\tc")), b"a   b\n\tc");
 /// ```
 #[must_use]
@@ -145,7 +145,7 @@ pub struct HtmlRun {
 /// turn. The scans at k places of n bytes pass over at most 4n + 8k bytes. (6.6)
 ///
 /// ```
-/// let run = proved_markdown::run_inline_html(b"<!a> <? <!-- b -->", &[2, 7, 10]);
+/// let run = fillaqut::run_inline_html(b"<!a> <? <!-- b -->", &[2, 7, 10]);
 /// assert_eq!((run.answers, run.stop), (vec![Some(4), None, Some(18)], None));
 /// ```
 pub fn run_inline_html(bytes: &[u8], places: &[usize]) -> HtmlRun {

@@ -10,7 +10,7 @@ use crate::values::LinkType;
 /// A Unicode white space character: a tab, LF, FF or CR, or one of category Zs. (2.1)
 ///
 /// ```
-/// assert!(proved_markdown::is_unicode_whitespace('\u{3000}'));
+/// assert!(fillaqut::is_unicode_whitespace('\u{3000}'));
 /// ```
 #[inline]
 #[must_use]
@@ -21,7 +21,7 @@ pub fn is_unicode_whitespace(character: char) -> bool {
 /// A Unicode punctuation character: one of category P or S. (2.1)
 ///
 /// ```
-/// assert!(proved_markdown::is_unicode_punctuation('€'));
+/// assert!(fillaqut::is_unicode_punctuation('€'));
 /// ```
 #[inline]
 #[must_use]
@@ -40,7 +40,7 @@ pub fn is_unicode_punctuation(character: char) -> bool {
 /// Where the place is not in the text, between two characters.
 ///
 /// ```
-/// assert_eq!(proved_markdown::scan_code_span("a ``b ` c`` d", 2), Some((11, "b ` c")));
+/// assert_eq!(fillaqut::scan_code_span("a ``b ` c`` d", 2), Some((11, "b ` c")));
 /// ```
 #[inline]
 #[must_use]
@@ -52,7 +52,7 @@ pub fn scan_code_span(text: &str, start_ix: usize) -> Option<(usize, &str)> {
 /// The same of any bytes; `None` too where the place is past their end.
 ///
 /// ```
-/// assert_eq!(proved_markdown::scan_code_span_bytes(b"`\xff`", 0), Some((3, &b"\xff"[..])));
+/// assert_eq!(fillaqut::scan_code_span_bytes(b"`\xff`", 0), Some((3, &b"\xff"[..])));
 /// ```
 #[inline]
 #[must_use]
@@ -67,7 +67,7 @@ pub fn scan_code_span_bytes(data: &[u8], start_ix: usize) -> Option<(usize, &[u8
 /// Where the place is not in the text, between two characters.
 ///
 /// ```
-/// use proved_markdown::{scan_email_autolink, LinkType};
+/// use fillaqut::{scan_email_autolink, LinkType};
 /// assert_eq!(scan_email_autolink("<a@b.c>", 1), Some((7, "a@b.c".into(), LinkType::Email)));
 /// ```
 #[inline]
@@ -81,7 +81,7 @@ pub fn scan_email_autolink(text: &str, start_ix: usize) -> Option<(usize, Cow<'_
 /// The same of any bytes; `None` too where the place is past their end.
 ///
 /// ```
-/// assert_eq!(proved_markdown::scan_email_autolink_bytes(b"<a@b>\xff", 1), Some((5, &b"a@b"[..])));
+/// assert_eq!(fillaqut::scan_email_autolink_bytes(b"<a@b>\xff", 1), Some((5, &b"a@b"[..])));
 /// ```
 #[inline]
 #[must_use]
@@ -110,7 +110,7 @@ pub struct DelimiterRun {
 /// Where the place is not in the text, between two characters.
 ///
 /// ```
-/// use proved_markdown::{scan_delimiter_run, DelimiterRun};
+/// use fillaqut::{scan_delimiter_run, DelimiterRun};
 /// let run = DelimiterRun { byte: b'*', count: 2, can_open: true, can_close: false };
 /// assert_eq!(scan_delimiter_run("a **b**", 2), Some(run));
 /// ```

@@ -33,7 +33,7 @@ impl HeadingLevel {
 }
 
 /// ```
-/// use proved_markdown::{HeadingLevel, InvalidHeadingLevel};
+/// use fillaqut::{HeadingLevel, InvalidHeadingLevel};
 ///
 /// assert_eq!(HeadingLevel::try_from(2), Ok(HeadingLevel::H2));
 /// assert_eq!(HeadingLevel::try_from(7), Err(InvalidHeadingLevel(7)));
@@ -49,7 +49,7 @@ impl TryFrom<usize> for HeadingLevel {
 /// The name of its element in HTML.
 ///
 /// ```
-/// assert_eq!(proved_markdown::HeadingLevel::H2.to_string(), "h2");
+/// assert_eq!(fillaqut::HeadingLevel::H2.to_string(), "h2");
 /// ```
 impl fmt::Display for HeadingLevel {
     fn fmt(&self, f: &mut fmt::Formatter<'_>) -> fmt::Result {

@@ -4,7 +4,7 @@
 use std::borrow::Cow;
 use std::panic::catch_unwind;
 
-use proved_markdown::*;
+use fillaqut::*;
 
 mod lines;
 mod overs;

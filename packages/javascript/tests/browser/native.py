@@ -9,8 +9,8 @@ from pathlib import Path
 TOP = Path(__file__).resolve().parents[4]
 sys.dont_write_bytecode = True
 sys.path.insert(0, str(TOP / "packages/python"))
-os.environ.setdefault("PROVED_MARKDOWN_LIBRARY", str(TOP / "out/libproved_markdown.so.0"))
-import proved_markdown as mds
+os.environ.setdefault("FILLAQUT_LIBRARY", str(TOP / "out/libfillaqut.so.0"))
+import fillaqut as mds
 
 ALIGNMENTS = ["none", "left", "center", "right"]
 

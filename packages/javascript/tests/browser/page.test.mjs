@@ -20,7 +20,7 @@ import { MADE, TYPED } from "./typed.mjs";
 const PACKAGE = fileURLToPath(new URL("../..", import.meta.url));
 const NATIVE = fileURLToPath(new URL("native.py", import.meta.url));
 const OUTLINE = fileURLToPath(new URL("packages/c/examples/outline.py", TOP));
-const LIBRARY = fileURLToPath(new URL("out/libproved_markdown.so.0", TOP));
+const LIBRARY = fileURLToPath(new URL("out/libfillaqut.so.0", TOP));
 const DESK = { width: 1280, height: 820 };
 
 const scratch = mkdtempSync(join(tmpdir(), "page-"));
@@ -29,8 +29,8 @@ let served, browser, faults;
 /** The package with these bytes as its module, and with no other one; else with that of MODULE. */
 function servedWith(module = readFileSync(MODULE), wide = undefined) {
     return serve(PACKAGE, (path) => {
-        if (path === "/proved_markdown64.wasm") return wide;
-        return path === "/proved_markdown.wasm" ? module : null;
+        if (path === "/fillaqut64.wasm") return wide;
+        return path === "/fillaqut.wasm" ? module : null;
     });
 }
 
@@ -138,7 +138,7 @@ async function allRows(count) {
 /** What the C functions answer of these calls. */
 function native(text, calls) {
     const input = [text, ...calls].map((value) => JSON.stringify(value)).join("\n");
-    const said = execFileSync("python3", [NATIVE], { input, encoding: "utf8", env: { ...process.env, PROVED_MARKDOWN_LIBRARY: LIBRARY } });
+    const said = execFileSync("python3", [NATIVE], { input, encoding: "utf8", env: { ...process.env, FILLAQUT_LIBRARY: LIBRARY } });
     return said.trim().split("\n").map((line) => JSON.parse(line));
 }
 
@@ -457,7 +457,7 @@ test("a module that is missing or of another version has a message", async () =>
 
 test("of two modules the 64-bit one is taken where the browser runs it", async () => {
     const module = readFileSync(MODULE);
-    const changed = await servedWith(naming(module, "proved_markdown64.wasm"), ofOtherVersion(module));
+    const changed = await servedWith(naming(module, "fillaqut64.wasm"), ofOtherVersion(module));
     await open(DESK, changed.url);
     const isWide = await browser.ask(() => WebAssembly.validate(new Uint8Array([0, 97, 115, 109, 1, 0, 0, 0, 5, 3, 1, 4, 1])));
     await settled(isWide ? "refused" : "drawn");
@@ -474,7 +474,7 @@ test("a policy needs `wasm-unsafe-eval`, and a URL is one from the page's on", a
         });
         await open(DESK, `${changed.url}a/page.html`);
         const found = await browser.ask(async () => {
-            const { load } = await import("/proved_markdown.mjs");
+            const { load } = await import("/fillaqut.mjs");
             return load("module.wasm").then((loaded) => String(loaded.text("# a").scanAtxHeading()), (why) => why.name);
         });
         assert.equal(found, expected);
@@ -503,7 +503,7 @@ test("a file with an underline of definitions alone is drawn", async () => {
 
 /** In the page: reads texts as its worker does, and says how many. */
 async function readAll(texts) {
-    const { load } = await import("/proved_markdown.mjs");
+    const { load } = await import("/fillaqut.mjs");
     const { Reading } = await import("/page/reading.mjs");
     const { readWhole } = await import("/tests/whole.mjs");
     const scanners = await load();

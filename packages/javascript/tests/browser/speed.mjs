@@ -12,7 +12,7 @@ import { fileURLToPath } from "node:url";
 import { Browser, serve } from "./chromium.mjs";
 
 const OTHER = "/usr/share/nodejs/markdown-it/index.js";
-const MODULES = ["proved_markdown.wasm", "proved_markdown64.wasm"];
+const MODULES = ["fillaqut.wasm", "fillaqut64.wasm"];
 const PACKAGE = fileURLToPath(new URL("../..", import.meta.url));
 const [file] = process.argv.slice(2);
 
@@ -51,7 +51,7 @@ const served = await serve(PACKAGE, (path) => {
 
 /** In the page: the best of ten runs of each. */
 async function measured(modules) {
-    const { load } = await import("/proved_markdown.mjs");
+    const { load } = await import("/fillaqut.mjs");
     const { Reading } = await import("/page/reading.mjs");
     const all = await Promise.all(modules.map((module) => load(new URL(module, location.href))));
     const text = await (await fetch("/speed.md")).text();

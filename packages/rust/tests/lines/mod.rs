@@ -2,7 +2,7 @@
 
 use std::panic::{catch_unwind, AssertUnwindSafe};
 
-use proved_markdown::*;
+use fillaqut::*;
 
 use crate::tables::*;
 

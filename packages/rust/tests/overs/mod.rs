@@ -2,7 +2,7 @@
 
 use std::borrow::Cow;
 
-use proved_markdown::*;
+use fillaqut::*;
 
 use crate::tables::*;
 

@@ -1,7 +1,7 @@
 //! Blocks, lists, inlines and HTML of pages as Rust has them. The values are worked out by hand from CommonMark 0.31.2 and GitHub
 //! Flavored Markdown 0.29.
 
-use proved_markdown::*;
+use fillaqut::*;
 
 /// The kinds of the leaf blocks, with their first lines, how many containers they go on with, and how many they stand in.
 fn returned(page: &[u8]) -> Vec<(BlockKind, usize, usize, usize)> {

@@ -2,7 +2,7 @@
 
 use std::ops::Range;
 
-use proved_markdown::*;
+use fillaqut::*;
 
 use crate::tables::{each_page, PageRow, HTML_KINDS};
 

@@ -2,7 +2,7 @@
 
 use std::ops::Range;
 
-use proved_markdown::*;
+use fillaqut::*;
 
 const FENCE: &str = "````````````````````````````````";
 

@@ -2,7 +2,7 @@
 
 use std::ops::Range;
 
-use proved_markdown::*;
+use fillaqut::*;
 
 /// What a block is, where it stands, and its content.
 fn block_of(it: &Block) -> (BlockKind, Range<usize>, usize, Vec<Container>, usize, Vec<u8>) {

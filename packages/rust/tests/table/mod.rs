@@ -1,6 +1,6 @@
 //! The rows of packages/rows.tsv, one call on one text each, which the tests of all packages share.
 
-use proved_markdown::*;
+use fillaqut::*;
 
 use crate::lines::line_answer;
 use crate::tables::*;

@@ -1,6 +1,6 @@
 //! Reads the tables of packages, files *.tsv, which the tests of all packages share. What it can't read is a panic.
 
-use proved_markdown::HtmlBlockKind;
+use fillaqut::HtmlBlockKind;
 
 /// The kinds of HTML blocks in the order of their conditions, of which the tables have the numbers.
 pub const HTML_KINDS: [HtmlBlockKind; 7] = [

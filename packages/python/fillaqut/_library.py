@@ -12,7 +12,7 @@ from typing import Any, Callable
 from . import _c
 from ._c import OK, TOO_SHORT
 
-NAME = "libproved_markdown.so.0"
+NAME = "libfillaqut.so.0"
 ROOM = 4096  #: for so many bytes rooms are kept, and taken by one call at a time
 
 
@@ -24,7 +24,7 @@ def _path() -> str:
     if (here.parents[1] / "pyproject.toml").is_file():
         known.append(here.parents[3] / "out" / NAME)
     found = [str(path) for path in known if path.is_file()]
-    named = os.environ.get("PROVED_MARKDOWN_LIBRARY") or os.environ.get("MARKDOWN_SCANNERS_LIBRARY")  # its earlier name
+    named = os.environ.get("FILLAQUT_LIBRARY")
     return named or (found or [NAME])[0]
 
 
@@ -48,7 +48,7 @@ def _load() -> dict[str, Any]:
             found[name] = getattr(library, f"mds_{name}")
             found[name].restype, found[name].argtypes = answer, taken
     except (OSError, AttributeError) as why:
-        raise ImportError(f"{why}: install {NAME}, or name it in PROVED_MARKDOWN_LIBRARY") from why
+        raise ImportError(f"{why}: install {NAME}, or name it in FILLAQUT_LIBRARY") from why
     return found
 
 

@@ -22,7 +22,7 @@ class Skips:
     2
     >>> Skips(page, [(7, 2), (0, 2)])
     Traceback (most recent call last):
-    proved_markdown.errors.BadSkipsError: The table of what is left out is not of this text
+    fillaqut.errors.BadSkipsError: The table of what is left out is not of this text
     """
 
     def __init__(self, data: Page, rows: Iterable[tuple[int, int]] = ()) -> None:

@@ -1,6 +1,7 @@
 """Pages that come piece by piece. Sections in brackets are those of CommonMark 0.31.2."""
 from __future__ import annotations
 
+from codecs import BOM_UTF8
 from ctypes import addressof
 from typing import Any, Callable, Iterable, Iterator
 
@@ -58,6 +59,9 @@ class BlockReader:
     def _returned(self, has_ended: bool) -> list[Block[bytes]]:
         text = b"".join(self._pieces)
         address, size, _ = front(text, 0, None)
+        if not self._start and text.startswith(BOM_UTF8):  # which is no part of the first block
+            self._start = len(BOM_UTF8)
+            self._size -= self._start
         try:
             while True:
                 at, leaf = size - self._size, _c.Block()

@@ -1,5 +1,5 @@
 """Builds the wheel and the source package, by Python's own library alone (3.11 or later). The wheel holds the shared library:
-the one that PROVED_MARKDOWN_LIBRARY names, else that of the tree, which packages/c/build makes, else the one that
+the one that FILLAQUT_LIBRARY names, else that of the tree, which packages/c/build makes, else the one that
 pkg-config knows. It holds the extension, which calls that library, where a C compiler, `cc` or the one that CC names, and
 Python's headers are there; without it the package calls by ctypes."""
 import base64
@@ -19,9 +19,8 @@ from pathlib import Path
 
 HERE = Path(__file__).resolve().parent.parent
 TOP = HERE.parent.parent
-PACKAGE = "proved_markdown"
-EARLIER = "markdown_scanners"  # the package's earlier name
-LIBRARY = "libproved_markdown.so.0"
+PACKAGE = "fillaqut"
+LIBRARY = "libfillaqut.so.0"
 EXTENSION = "_fast.abi3.so"
 LATEST = (1980, 1, 1, 0, 0, 0)  # of all files, so that the same files make the same wheel
 
@@ -49,7 +48,7 @@ def metadata():
 
 def library():
     """The bytes of the shared library."""
-    named = os.environ.get("PROVED_MARKDOWN_LIBRARY") or os.environ.get("MARKDOWN_SCANNERS_LIBRARY", "")  # its earlier name
+    named = os.environ.get("FILLAQUT_LIBRARY", "")
     known = [named, TOP / "out" / LIBRARY]
     try:
         words = ["pkg-config", "--variable=libdir", PACKAGE]
@@ -58,13 +57,13 @@ def library():
         pass
     found = [path for path in known[known[0] == "" :] if Path(path).is_file()]
     if not found or (known[0] and found[0] != known[0]):
-        raise SystemExit(f"there is no {LIBRARY}: run packages/c/build, or name one in PROVED_MARKDOWN_LIBRARY")
+        raise SystemExit(f"there is no {LIBRARY}: run packages/c/build, or name one in FILLAQUT_LIBRARY")
     return Path(found[0]).read_bytes()
 
 
 def extension_sources():
     """The files of which the extension is made. In the tree the header is that of the C functions."""
-    known = [HERE / "extension/proved_markdown.h", TOP / "packages/c/include/proved_markdown.h"]
+    known = [HERE / "extension/fillaqut.h", TOP / "packages/c/include/fillaqut.h"]
     files = [*sorted((HERE / "extension").glob("*.[ch]")), *[path for path in known if path.is_file()][:1]]
     return {path.name: path.read_bytes() for path in files}
 
@@ -94,8 +93,7 @@ def tag(made, extended):
 
 
 def sources():
-    """Of the package, and of the one that leads to it by its earlier name."""
-    files = [path for name in (PACKAGE, EARLIER) for path in sorted((HERE / name).iterdir())]
+    files = sorted((HERE / PACKAGE).iterdir())
     return {f"{path.parent.name}/{path.name}": path.read_bytes() for path in files if path.suffix in (".py", ".pyi") or path.name == "py.typed"}
 
 
@@ -135,7 +133,7 @@ def build_editable(wheel_directory, config_settings=None, metadata_directory=Non
 def build_sdist(sdist_directory, config_settings=None):
     """Without the library, which whoever builds a wheel of it has to have."""
     files = {**sources(), "PKG-INFO": metadata().encode(), "LICENSE": licence().encode()}
-    for path in ("pyproject.toml", "README.md", "backend/proved_markdown_build.py"):
+    for path in ("pyproject.toml", "README.md", "backend/fillaqut_build.py"):
         files[path] = (HERE / path).read_bytes()
     files |= {f"extension/{name}": content for name, content in extension_sources().items()}
     name = f"{named()}.tar.gz"

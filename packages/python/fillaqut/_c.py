@@ -1,4 +1,4 @@
-"""The structs, functions and numbers of proved_markdown.h, as packages/c/bindings has written them."""
+"""The structs, functions and numbers of fillaqut.h, as packages/c/bindings has written them."""
 from ctypes import Structure, c_void_p, c_bool, c_size_t, c_uint32, c_uint64, c_uint8
 from typing import Any
 

@@ -2,7 +2,7 @@
  * A Markdown parser, proved to do what CommonMark 0.31.2 says: HTML and events of a page, its blocks and inlines, and the scanners
  * below them.
  *
- *     import { load } from "./proved_markdown.mjs";
+ *     import { load } from "./fillaqut.mjs";
  *
  *     const scanners = await load();
  *     const page = scanners.text("# A heading\n> - [b](<c d>)\n");
@@ -29,8 +29,8 @@ export { VERSION };
 /** Node's files, which a browser has not. */
 const FILES = "node:fs/promises";
 /** The section of a module that says its version, and the one in which the 32-bit module names the 64-bit one beside it. */
-const VERSION_SECTION = "proved_markdown";
-const WIDE_SECTION = "proved_markdown64";
+const VERSION_SECTION = "fillaqut";
+const WIDE_SECTION = "fillaqut64";
 /** A module that has a 64-bit memory and nothing else. */
 const WIDE_MEMORY = new Uint8Array([0, 97, 115, 109, 1, 0, 0, 0, 5, 3, 1, 4, 1]);
 
@@ -41,7 +41,7 @@ export class Scanners {
     /** @param {WebAssembly.Module} module */
     constructor(module) {
         const version = sectionOf(module, VERSION_SECTION);
-        if (!version) throw new BadModule("the module is not one of proved_markdown");
+        if (!version) throw new BadModule("the module is not one of fillaqut");
         if (version !== VERSION) throw new WrongVersion(`the module is of version ${version}, and this package of ${VERSION}`);
         this.#engine = new Engine(module);
     }
@@ -198,7 +198,7 @@ async function ownModule() {
 /** Where it stands. Bundlers know a file by this expression. */
 function ownUrl() {
     try {
-        return new URL("./proved_markdown.wasm", import.meta.url);
+        return new URL("./fillaqut.wasm", import.meta.url);
     } catch (why) {
         throw new ModuleMissing("this script has no URL, so none of the module: `load` needs that, or the module's bytes", why);
     }

@@ -1,1 +1,0 @@
-from proved_markdown import *
