@@ -75,7 +75,7 @@ def build_default(scratch):
 def build_through_c(scratch):
     """The C functions in the same loops: a library over the archive that `packages/c/build` makes."""
     run([f"{C}/build"], f"{scratch}/c.log")
-    sources = [f"{HERE}/driver/through_c.c", f"{HERE}/../out/libproved_markdown.a"]
+    sources = [f"{HERE}/driver/through_c.c", f"{HERE}/../out/libfillaqut.a"]
     made = f"{scratch}/libthrough_c.so"
     run(["gcc", "-std=c99", "-O2", "-shared", "-fPIC", f"-I{C}/include", "-o", made, *sources], f"{scratch}/gcc.log")
     return made

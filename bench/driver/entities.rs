@@ -3,8 +3,8 @@ use crate::inputs::Input;
 use std::sync::OnceLock;
 
 /// Names a line, and what each means, `none` where it means nothing.
-const NAMES: &str = include_str!("../../crates/html_entities_names/stdin");
-const MEANINGS: &str = include_str!("../../crates/html_entities_names/stdout");
+const NAMES: &str = include_str!("../../packages/entities/asked");
+const MEANINGS: &str = include_str!("../../packages/entities/meanings");
 
 type Row = (&'static str, &'static str);
 

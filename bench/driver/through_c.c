@@ -1,6 +1,6 @@
 /* The C functions in the loops of `crates/cmark_bench`: bench/run --through-c links it to the archive that packages/c/build
  * makes. Each function here answers the same sum as the one of the same call there. */
-#include "proved_markdown.h"
+#include "fillaqut.h"
 #include <stdlib.h>
 
 typedef uint64_t u64;
