@@ -3,6 +3,8 @@
 A row is a page, a piece of its text with {} in the place of each figure, and the figures. White space fits any.
 """
 import re
+import shutil
+import subprocess
 from collections import Counter
 from functools import cache
 
@@ -52,13 +54,20 @@ def answered():
     return found.pop("line"), found
 
 
+def rows_of_programs():
+    """How many rows say what programs print, beside the examples of CommonMark."""
+    found = totals("tests/rows/totals")
+    return sum(found.values()) - found["spec-0.31.2"]
+
+
 def of_answers():
     replay = totals("tests/differential/totals")
     lines, calls = answered()
     both = replay["worked"], replay["answered"]
     cases = len(totals_file.read(TOP / "tests/faults/cases"))
     return [
-        ("README.md", "say what they should: {} worked rows, the examples of the specification, and {} inputs on which", both),
+        ("README.md", "say what they should: {} worked rows, {} of what programs print,", [both[0], rows_of_programs()]),
+        ("README.md", "the examples of the specification, and {} inputs on which", both[1:]),
         ("docs/MAP.md", "the {} worked rows of `tests/differential/rows`, and {} that pulldown-cmark", both),
         ("docs/DIFFERENCES.md", "how the {} answers of pulldown-cmark were made", both[1:]),
         ("tests/differential/README.md", "begins with the {} worked rows of", both[:1]),
@@ -98,7 +107,7 @@ def of_pages():
 def of_packages():
     made = totals("packages/javascript/totals")["made_pages"]
     most, most_wide = (number("packages/javascript/test", rf"(?m)^{name}=(\d+)$") // 1000 for name in ("most", "most64"))
-    asking = len(re.findall(r":\s+(?:\* )?MDS_NO_MEMORY\.", text_of("packages/c/include/proved_markdown.h")))
+    asking = len(re.findall(r":\s+(?:\* )?MDS_NO_MEMORY\.", text_of("packages/c/include/fillaqut.h")))
     return [
         ("README.md", "WebAssembly module of at most {} KB", [most]),
         ("packages/javascript/README.md", "WebAssembly module of at most {} KB", [most]),
@@ -110,14 +119,20 @@ def of_packages():
 
 def of_sources():
     return [
-        ("README.md", "whose logic `rt version` names `{}`", [source("tests/mutations/rt_internals.py", r'KIT = ".* logic (\w+)"')]),
         ("docs/DECISIONS.md", "a perfect hash of {} seeds", [number("crates/html_entities/generate.py", r"(?m)^SEED_COUNT = (\d+)")]),
-        ("tests/mutations/README.md", "tries up to {} in one check", [number("tests/mutations/edit_groups.py", r"(?m)^MOST = (\d+)")]),
     ]
 
 
+def of_kit():
+    """The logic of the kit that is here, with which the tree is proved; nothing where there is no kit."""
+    if not shutil.which("rt"):
+        return []
+    said = subprocess.run(["rt", "version"], capture_output=True, text=True, check=True).stdout
+    return [("README.md", "whose logic `rt version` names `{}`", [said.split()[-1]])]
+
+
 def rows():
-    return of_answers() + of_parser() + of_pages() + of_packages() + of_sources()
+    return of_answers() + of_parser() + of_pages() + of_packages() + of_sources() + of_kit()
 
 
 def pattern_of(words):

@@ -17,7 +17,6 @@ PROOF_IMPORT = re.compile(r"(?m)^\s*(?:pub )?use Rattle\.(\w+)\.proofs\.([\w.'-]
 HEADED = re.compile(r"(?:(?:abbrev|unfoldable) (?:pub )?|(?:pub )?(?:record|data|ruleset) )([^\s:({]+)")
 STATED = re.compile(r"(?:pub )?([^\s:({]+) :")
 OF_FUNCTIONS = ("Answers.antt", "Invariants.antt", "Proof.antt")
-CLAUSE = re.compile(r"\s*(?:requires|ensures)\*?\s+(?:\w+\s+)?\{")
 PRIVATE = re.compile(r"\s*(?:pub\(crate\) )?(?:const|static) (\w+):")
 PRIVATE_TYPE = re.compile(r"(?:pub\(crate\) )?(?:struct|enum|union|type|trait) (\w+)")
 
@@ -38,6 +37,7 @@ class Item:
     trait: str = ""
     clauses: list = field(default_factory=list)
     contract: str = ""
+    conditions: list = field(default_factory=list)  # what its `requires` say, of each its name and its text
     body: str = ""
 
     @property
@@ -101,6 +101,12 @@ def clauses_of(text):
     return names, "\n".join(said)
 
 
+def conditions_of(text):
+    """What the `requires` in the head of a function say: of each its name, which may be empty, and its text in one line."""
+    found = re.finditer(r"(?m)^\s*requires\*?\s+(?:(\w+)\s+)?\{", text)
+    return [(clause[1] or "", " ".join(in_braces(text, clause.end() - 1).split())) for clause in found]
+
+
 def function_at(lines, start):
     """The head of the function at a line, its body, and its last line."""
     indent = re.match(r"\s*", lines[start])[0]
@@ -129,7 +135,7 @@ def function_item(lines, at, found, block, where):
     name = f"{of_type}::{found[3]}" if of_type else found[3]
     visible = bool(found[2]) and "(" not in found[2] or bool(trait)
     is_test = any("#[test]" in line for line in lines[max(0, at - 3) : at] if line.strip().startswith("#["))
-    return Item("fn", name, *where, at + 1, end + 1, visible, is_test, of_type, trait, names, said, body)
+    return Item("fn", name, *where, at + 1, end + 1, visible, is_test, of_type, trait, names, said, conditions_of(head), body)
 
 
 def block_item(lines, block, where):
@@ -261,15 +267,6 @@ def definitions():
                     for word, number in defined_in(path):
                         found.setdefault(word, []).append((path, number))
     return found
-
-
-def head_at(text, number):
-    """The head of the function at a line, its contract with it: all before its body, without comments and white space."""
-    text = re.sub(r"/\*.*?\*/|//[^\n]*", "", "\n".join(text.split("\n")[number - 1 :]), flags=re.S)
-    at = re.search(r"\{|^\s*(?=requires|ensures)", text, re.M).end()
-    while clause := CLAUSE.match(text, at):
-        at = clause.end() + len(in_braces(text, clause.end() - 1)) + 1
-    return "".join(text[:at].split())
 
 
 class NoFunction(Exception):

@@ -17,19 +17,30 @@ def all_items():
     return [item for crate in crates() for item in items_of(crate)]
 
 
+def edit_files():
+    """Each file of wrong bodies, with its crate."""
+    for path in sorted(TOP.glob("crates/*/must-fail/*.edit")):
+        yield path, path.parent.parent.name
+    for path in sorted(TOP.glob("tests/mutations/*.edits")):
+        yield path, path.stem
+
+
 @cache
 def edits():
-    """Each wrong body: its file, and what it edits as pairs of a source file and the text there."""
+    """Each wrong body: where it stands, its crate, what it edits as pairs of a source file and the text there, and all of it."""
     found = []
-    for path in [*sorted(TOP.glob("crates/*/must-fail/*.edit")), *sorted(TOP.glob("tests/mutations/*/*.edit"))]:
-        crate = path.parent.name if path.parent.parent.name == "mutations" else path.parent.parent.name
-        source, pairs = "", []
-        for line in path.read_text().splitlines():
-            if line.startswith("file:"):
-                source = f"crates/{crate}/{line[5:].strip()}"
-            elif line.startswith("old:"):
-                pairs.append((source, line[5:]))
-        found.append((path.relative_to(TOP).as_posix(), pairs, path.read_text()))
+    for path, crate in edit_files():
+        line = 1
+        for text in re.split(r"\n(?=name: )", path.read_text()):
+            sources = re.findall(r"^(file|old): *(.*)$", text, flags=re.M)
+            pairs, source = [], ""
+            for word, rest in sources:
+                if word == "file":
+                    source = f"crates/{crate}/{rest.strip()}"
+                else:
+                    pairs.append((source, rest))
+            found.append((f"{path.relative_to(TOP).as_posix()}:{line}", crate, pairs, text))
+            line += text.count("\n") + 1
     return found
 
 
@@ -97,19 +108,19 @@ def in_crate(item):
 
 
 def edits_in(items):
-    """The wrong bodies whose text stands in one of the items."""
-    for path, pairs, _ in edits():
+    """Where the wrong bodies stand whose text stands in one of the items."""
+    for place, _, pairs, _ in edits():
         for source, old in pairs:
             text = text_of(source) if (TOP / source).is_file() else ""
             line = text[: text.find(old)].count("\n") + 1 if old in text else 0
             if any(item.path == source and item.line <= line <= item.end for item in items):
-                yield path
+                yield place
                 break
 
 
 def edits_naming(pattern, crate=""):
-    """The wrong bodies, of a crate or of all, whose own words a pattern fits."""
-    return [path for path, _, text in edits() if f"/{crate}" in path and re.search(pattern, text)]
+    """Where the wrong bodies stand, of a crate or of all, whose own words a pattern fits."""
+    return [place for place, of, _, text in edits() if crate in ("", of) and re.search(pattern, text)]
 
 
 def alone(word):
