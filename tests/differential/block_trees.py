@@ -32,6 +32,15 @@ REPLACEMENT = "\ufffd".encode()
 Block = namedtuple("Block", "kind detail first last depth")
 
 
+def is_text(page):
+    """Whether it is UTF-8. Else our programs that count its bytes refuse it."""
+    try:
+        page.decode()
+    except UnicodeDecodeError:
+        return False
+    return True
+
+
 def said_by(program, page):
     return subprocess.run(program, input=page, stdout=subprocess.PIPE, check=True).stdout
 

@@ -2,12 +2,11 @@
 import re
 from collections import namedtuple
 
-from block_trees import FILLAQUT, said_by
+from block_trees import FILLAQUT, is_text, said_by
 
 OURS = [FILLAQUT, "events"]
 
 LINE = re.compile(rb'([0-9]+) ([0-9]+) ([a-z][a-z0-9 ]*?)((?: "[^"]*"| (?:id|class) "[^"]*")*)')
-NO_TEXT = b"not UTF-8\n"
 QUOTED = re.compile(rb'"([^"]*)"')
 NUMBERED = re.compile(rb"\\u00(..)")
 # How links and images are written that have a label, which pulldown-cmark 0.9.2 doesn't tell.
@@ -66,8 +65,7 @@ def with_tasks(events):
 
 def said(program, page):
     """The events that a program prints of a page; None where it is not UTF-8."""
-    text = said_by(program, page)
-    return None if text == NO_TEXT else [event_of(line) for line in text.splitlines()]
+    return [event_of(line) for line in said_by(program, page).splitlines()] if is_text(page) else None
 
 
 def our_events(page, options=()):

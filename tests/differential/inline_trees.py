@@ -8,7 +8,6 @@ OURS = [FILLAQUT, "inlines"]
 
 BLOCK = re.compile(rb"([0-9]+) ([0-9]+) [0-9]+ (heading|setext|paragraph)( [1-6])?")
 INLINE = re.compile(rb'  ([0-9]+) ([0-9]+) ([a-z ]+?)((?: "[^"]*")*)')
-NO_TEXT = b"  not UTF-8"
 QUOTED = re.compile(rb'"([^"]*)"')
 NUMBERED = re.compile(rb"\\u00(..)")
 REFERENCE = rb"&(?:#[xX]([0-9a-fA-F]{1,6})|#([0-9]{1,7})|([a-zA-Z][a-zA-Z0-9]*));"
@@ -17,7 +16,7 @@ REFERENCES = re.compile(rb"(?!)()|" + REFERENCE)
 ENDS_IN_HARD_BREAK = re.compile(rb"(?: {2,}|\\)$")
 
 # Blocks of both: `kind` is heading or paragraph, `said` the inlines, each as a tuple of what it is and what is known of it. The text of
-# neighbours is joined. None is said of what is not UTF-8. Of a link that a label leads to `Label` stands for where it leads.
+# neighbours is joined. Of a link that a label leads to `Label` stands for where it leads.
 Block = namedtuple("Block", "kind first last said")
 Label = namedtuple("Label", "text")
 
@@ -91,15 +90,13 @@ def joined(said):
 def our_blocks(page):
     found = []
     for line in said_by(OURS, page).splitlines():
-        if line == NO_TEXT:
-            found[-1][-1] = None
-        elif line.startswith(b"  "):
+        if line.startswith(b"  "):
             _, _, kind, texts = INLINE.fullmatch(line).groups()
             found[-1][-1] += our_said(kind, [bytes_of(found_text) for found_text in QUOTED.findall(texts)])
         else:
             first, last, kind, _ = BLOCK.fullmatch(line).groups()
             found.append(["paragraph" if kind == b"paragraph" else "heading", int(first), int(last), []])
-    return [Block(*block[:3], block[3] and joined(block[3])) for block in found]
+    return [Block(*block[:3], joined(block[3])) for block in found]
 
 
 def their_said(block):

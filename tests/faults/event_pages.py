@@ -1,6 +1,6 @@
 """What fillaqut events is run on: its words, its input, and what it then prints and answers with ample memory."""
 import page_program
-from page_program import DEEP, Page, complaints_of, named_of, unread_of, usage_of
+from page_program import DEEP, Page, complaints_of, named_of, not_text_of, unread_of, usage_of
 
 KNOWN, OTHER = page_program.KNOWN, page_program.OTHER
 
@@ -84,7 +84,7 @@ SMALL = [
         b"a|b\n-|-\n",
         element(0, 8, b"table", element(0, 3, b"table head", cell(0, b"a"), cell(2, b"b")), more=b" none none"),
     ),
-    Events("not UTF-8", "", b"\xff\n", b"not UTF-8\n"),
+    Events("not UTF-8", "", b"\xff\n", b"", 3, err=not_text_of(Events.program, 0)),
     Events("no page", "", b"", b""),
 ]
 

@@ -1,6 +1,6 @@
 """What fillaqut html is run on: its words, its input, and what it then prints and answers with ample memory."""
 import page_program
-from page_program import DEEP, Page, complaints_of, named_of, unread_of, usage_of
+from page_program import DEEP, Page, complaints_of, named_of, not_text_of, unread_of, usage_of
 
 KNOWN, OTHER = page_program.KNOWN, page_program.OTHER
 
@@ -40,7 +40,8 @@ SMALL = [
     Html("a list", "", b"2) a\n", b'<ol start="2">\n<li>a</li>\n</ol>\n'),
     Html("a list with a task", "--gfm", b"- [ ] a\n", b'<ul>\n<li><input disabled="" type="checkbox"> a</li>\n</ul>\n'),
     Html("a table", "-e table", b"|a|\n|:-|\n", b'<table>\n<thead>\n<tr>\n<th align="left">a</th>\n</tr>\n</thead>\n</table>\n'),
-    Html("not UTF-8", "", b"\xff\n", b"not UTF-8\n"),
+    Html("not UTF-8", "", b"\xff\n", "<p>\ufffd</p>\n".encode()),
+    Html("not UTF-8 and refused", "--strict", b"a\xff\n", b"", 3, err=not_text_of(Html.program, 1)),
     Html("no page", "", b"", b""),
 ]
 

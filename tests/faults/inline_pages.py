@@ -1,6 +1,6 @@
 """What fillaqut inlines is run on: its words, its input, and what it then prints and answers with ample memory."""
 import page_program
-from page_program import DEEP, Page, complaints_of, named_of, unread_of, usage_of
+from page_program import DEEP, Page, complaints_of, named_of, not_text_of, unread_of, usage_of
 
 KNOWN, OTHER = page_program.KNOWN, page_program.OTHER
 
@@ -31,7 +31,7 @@ SMALL = [
         b'1 1 0 paragraph\n  0 1 start link shortcut "a"\n  1 2 text "a"\n  2 3 end link\n',
     ),
     Inlines("deep block quotes", "", b">" * DEEP + b"a\n", b'1 1 %d paragraph\n  %d %d text "a"\n' % (DEEP, DEEP, DEEP + 1)),
-    Inlines("not UTF-8", "", b"# \xff\n", b"1 1 0 heading 1\n  not UTF-8\n"),
+    Inlines("not UTF-8", "", b"# \xff\n", b"", 3, err=not_text_of(Inlines.program, 2)),
     Inlines("no page", "", b"", b""),
 ]
 

@@ -2,7 +2,7 @@
 import re
 
 import page_program
-from page_program import DEEP, Page, complaints_of, named_of, unread_of, usage_of
+from page_program import DEEP, Page, complaints_of, named_of, not_text_of, unread_of, usage_of
 
 KNOWN, OTHER = page_program.KNOWN, page_program.OTHER
 
@@ -43,8 +43,8 @@ SMALL = [
     Links("a reference in a list", "", b"- [x][ a]\n\n[A]: &amp;\n", b'-:1:3: link reference "&" "" "a"\n'),
     Links("labels", "", b"[a]: b\n[A]: c\n", b'-:1:1: label not used "a"\n-:2:1: label defined before "A"\n'),
     Links("an object of a label", "--json", b"[a][]\n", b'{"file":"-","line":1,"column":1,"fault":"label not defined","text":"a"}\n'),
-    Links("not UTF-8", "", b"\xff\n", b"-: not UTF-8\n"),
-    Links("an object of what is not UTF-8", "--json", b"\xff\n", b'{"file":"-","error":"not UTF-8"}\n'),
+    Links("not UTF-8", "", b"\xff\n", b"", 3, err=not_text_of(Links.program, 0)),
+    Links("not UTF-8, as objects", "--json", b"ab\xff\n", b"", 3, err=not_text_of(Links.program, 2)),
     Links("no page", "", b"", b""),
 ]
 

@@ -78,16 +78,20 @@ def unread_of(kind):
     return [kind("help", "--help", b"", shown), kind("version", "--version", b"", b"%s " % kind.program + (TOP / "VERSION").read_bytes())]
 
 
-def named_of(kind, a_paragraph, under=lambda name, shown: shown, notes=lambda name: b"", goes_on=False):
+def not_text_of(program, offset):
+    """What is said of standard input that is not UTF-8, where so many bytes stand before the first that is wrong."""
+    return b"%s: standard input: not UTF-8: wrong byte at offset %d\n" % (program, offset)
+
+
+def named_of(kind, a_paragraph, under=lambda name, shown: shown, notes=lambda name: b""):
     """Words that name files, and what is then printed, said on standard error, and answered; with what is printed of `a`, how that
-    of a page is printed under its name, what is said of it, and whether the program goes on after a file that it can't read."""
+    of a page is printed under its name, and what is said of it. After a file that it can't read the program goes on."""
     folder = TOP / "crates/fillaqut/runs" / kind.command
     run, file = stored_run(folder), str(folder / "stdin")
     words, shown, said = run.words.split(), under(file, run.printed), notes(file)
-    later, later_said = (shown, said) if goes_on else (b"", b"")
     return [
         ("a file", [*words, file], shown, said, 0),
         ("a file between the input and itself", [*words, file, "-", "--", file], shown + a_paragraph + shown, said + said, 0),
-        ("no such file", [*words, file, "none", file], shown + later, b"%s%s: none: No such file or directory\n" % (said, kind.program) + later_said, 3),
-        ("a folder", [*words, "/", file], later, b"%s: /: Is a directory\n" % kind.program + later_said, 3),
+        ("no such file", [*words, file, "none", file], shown + shown, b"%s%s: none: No such file or directory\n" % (said, kind.program) + said, 3),
+        ("a folder", [*words, "/", file], shown, b"%s: /: Is a directory\n" % kind.program + said, 3),
     ]

@@ -1,6 +1,6 @@
 """What fillaqut tables is run on: its words, its input or a file, and what it then prints, says and answers with ample memory."""
 import page_program
-from page_program import Page, complaints_of, named_of, unread_of, usage_of
+from page_program import Page, complaints_of, named_of, not_text_of, unread_of, usage_of
 
 KNOWN, OTHER = page_program.KNOWN, page_program.OTHER
 
@@ -19,7 +19,7 @@ EMPTY = b"row has no cell, and its table is left as it is\n"
 FORMS = b"usage: fillaqut tables [--check | --write] [--] [FILE ..]\n       fillaqut tables -h | --help | --version\n"
 USAGE, COMPLAINTS = usage_of(FORMS), complaints_of(FORMS)
 UNREAD = unread_of(Tables)
-NAMED = named_of(Tables, b"a", notes=lambda name: b"%s:27:1: %s%s:43:1: %s" % (name.encode(), MISFIT, name.encode(), EMPTY), goes_on=True)
+NAMED = named_of(Tables, b"a", notes=lambda name: b"%s:27:1: %s%s:43:1: %s" % (name.encode(), MISFIT, name.encode(), EMPTY))
 
 ROUGH, SMOOTH = b"a|b\n-|-:\n1|2\n", b"| a   |   b |\n| --- | --: |\n| 1   |   2 |\n"
 
@@ -36,7 +36,7 @@ SMALL = [
     Tables("a check of a table that is laid out", "--check", SMOOTH, b""),
     Tables("standard input with --write", "--write", ROUGH, SMOOTH),
     Tables("a check that writes nothing", "--write --check", ROUGH, b"-:1:1: table is not laid out\n", 1),
-    Tables("not UTF-8", "", b"\xff\n", b"\xff\n", err=b"-:1:1: page is not UTF-8, and is left as it is\n"),
+    Tables("not UTF-8", "", b"\xff\n", b"", 3, err=not_text_of(Tables.program, 0)),
     Tables("a paragraph", "", b"a | b\n", b"a | b\n"),
     Tables("no page", "", b"", b""),
 ]

@@ -8,7 +8,7 @@ sys.path.append(str(Path(__file__).resolve().parents[1] / "differential"))
 from block_pages import BY_OLDER_RULES, LINES, ODD, ROWS, TASKS, made_paragraphs
 from block_pages import made as made_blocks
 
-# Without what is not UTF-8, which fillaqut html refuses.
+# Without what is not UTF-8, which is not compared.
 ODD_LINES = LINES + [text for text in ODD if max(text) < 0x80]
 WITH_EXTENSIONS = [line for line in LINES if not BY_OLDER_RULES.match(line)] + 2 * ROWS + 2 * TASKS + [b"~a~ ~~b~~", b"~~c ~d~~", b"|~~e|~f~|"]
 

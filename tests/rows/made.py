@@ -1,5 +1,6 @@
-"""Rows that are too long to write, or whose answers stand elsewhere: the help and the version of each command, the stored runs, labels and parentheses as long
-and as deep as they may be, blocks of many lines and in many others, and the examples of CommonMark, which tests/commonmark has."""
+"""Rows that are too long to write, or whose answers stand elsewhere: the help and the version of each command, the stored runs, labels and
+parentheses as long and as deep as they may be, names with control characters, blocks of many lines and in many others, and the examples
+of CommonMark, which tests/commonmark has."""
 import sys
 
 sys.dont_write_bytecode = True
@@ -67,5 +68,24 @@ def of_specification():
         yield row(f"example_{example.number}", "fillaqut html", example.page, example.html)
 
 
-# The rows by the names under which they are counted.
-MADE = {"answers": answers, "stored": stored, "definitions_made": definitions, "large": large, COMMONMARK.stem: of_specification}
+# A name with characters that break a line or drive a terminal, and how it is printed: as Rust's `escape_default` writes those of them.
+ODD, SHOWN = "a\nb\t\r\x1b[1m\x7f\x85\u00e9\\'", "a\\nb\\t\\r\\u{1b}[1m\\u{7f}\\u{85}\u00e9\\'"
+
+
+def named(words, printed, status, said):
+    return Row("tests/rows/made.py", "no_name_breaks_a_line", words, "", None, printed, status, said)
+
+
+def names():
+    """Names are printed with escapes for control characters, and as JSON as they are."""
+    shown = SHOWN.encode()
+    for command in COMMANDS:
+        yield named(["fillaqut", command, f"no{ODD}"], b"", 3, b"fillaqut: no" + shown + b": No such file or directory\n")
+    yield named(["fillaqut", "links", ODD], shown + b':3:1: link inline "gone" ""\n', 0, b"")
+    yield named(["fillaqut", "links", "--check", ODD], shown + b':3:1: no such file "gone"\n', 1, b"")
+    yield named(["fillaqut", "tables", "--check", ODD], shown + b":1:1: table is not laid out\n", 1, b"")
+
+
+# The rows by the names under which they are counted, and the files that some are run with.
+MADE = {"answers": answers, "stored": stored, "definitions_made": definitions, "large": large, "names": names, COMMONMARK.stem: of_specification}
+FILES = {"names": {ODD: b"|a|\n|-|\n[a](gone)\n"}}

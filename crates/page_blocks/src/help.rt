@@ -74,10 +74,14 @@ A table may begin with a later line of a paragraph, which then ends before it: w
 stands in the containers of the paragraph, after at most three columns of space, and that would begin
 a paragraph without the lines before it.
 
-Lines are printed while a page is read. Where a page can't be read, memory is refused or the output
-can't be written, the program stops and says why on standard error, unless the reader of the output
-has left. Then the lines of the first blocks may be printed.
+Lines are printed while a page is read, and its bytes need not be UTF-8. Where a page can't be read
+or memory is refused, the program says why on standard error and goes on with the next page; the lines
+of the first blocks of that page may be printed. Where the output can't be written it stops, and says
+why unless the reader of the output has left.
 
-The status is 0 where all is printed, 2 for an option that is not known, and 3 where the program
-stopped.
+In a name on standard error a tab, a line feed and a carriage return are \\t, \\n and \\r, and another
+control character is \\u{CODE} with its code in hexadecimal digits.
+
+The status is 0 where all is printed, 2 for an option that is not known, and 3 where a page is not
+printed.
 ";

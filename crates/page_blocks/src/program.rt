@@ -1,16 +1,19 @@
 //! What the program does with its words, its input and its output.
-ghost use Rattle.std.specs.Prelude.{◌≡◌, ◌⊎◌, ℕ, List, IfOk, IfSome, IfErr, IsSome, Some, None, codes, length};
+ghost use Rattle.std.specs.Prelude.{◌≡◌, ◌≢◌, ◌⊎◌, [], ℕ, IfOk, IfSome, IfErr, IsSome, codes, length};
 ghost use Rattle.std.specs.Io.KnownBytes.{IsAtEnd, Appends};
 ghost use Rattle.program_faults.specs.Faults.{AppendsPrefix};
 ghost use Rattle.program_faults.specs.Steps.{AreGiven, AreReads, CantWrite, HasEnded, HasFailed};
 ghost use Rattle.program_faults.specs.declared.reasons.Reason.{Reason};
 ghost use Rattle.page_programs.specs.Cuts.{PrintsAllOf, PrintsPart};
+ghost use Rattle.page_programs.specs.Came.{status_of};
 ghost use Rattle.page_programs.specs.Runs.{PrintsAll};
 ghost use Rattle.page_programs.specs.Stops.{IfWrite, IsWrite, stop_parts, unknown_parts};
 ghost use Rattle.page_programs.specs.Words.{pages_of, request_of, unknown_of};
+ghost use Rattle.page_programs.specs.Worlds.{world};
+ghost use Rattle.page_programs.specs.declared.came.Came.{Came};
 ghost use Rattle.page_programs.specs.declared.stops.Stop.{Stop};
 ghost use Rattle.page_programs.specs.declared.words.Request.TheVariants.{Pages, Help, Version};
-ghost use Rattle.page_blocks.specs.page.Printed.{IsPrintedTo, IsBegunTo, title_of};
+ghost use Rattle.page_blocks.specs.page.Printed.{IsPrintedTo, IsBegunTo, no_page_is_refused, title_of};
 ghost use Rattle.page_blocks.specs.words.Words.{extensions_of, form_of, own_options};
 
 use crate::beginning::PagePrinting;
@@ -31,8 +34,9 @@ use std::alloc::{AllocError, Global};
 /// Runs the program on its words, without its name, and answers its status.
 ///
 /// 0: done. 2: an option that is not known, and nothing is read. 3: a page that can't be opened or
-/// read, memory that is refused, or output that can't be written; there it stops. Blocks are
-/// written while a page is read, so those at its front may be written before it stops.
+/// read, or memory that is refused, after which it goes on with the next page; or output that can't
+/// be written, where it stops. Blocks are written while a page is read, so those at its front may be
+/// written of one that can't be read to its end.
 pub fn run_program<R: StepReader, F: OpensFiles, W: StepWriter, V: StepWriter>(
     alloc: Global,
     words: &[&str],
@@ -62,31 +66,26 @@ pub fn run_program<R: StepReader, F: OpensFiles, W: StepWriter, V: StepWriter>(
         AppendsPrefix (W.contents output.old) (W.contents output.new) VERSION.now }
     ensures unread { (request_of words.now ≡ Help) ⊎ (request_of words.now ≡ Version) →
         (input.new ≡ input.old) × (files.new ≡ files.old) }
+    ensures unwritten { result ≡ 3 → (request_of words.now ≡ Help)
+        ⊎ (request_of words.now ≡ Version)
+        → (why : Reason) × AreGiven V.writes faults.old
+        (stop_parts (codes "fillaqut") [] (Stop.Write why)) faults.new
+        × CantWrite W.writes why output.new }
 
-    // Pages.
-    ensures printed { result ≡ 0 → request_of words.now ≡ Pages →
-        PrintsAll (title_of (form_of words.now) (length (pages_of words.now)))
+    // Pages: each is printed, or the faults are given why it is not.
+    ensures printed { result ≢ 2 → request_of words.now ≡ Pages →
+        (came : Came) × (result ≡ status_of came)
+        × PrintsAll (title_of (form_of words.now) (length (pages_of words.now)))
         (IsPrintedTo (extensions_of words.now) (form_of words.now))
         (IsBegunTo (extensions_of words.now) (form_of words.now))
+        no_page_is_refused
         R.remaining R.reads F.opens F.File.remaining F.File.reads
-        (pages_of words.now)
-        input.old files.old (W.contents output.old)
-        input.new files.new (W.contents output.new) None }
+        W.contents W.writes V.writes (codes "fillaqut") (pages_of words.now)
+        (world input.old files.old output.old faults.old)
+        (world input.new files.new output.new faults.new) came }
 
-    // At status 0 nothing is written to the faults; at 3 the reason is, as far as they take it.
+    // At status 0 nothing is written to the faults.
     ensures done { result ≡ 0 → faults.new ≡ faults.old }
-    ensures stopped { result ≡ 3 → (name : List ℕ) × (stop : Stop)
-        × AreGiven V.writes faults.old (stop_parts (codes "fillaqut") name stop) faults.new
-        × IfWrite stop (λ why. CantWrite W.writes why output.new)
-        × ((request_of words.now ≡ Help) ⊎ (request_of words.now ≡ Version) → IsWrite stop)
-        × (request_of words.now ≡ Pages →
-        PrintsAll (title_of (form_of words.now) (length (pages_of words.now)))
-        (IsPrintedTo (extensions_of words.now) (form_of words.now))
-        (IsBegunTo (extensions_of words.now) (form_of words.now))
-        R.remaining R.reads F.opens F.File.remaining F.File.reads
-        (pages_of words.now)
-        input.old files.old (W.contents output.old)
-        input.new files.new (W.contents output.new) (Some (name, stop))) }
 {
     let says = Says {
         name: "fillaqut",
@@ -119,13 +118,15 @@ struct Blocks {
 }
 
 impl PrintsPages for Blocks {
-    ghost use Rattle.page_blocks.specs.page.Printed.{IsPrintedTo, IsBegunTo, title_of};
+    ghost use Rattle.page_blocks.specs.page.Printed.{IsPrintedTo, IsBegunTo, no_page_is_refused, title_of};
 
     ghost titles = { λ it. title_of it.form };
 
     ghost prints = { λ it. IsPrintedTo it.extensions it.form };
 
     ghost begins = { λ it. IsBegunTo it.extensions it.form };
+
+    ghost refuses = { λ _. no_page_is_refused };
 
     fn make_title(&self, alloc: Global, pages: usize, name: &str) -> Result<String, AllocError> {
         make_title(alloc, self.form, pages, name)
@@ -165,6 +166,7 @@ fn print_page<R: StepReader, W: StepWriter>(
     ensures reads { (count : ℕ) × AreReads R.reads count input.old input.new }
     ensures failed { IfErr result (λ stop. (why : Reason) → stop ≡ Stop.Read why →
         HasFailed R.reads why input.new ⊎ AreReads R.reads 281474976710655 input.old input.new) }
+    ensures taken { IfErr result (λ stop. (offset : ℕ) → stop ≢ Stop.NotText offset) }
     ensures refused { IfErr result (λ stop.
         IfWrite stop (λ why. CantWrite W.writes why output.new)) }
 {

@@ -54,15 +54,20 @@ An element is one of
 
 Texts, info strings, labels, destinations and titles stand in quotation marks. Each byte of them
 that is a quotation mark, a backslash or not printable ASCII is printed as \\u00 and two hexadecimal
-digits. Of a page that is not UTF-8 one line is printed instead, not UTF-8.
+digits.
 
 FILE is a page; - is standard input, and so is no FILE. The lines of the pages follow one another,
 and the bytes of each page are counted from its front. After the word -- all words are files.
 
-A page is read whole before its lines are printed. Where a page can't be read, memory is refused or
-the output can't be written, the program stops and says why on standard error, unless the reader of
-the output has left.
+A page is read whole before its lines are printed. Of one that is not UTF-8 nothing is printed, and
+standard error has its name and how many bytes stand before the first that is wrong. Where a page
+can't be read, is not UTF-8, or memory is refused, the program says why on standard error and goes on
+with the next page. Where the output can't be written it stops, and says why unless the reader of the
+output has left.
 
-The status is 0 where all is printed, 2 for an option that is not known, and 3 where the program
-stopped.
+In a name on standard error a tab, a line feed and a carriage return are \\t, \\n and \\r, and another
+control character is \\u{CODE} with its code in hexadecimal digits.
+
+The status is 0 where all is printed, 2 for an option that is not known, and 3 where a page is not
+printed.
 ";

@@ -1,6 +1,6 @@
 //! What is printed of a page, as the words of the command line ask for it.
 ghost use Rattle.std.specs.Prelude.{◌≡◌};
-ghost use Rattle.page_html.specs.asked.Asked.{asked_of, form_of, setting_of};
+ghost use Rattle.page_html.specs.asked.Asked.{asked_of, form_of, is_html, setting_of};
 
 use markdown_events::event_reader::PageSetting;
 use markdown_inlines::extensions::InlineExtensions;
@@ -24,6 +24,8 @@ pub struct Asked {
     pub form: Form,
     /// Whether its HTML is that of `safe_setting` of `markdown_html`, with http, https, mailto and tel.
     pub safe: bool,
+    /// Whether a page that is not UTF-8 is refused in this form too.
+    pub strict: bool,
     /// With what it is read.
     pub setting: PageSetting,
 }
@@ -35,6 +37,7 @@ pub(crate) fn asked_of(words: &[&str]) -> Asked
     Asked {
         form: form_of(words),
         safe: has_option(words, "--safe"),
+        strict: has_option(words, "--strict"),
         setting: setting_of(words),
     }
 }
@@ -50,6 +53,13 @@ fn form_of(words: &[&str]) -> Form
         return Form::Json;
     }
     Form::Html
+}
+
+/// Whether a page is printed as HTML.
+pub(crate) fn is_html(form: Form) -> bool
+    ensures { result ≡ is_html form }
+{
+    matches!(form, Form::Html)
 }
 
 // The extensions.

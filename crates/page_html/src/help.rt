@@ -2,7 +2,7 @@
 
 /// What is written on standard error after the name of an option that is not known.
 pub const USAGE: &str = "
-usage: fillaqut html [--safe] [--to html|events|json] [-e NAME].. [--gfm] [--] [FILE ..]
+usage: fillaqut html [--safe] [--strict] [--to html|events|json] [-e NAME].. [--gfm] [--] [FILE ..]
        fillaqut html -h | --help | --version
 ";
 
@@ -11,7 +11,7 @@ pub const VERSION: &str = "fillaqut 0.1.0\n";
 
 /// What `--help` prints.
 pub const HELP: &str = "\
-usage: fillaqut html [--safe] [--to html|events|json] [-e NAME].. [--gfm] [--] [FILE ..]
+usage: fillaqut html [--safe] [--strict] [--to html|events|json] [-e NAME].. [--gfm] [--] [FILE ..]
        fillaqut html -h | --help | --version
 
 Prints the HTML of a page of Markdown, by CommonMark 0.31.2 and as its examples write it.
@@ -19,6 +19,8 @@ Prints the HTML of a page of Markdown, by CommonMark 0.31.2 and as its examples 
   --safe           for text by people who are not trusted: raw HTML is written as text, links and
                    images lead to addresses of http, https, mailto and tel, and to relative ones,
                    and any other address is left out; links say rel=\"nofollow noopener\"
+  --strict         prints nothing of a page that is not UTF-8; its HTML has U+FFFD otherwise in place
+                   of each part of the page that is wrong, as the decoder of the Encoding standard
   --to html        prints HTML, as where nothing is asked for
   --to events      prints the events of the page in place of HTML, as fillaqut events does
   --to json        prints them as JSON, an object a line
@@ -47,15 +49,20 @@ the page stand before its source; and end, how many before what follows that. Af
   title
   label            of the same, where it is a reference
 
-Of a page that is not UTF-8 one line is printed instead, not UTF-8, as JSON {\"error\":\"not UTF-8\"}.
+Of a page that is not UTF-8 no event is printed, since the bytes of the page are counted, nor any
+HTML with --strict. Standard error has its name and how many bytes stand before the first that is
+wrong.
 
 FILE is a page; - is standard input, and so is no FILE. What is printed of the pages follows one
 another. After the word -- all words are files.
 
-A page is read whole before anything is printed of it. Where a page can't be read, memory is refused
-or the output can't be written, the program stops and says why on standard error, unless the reader
-of the output has left.
+A page is read whole before anything is printed of it. Where a page can't be read, is refused, or
+memory is, the program says why on standard error and goes on with the next page. Where the output
+can't be written it stops, and says why unless the reader of the output has left.
 
-The status is 0 where all is printed, 2 for an option that is not known, and 3 where the program
-stopped.
+In a name on standard error a tab, a line feed and a carriage return are \\t, \\n and \\r, and another
+control character is \\u{CODE} with its code in hexadecimal digits.
+
+The status is 0 where all is printed, 2 for an option that is not known, and 3 where a page is not
+printed.
 ";

@@ -4,9 +4,7 @@ ghost use Rattle.markdown_html.specs.PageHtml.{IsHtmlOf};
 ghost use Rattle.markdown_html.specs.SafeHtml.{IsSafeHtml};
 ghost use Rattle.markdown_html.specs.SafeSetting.{IsSafeWith, default_schemes, safe_setting};
 ghost use Rattle.markdown_html.specs.Settings.{plain_setting, seen_setting};
-ghost use Rattle.page_events.specs.page.Printed.{not_text};
-ghost use Rattle.page_html.specs.declared.asked.Form.TheVariants.{Html};
-ghost use Rattle.page_html.specs.page.Printed.{IsPrinted, IsPrintedAs, html_setting};
+ghost use Rattle.page_html.specs.page.Printed.{IsPrinted, html_setting};
 
 use crate::asked::{Asked, Form};
 use crate::settings::options_of;
@@ -16,48 +14,24 @@ use markdown_html::schemes::{DEFAULT_SCHEMES, safe_setting};
 use markdown_html::setting::{AllowedAddresses, HtmlSetting, plain_setting};
 use page_events::page::{EventForm, lines_of_page};
 use std::alloc::{AllocError, Global};
-use std::str::from_utf8;
 
-/// What is printed of a page: its HTML, or its events, as `HELP` has it; or one line, that it is not
-/// UTF-8.
+/// What is printed of a page: its HTML, or its events, as `HELP` has it.
 ///
 /// # Errors
 ///
 /// `AllocError` where memory is refused.
-pub fn output_of_page(alloc: Global, page: &[u8], asked: Asked) -> Result<String, AllocError>
+pub fn output_of_page(alloc: Global, page: &str, asked: Asked) -> Result<String, AllocError>
     ensures { IfOk result (λ text. IsPrinted asked page.now (string_bytes text)) }
 {
     match asked.form {
-        Form::Html => html_of_bytes(alloc, page, asked),
+        Form::Html => html_of_page(alloc, page, asked),
         Form::Events => lines_of_page(alloc, page, asked.setting, EventForm::Words),
         Form::Json => lines_of_page(alloc, page, asked.setting, EventForm::Json),
     }
 }
 
-// The HTML of a page.
-fn html_of_bytes(alloc: Global, page: &[u8], asked: Asked) -> Result<String, AllocError>
-    ensures printed { IfOk result (λ text. IsPrintedAs Html asked page.now (string_bytes text)) }
-    ensures safe { IfOk result (λ text. asked.safe ≡ true →
-        IsSafeHtml default_schemes (string_bytes text)) }
-{
-    match from_utf8(page) {
-        Ok(text) => html_of_text(alloc, text, asked),
-        Err(_) => line_of_none(alloc),
-    }
-}
-
-// The line of a page that is not UTF-8.
-fn line_of_none(alloc: Global) -> Result<String, AllocError>
-    ensures text { IfOk result (λ text. string_bytes text ≡ not_text) }
-    ensures safe { IfOk result (λ text. IsSafeHtml default_schemes (string_bytes text)) }
-{
-    let mut text = String::new(alloc);
-    text.push_str("not UTF-8\n")?;
-    Ok(text)
-}
-
-// The HTML of a page that is text, safe where that is asked for.
-fn html_of_text(alloc: Global, page: &str, asked: Asked) -> Result<String, AllocError>
+// The HTML of a page, safe where that is asked for.
+fn html_of_page(alloc: Global, page: &str, asked: Asked) -> Result<String, AllocError>
     ensures html { IfOk result (λ html.
         IsHtmlOf page.now asked.setting (html_setting asked.safe) (string_bytes html)) }
     ensures safe { IfOk result (λ html. asked.safe ≡ true →

@@ -1,19 +1,23 @@
 //! What the program does with its words, its input and its output.
-ghost use Rattle.std.specs.Prelude.{◌≡◌, ◌⊎◌, true, ℕ, List, IfSome, IsSome, Some, None, codes};
+ghost use Rattle.std.specs.Prelude.{◌≡◌, ◌≢◌, ◌⊎◌, [], true, IfSome, IsSome, codes};
 ghost use Rattle.std.specs.Io.KnownBytes.{Appends};
 ghost use Rattle.program_faults.specs.Faults.{AppendsPrefix};
 ghost use Rattle.program_faults.specs.Steps.{AreGiven, CantWrite};
+ghost use Rattle.program_faults.specs.declared.reasons.Reason.{Reason};
+ghost use Rattle.page_programs.specs.Came.{status_of};
 ghost use Rattle.page_programs.specs.Runs.{PrintsAll};
-ghost use Rattle.page_programs.specs.Stops.{IfWrite, IsWrite, stop_parts, unknown_parts};
+ghost use Rattle.page_programs.specs.Stops.{stop_parts, unknown_parts};
+ghost use Rattle.page_programs.specs.Texts.{IsRefused, is_unwritten, no_title};
 ghost use Rattle.page_programs.specs.Words.{pages_of, request_of, unknown_of};
+ghost use Rattle.page_programs.specs.Worlds.{world};
+ghost use Rattle.page_programs.specs.declared.came.Came.{Came};
 ghost use Rattle.page_programs.specs.declared.stops.Stop.{Stop};
 ghost use Rattle.page_programs.specs.declared.words.Request.TheVariants.{Pages, Help, Version};
-ghost use Rattle.page_events.specs.page.Printed.{is_unwritten, no_title};
 ghost use Rattle.page_html.specs.asked.Asked.{asked_of, own_options};
 ghost use Rattle.page_html.specs.declared.asked.Form.TheVariants.{Html};
-ghost use Rattle.page_html.specs.page.Printed.{IsPrintedTo, PrintsSafely};
+ghost use Rattle.page_html.specs.page.Printed.{IsPrintedTo, PrintsSafely, mends};
 
-use crate::asked::{Asked, asked_of};
+use crate::asked::{Asked, asked_of, is_html};
 use crate::help::{HELP, USAGE, VERSION};
 use crate::page::output_of_page;
 use page_programs::files::OpensFiles;
@@ -21,15 +25,16 @@ use page_programs::program;
 use page_programs::says::Says;
 use page_programs::stops::Stop;
 use page_programs::whole::{PrintsWholePages, Whole};
-use program_faults::{StepReader, StepWriter};
+use program_faults::{Reason, StepReader, StepWriter};
 use std::alloc::{AllocError, Global};
 
 /// Runs the program on its words, without its name and as `join_values` gives them, and answers its
 /// status.
 ///
 /// 0: done. 2: an option that is not known, and nothing is read. 3: a page that can't be opened or
-/// read, memory that is refused, or output that can't be written; there it stops. Each page is read
-/// whole before anything of it is written.
+/// read, or is refused, or memory that is refused, after which it goes on with the next page; or
+/// output that can't be written, where it stops. Each page is read whole before anything of it is
+/// written.
 pub fn run_program<R: StepReader, F: OpensFiles, W: StepWriter, V: StepWriter>(
     alloc: Global,
     words: &[&str],
@@ -59,32 +64,29 @@ pub fn run_program<R: StepReader, F: OpensFiles, W: StepWriter, V: StepWriter>(
         AppendsPrefix (W.contents output.old) (W.contents output.new) VERSION.now }
     ensures unread { (request_of words.now ≡ Help) ⊎ (request_of words.now ≡ Version) →
         (input.new ≡ input.old) × (files.new ≡ files.old) }
+    ensures unwritten { result ≡ 3 → (request_of words.now ≡ Help)
+        ⊎ (request_of words.now ≡ Version)
+        → (why : Reason) × AreGiven V.writes faults.old
+        (stop_parts (codes "fillaqut") [] (Stop.Write why)) faults.new
+        × CantWrite W.writes why output.new }
 
-    // Pages.
-    ensures printed { result ≡ 0 → request_of words.now ≡ Pages →
-        PrintsAll no_title (IsPrintedTo (asked_of words.now)) is_unwritten
+    // Pages: each is printed, or the faults are given why it is not.
+    ensures printed { result ≢ 2 → request_of words.now ≡ Pages →
+        (came : Came) × (result ≡ status_of came)
+        × PrintsAll no_title
+        (IsPrintedTo (asked_of words.now)) is_unwritten (IsRefused (mends (asked_of words.now)))
         R.remaining R.reads F.opens F.File.remaining F.File.reads
-        (pages_of words.now)
-        input.old files.old (W.contents output.old)
-        input.new files.new (W.contents output.new) None }
+        W.contents W.writes V.writes (codes "fillaqut") (pages_of words.now)
+        (world input.old files.old output.old faults.old)
+        (world input.new files.new output.new faults.new) came }
 
     // Where safe HTML is asked for nothing else is written, at any status.
     ensures safe { request_of words.now ≡ Pages → (asked_of words.now).form ≡ Html →
         (asked_of words.now).safe ≡ true →
         PrintsSafely (W.contents output.old) (W.contents output.new) }
 
-    // At status 0 nothing is written to the faults; at 3 the reason is, as far as they take it.
+    // At status 0 nothing is written to the faults.
     ensures done { result ≡ 0 → faults.new ≡ faults.old }
-    ensures stopped { result ≡ 3 → (name : List ℕ) × (stop : Stop)
-        × AreGiven V.writes faults.old (stop_parts (codes "fillaqut") name stop) faults.new
-        × IfWrite stop (λ why. CantWrite W.writes why output.new)
-        × ((request_of words.now ≡ Help) ⊎ (request_of words.now ≡ Version) → IsWrite stop)
-        × (request_of words.now ≡ Pages →
-        PrintsAll no_title (IsPrintedTo (asked_of words.now)) is_unwritten
-        R.remaining R.reads F.opens F.File.remaining F.File.reads
-        (pages_of words.now)
-        input.old files.old (W.contents output.old)
-        input.new files.new (W.contents output.new) (Some (name, stop))) }
 {
     let says = Says {
         name: "fillaqut",
@@ -102,6 +104,7 @@ pub fn run_program<R: StepReader, F: OpensFiles, W: StepWriter, V: StepWriter>(
         &says,
         &[
             "--safe",
+            "--strict",
             "--to html",
             "--to events",
             "--to json",
@@ -128,9 +131,11 @@ struct Printer {
 
 impl PrintsWholePages for Printer {
     ghost use Rattle.std.specs.Prelude.{[]};
-    ghost use Rattle.page_html.specs.page.Printed.{IsPrinted};
+    ghost use Rattle.page_html.specs.page.Printed.{IsPrinted, mends};
 
     ghost headings = { λ _ _ _. [] };
+
+    ghost mends = { λ it. mends it.asked };
 
     ghost is_printed = { λ it. IsPrinted it.asked };
 
@@ -143,7 +148,11 @@ impl PrintsWholePages for Printer {
         Ok(String::new(alloc))
     }
 
-    fn text_of_page(&self, alloc: Global, page: &[u8]) -> Result<String, AllocError> {
+    fn mends_pages(&self) -> bool {
+        is_html(self.asked.form) && !self.asked.strict
+    }
+
+    fn text_of_page(&self, alloc: Global, page: &str) -> Result<String, AllocError> {
         output_of_page(alloc, page, self.asked)
     }
 }

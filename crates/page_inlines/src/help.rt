@@ -42,8 +42,7 @@ quotation marks.
 
 Of the source each byte that is a quotation mark, a backslash or not printable ASCII is printed as
 \\u00 and two hexadecimal digits. Where it stands in several lines, what belongs to their containers
-and the spaces before their text are no part of it. A heading or paragraph that is not UTF-8 has one
-line instead, not UTF-8.
+and the spaces before their text are no part of it.
 
 The labels of references are those that the page defines, wherever it does so. The cells of tables
 are left out.
@@ -52,10 +51,15 @@ FILE is a page; - is standard input, and so is no FILE. The lines of the pages f
 and the lines and bytes of each page are counted from its front. After the word -- all words are
 files.
 
-A page is read whole before its lines are printed. Where a page can't be read, memory is refused or
-the output can't be written, the program stops and says why on standard error, unless the reader of
-the output has left.
+A page is read whole before its lines are printed. Of one that is not UTF-8 nothing is printed, and
+standard error has its name and how many bytes stand before the first that is wrong. Where a page
+can't be read, is not UTF-8, or memory is refused, the program says why on standard error and goes on
+with the next page. Where the output can't be written it stops, and says why unless the reader of the
+output has left.
 
-The status is 0 where all is printed, 2 for an option that is not known, and 3 where the program
-stopped.
+In a name on standard error a tab, a line feed and a carriage return are \\t, \\n and \\r, and another
+control character is \\u{CODE} with its code in hexadecimal digits.
+
+The status is 0 where all is printed, 2 for an option that is not known, and 3 where a page is not
+printed.
 ";

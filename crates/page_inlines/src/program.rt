@@ -1,14 +1,19 @@
 //! What the program does with its words, its input and its output.
-ghost use Rattle.std.specs.Prelude.{◌≡◌, ◌⊎◌, [], ℕ, List, IfSome, IsSome, Some, None, codes};
+ghost use Rattle.std.specs.Prelude.{◌≡◌, ◌≢◌, ◌⊎◌, [], false, IfSome, IsSome, codes};
 ghost use Rattle.std.specs.Io.KnownBytes.{Appends};
 ghost use Rattle.program_faults.specs.Faults.{AppendsPrefix};
 ghost use Rattle.program_faults.specs.Steps.{AreGiven, CantWrite};
+ghost use Rattle.program_faults.specs.declared.reasons.Reason.{Reason};
+ghost use Rattle.page_programs.specs.Came.{status_of};
 ghost use Rattle.page_programs.specs.Runs.{PrintsAll};
-ghost use Rattle.page_programs.specs.Stops.{IfWrite, IsWrite, stop_parts, unknown_parts};
+ghost use Rattle.page_programs.specs.Stops.{stop_parts, unknown_parts};
+ghost use Rattle.page_programs.specs.Texts.{IsRefused, is_unwritten, no_title};
 ghost use Rattle.page_programs.specs.Words.{pages_of, request_of, unknown_of};
+ghost use Rattle.page_programs.specs.Worlds.{world};
+ghost use Rattle.page_programs.specs.declared.came.Came.{Came};
 ghost use Rattle.page_programs.specs.declared.stops.Stop.{Stop};
 ghost use Rattle.page_programs.specs.declared.words.Request.TheVariants.{Pages, Help, Version};
-ghost use Rattle.page_inlines.specs.page.Printed.{IsPrintedTo, is_unwritten, no_title};
+ghost use Rattle.page_inlines.specs.page.Printed.{IsPrintedTo};
 
 use crate::help::{HELP, USAGE, VERSION};
 use crate::page::lines_of_page;
@@ -17,14 +22,15 @@ use page_programs::program;
 use page_programs::says::Says;
 use page_programs::stops::Stop;
 use page_programs::whole::{PrintsWholePages, Whole};
-use program_faults::{StepReader, StepWriter};
+use program_faults::{Reason, StepReader, StepWriter};
 use std::alloc::{AllocError, Global};
 
 /// Runs the program on its words, without its name, and answers its status.
 ///
 /// 0: done. 2: an option that is not known, and nothing is read. 3: a page that can't be opened or
-/// read, memory that is refused, or output that can't be written; there it stops. Each page is read
-/// whole before its lines are written.
+/// read, or is refused, or memory that is refused, after which it goes on with the next page; or
+/// output that can't be written, where it stops. Each page is read whole before its lines are
+/// written.
 pub fn run_program<R: StepReader, F: OpensFiles, W: StepWriter, V: StepWriter>(
     alloc: Global,
     words: &[&str],
@@ -54,27 +60,25 @@ pub fn run_program<R: StepReader, F: OpensFiles, W: StepWriter, V: StepWriter>(
         AppendsPrefix (W.contents output.old) (W.contents output.new) VERSION.now }
     ensures unread { (request_of words.now ≡ Help) ⊎ (request_of words.now ≡ Version) →
         (input.new ≡ input.old) × (files.new ≡ files.old) }
+    ensures unwritten { result ≡ 3 → (request_of words.now ≡ Help)
+        ⊎ (request_of words.now ≡ Version)
+        → (why : Reason) × AreGiven V.writes faults.old
+        (stop_parts (codes "fillaqut") [] (Stop.Write why)) faults.new
+        × CantWrite W.writes why output.new }
 
-    // Pages.
-    ensures printed { result ≡ 0 → request_of words.now ≡ Pages →
-        PrintsAll no_title IsPrintedTo is_unwritten
+    // Pages: each is printed, or the faults are given why it is not.
+    ensures printed { result ≢ 2 → request_of words.now ≡ Pages →
+        (came : Came) × (result ≡ status_of came)
+        × PrintsAll no_title
+        IsPrintedTo
+        is_unwritten (IsRefused false)
         R.remaining R.reads F.opens F.File.remaining F.File.reads
-        (pages_of words.now)
-        input.old files.old (W.contents output.old)
-        input.new files.new (W.contents output.new) None }
+        W.contents W.writes V.writes (codes "fillaqut") (pages_of words.now)
+        (world input.old files.old output.old faults.old)
+        (world input.new files.new output.new faults.new) came }
 
-    // At status 0 nothing is written to the faults; at 3 the reason is, as far as they take it.
+    // At status 0 nothing is written to the faults.
     ensures done { result ≡ 0 → faults.new ≡ faults.old }
-    ensures stopped { result ≡ 3 → (name : List ℕ) × (stop : Stop)
-        × AreGiven V.writes faults.old (stop_parts (codes "fillaqut") name stop) faults.new
-        × IfWrite stop (λ why. CantWrite W.writes why output.new)
-        × ((request_of words.now ≡ Help) ⊎ (request_of words.now ≡ Version) → IsWrite stop)
-        × (request_of words.now ≡ Pages →
-        PrintsAll no_title IsPrintedTo is_unwritten
-        R.remaining R.reads F.opens F.File.remaining F.File.reads
-        (pages_of words.now)
-        input.old files.old (W.contents output.old)
-        input.new files.new (W.contents output.new) (Some (name, stop))) }
 {
     let says = Says {
         name: "fillaqut",
@@ -101,10 +105,12 @@ pub fn run_program<R: StepReader, F: OpensFiles, W: StepWriter, V: StepWriter>(
 struct Inlines;
 
 impl PrintsWholePages for Inlines {
-    ghost use Rattle.std.specs.Prelude.{[]};
+    ghost use Rattle.std.specs.Prelude.{[], false};
     ghost use Rattle.page_inlines.specs.page.Printed.{IsPrinted};
 
     ghost headings = { λ _ _ _. [] };
+
+    ghost mends = { λ _. false };
 
     ghost is_printed = { λ _. IsPrinted };
 
@@ -117,7 +123,11 @@ impl PrintsWholePages for Inlines {
         Ok(String::new(alloc))
     }
 
-    fn text_of_page(&self, alloc: Global, page: &[u8]) -> Result<String, AllocError> {
-        lines_of_page(alloc, page)
+    fn mends_pages(&self) -> bool {
+        false
+    }
+
+    fn text_of_page(&self, alloc: Global, page: &str) -> Result<String, AllocError> {
+        lines_of_page(alloc, page.as_bytes())
     }
 }

@@ -1,6 +1,7 @@
--- Pages that are checked, one after another.
-use Rattle.std.proofs.Common.{ℕ, Bool, true, false, List, [], ◌∷◌, ◌++◌, ◌||◌, ◌≡◌, ◌⊎◌, Option, Some, None, Result, Ok, Err, IfOk, IfErr}
-use Rattle.std.proofs.Common.{arith, append-nil, inl, inr, refl, sym, ap, subst}
+-- A page that is checked.
+use Rattle.std.proofs.Common.{ℕ, Bool, true, false, List, [], ◌≡◌, ◌⊎◌, Option, Some, None, Result, Ok, Err, IfOk, IfErr}
+use Rattle.std.specs.Prelude.{⊤}
+use Rattle.std.proofs.Common.{inl, refl, sym, subst}
 use Rattle.std.proofs.KnownBytes.{Appends-nil}
 use Rattle.std.specs.Io.KnownBytes.{Appends, IsAtEnd}
 use Rattle.markdown_events.specs.declared.settings.PageSetting.{PageSetting}
@@ -8,29 +9,21 @@ use Rattle.program_faults.specs.Faults.{AppendsPrefix}
 use Rattle.program_faults.specs.Steps.{AreReads, HasEnded, HasFailed}
 use Rattle.program_faults.specs.declared.reasons.Reason.{Reason}
 use Rattle.page_programs.proofs.CutLemmas.{front-part}
-use Rattle.page_programs.specs.Cuts.{IsAllOf}
+use Rattle.page_programs.proofs.EndLemmas.{Ends, ends_all, ends_at}
+use Rattle.page_programs.specs.Came.{came_of}
+use Rattle.page_programs.specs.Cuts.{IsAllOf, RefusesAllOf}
 use Rattle.page_programs.specs.Runs.{Prints}
 use Rattle.page_programs.specs.Stops.{IsWrite}
+use Rattle.page_programs.specs.Texts.{IsRefused, is_unwritten}
+use Rattle.page_programs.specs.Tried.{in_turn, not_begun}
+use Rattle.page_programs.specs.Worlds.{World}
+use Rattle.page_programs.specs.declared.came.Came.{Came}
 use Rattle.page_programs.specs.declared.stops.Stop.{Stop}
-use Rattle.page_programs.specs.declared.stops.Stop.TheVariants.{Read, Write, Memory}
-use Rattle.page_events.specs.page.Printed.{is_unwritten}
-use Rattle.page_links.specs.checking.Checking.{is_reported, status_of}
+use Rattle.page_programs.specs.declared.stops.Stop.TheVariants.{Read, NotText, Write, Memory}
+use Rattle.page_links.specs.checking.Checking.{ChecksAll, IsTried, is_done, is_reported, not_done}
 use Rattle.page_links.specs.declared.checks.FileState.{FileState}
 use Rattle.page_links.specs.declared.printing.LinkForm.{LinkForm}
-use Rattle.page_links.specs.page.Printed.{IsCheck, IsCheckedTo, by_name}
-
-pub reported_more : (text more : List ℕ) → (is_reported text || is_reported more) ≡ is_reported (text ++ more)
-reported_more [] more = refl
-reported_more (b ∷ text) more = refl
-
--- the status of a run that is done
-pub status_done : (found : Bool) (status : ℕ) → status ≡ status_of found → (status ≡ 0) ⊎ ((status ≡ 1) ⊎ (status ≡ 3))
-status_done false status is = inl is
-status_done true status is = inr (inl is)
-
-pub status_stopped : (found : Bool) (status : ℕ) → status ≡ status_of found → status ≡ 3 → ⊥
-status_stopped false status is three = omega (arith, is, three)
-status_stopped true status is three = omega (arith, is, three)
+use Rattle.page_links.specs.page.Printed.{IsChecked, IsCheckedTo, by_name}
 
 -- a writer that stays as it was
 nothing_written : {W : Type 0} (contents : W → Option (List ℕ)) (out longer : W) → longer ≡ out → Appends (contents out) (contents longer) []
@@ -38,18 +31,19 @@ nothing_written contents out longer same = subst (λ w. Appends (contents out) (
 
 module _ {R : Type 0} (finds : List ℕ → FileState → Type 0) (form : LinkForm) (setting : PageSetting) (remaining : R → Option (List ℕ))
     (reads : R → Result (List ℕ) Reason → R → Type 0) (name : List ℕ) (old new : R) where
-  -- the page that a reader gives is checked, after what is printed before it
-  abbrev pub Checks : List ℕ → List ℕ → Option Stop → Type 0
-  Checks before after stop = Prints by_name (IsCheckedTo finds form setting) is_unwritten remaining reads name old new (Some before) (Some after) stop
+  -- the page that a reader gives is checked, or it stopped: this text is printed of it
+  abbrev pub Checks : List ℕ → Option Stop → Type 0
+  Checks text stop =
+      Prints by_name (IsCheckedTo finds form setting) is_unwritten (IsRefused false) remaining reads name old new (Some []) (Some text) stop
 
   pub page_checked : (Writes : List ℕ → Type 0) (r : Result Bool Stop)
-      → IfOk r (λ found. (page : List ℕ) × (text : List ℕ) × IsAllOf (remaining old) page × IsCheck finds form setting name page text
+      → IfOk r (λ found. (page : List ℕ) × (text : List ℕ) × IsAllOf (remaining old) page × IsChecked finds form setting name page text
       × (found ≡ is_reported text) × Writes text)
       → IfOk r (λ _. IsAtEnd (remaining new)) → IfOk r (λ _. HasEnded reads new) → (count : ℕ) × AreReads reads count old new
-      → IfOk r (λ found. (text : List ℕ) × ((before : List ℕ) → Checks before (before ++ text) None) × (found ≡ is_reported text) × Writes text)
+      → IfOk r (λ found. (text : List ℕ) × Checks text None × (found ≡ is_reported text) × Writes text)
   page_checked Writes (Ok found) checked end ended made = (
     checked.1,
-    λ before. (((checked.0, checked.2, (checked.1, checked.3, refl)), end, ended), made.0, made.1),
+    (((checked.0, checked.2, (checked.1, checked.3, refl)), end, ended), made.0, made.1),
     checked.4,
     checked.5,
   )
@@ -58,21 +52,24 @@ module _ {R : Type 0} (finds : List ℕ → FileState → Type 0) (form : LinkFo
   -- It stopped: where a write of its text failed, a part at the front of that is printed.
   pub page_stopped : {W : Type 0} (contents : W → Option (List ℕ)) (out longer : W) (r : Result Bool Stop)
       → IfErr r (λ stop. ¬ IsWrite stop → longer ≡ out)
-      → IfErr r (λ stop. IsWrite stop → (page : List ℕ) × (text : List ℕ) × IsAllOf (remaining old) page × IsCheck finds form setting name page text
+      → IfErr r (λ stop. IsWrite stop → (page : List ℕ) × (text : List ℕ) × IsAllOf (remaining old) page × IsChecked finds form setting name page text
       × AppendsPrefix (contents out) (contents longer) text)
       → IfErr r (λ stop. (why : Reason) → stop ≡ Read why → HasFailed reads why new ⊎ AreReads reads 281474976710655 old new)
+      → IfErr r (λ stop. (offset : ℕ) → stop ≡ NotText offset → RefusesAllOf (IsRefused false) (remaining old) offset × HasEnded reads new)
       → (count : ℕ) × AreReads reads count old new
-      → IfErr r (λ stop. (text : List ℕ) × ((before : List ℕ) → Checks before (before ++ text) (Some stop)) × Appends (contents out) (contents longer) text)
-  page_stopped contents out longer (Ok found) unwritten cut failed made = tt
-  page_stopped contents out longer (Err (Read why)) unwritten cut failed made =
-      ([], (λ before. ((ap Some (append-nil before), failed why refl), made.0, made.1)), nothing_written contents out longer (unwritten (λ is. is)))
-  page_stopped contents out longer (Err (Write why)) unwritten cut failed made =
+      → IfErr r (λ stop. (text : List ℕ) × Checks text (Some stop) × Appends (contents out) (contents longer) text)
+  page_stopped contents out longer (Ok found) unwritten cut failed refused made = tt
+  page_stopped contents out longer (Err (Read why)) unwritten cut failed refused made =
+      ([], ((refl, failed why refl), made.0, made.1), nothing_written contents out longer (unwritten (λ is. is)))
+  page_stopped contents out longer (Err (NotText offset)) unwritten cut failed refused made =
+      ([], ((refl, (refused offset refl).0, (refused offset refl).1), made.0, made.1), nothing_written contents out longer (unwritten (λ is. is)))
+  page_stopped contents out longer (Err (Write why)) unwritten cut failed refused made =
       let due = cut tt in
       let front = front-part (contents out) (contents longer) due.1 due.4 in (
         front.0,
-        λ before. (
+        (
           (
-            Some (before ++ due.1),
+            Some due.1,
             inl (due.0, due.2, (due.1, due.3, refl)),
             (due.1, refl, (front.1, (front.0, front.2, refl))),
           ),
@@ -81,5 +78,29 @@ module _ {R : Type 0} (finds : List ℕ → FileState → Type 0) (form : LinkFo
         ),
         front.3,
       )
-  page_stopped contents out longer (Err Memory) unwritten cut failed made =
-      ([], (λ before. (ap Some (append-nil before), made.0, made.1)), nothing_written contents out longer (unwritten (λ is. is)))
+  page_stopped contents out longer (Err Memory) unwritten cut failed refused made =
+      ([], (refl, made.0, made.1), nothing_written contents out longer (unwritten (λ is. is)))
+
+ends_of : (A : Type 0) (found : Bool) → A → Ends ⊤ (came_of found) A
+ends_of A true a = (tt, a)
+ends_of A false a = a
+
+module _ {R O F W V : Type 0} (finds : List ℕ → FileState → Type 0) (form : LinkForm) (setting : PageSetting)
+    (remaining : R → Option (List ℕ)) (reads : R → Result (List ℕ) Reason → R → Type 0)
+    (opens : F → List ℕ → Result O Reason → F → Type 0)
+    (file_remaining : O → Option (List ℕ)) (file_reads : O → Result (List ℕ) Reason → O → Type 0)
+    (contents : W → Option (List ℕ)) (writes : W → List ℕ → Result ℕ Reason → W → Type 0)
+    (fault_writes : V → List ℕ → Result ℕ Reason → V → Type 0) where
+  abbrev Tries : List ℕ → World R F W V → World R F W V → Came → Type 0
+  Tries = IsTried finds form setting remaining reads opens file_remaining file_reads contents writes fault_writes
+
+  -- where a page is done nothing is said of it
+  ends_one : (name : List ℕ) (old new : World R F W V) (came : Came) → Tries name old new came → Ends ⊤ came (new.rest.faults ≡ old.rest.faults)
+  ends_one name old new came (is_done text checked same) = ends_of _ (is_reported text) same
+  ends_one name old new came (not_done text stop checked refused given) = ends_at ⊤ _ stop
+
+  pub checks_end : (names : List (List ℕ)) (old new : World R F W V) (came : Came)
+      → ChecksAll finds form setting remaining reads opens file_remaining file_reads contents writes fault_writes names old new came
+      → Ends ⊤ came (new.rest.faults ≡ old.rest.faults)
+  checks_end names old new came (in_turn _ all) = ends_all Tries ⊤ ends_one names old new came all
+  checks_end names old new came (not_begun reported) = tt

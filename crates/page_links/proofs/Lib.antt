@@ -6,4 +6,3 @@ mod LawLemmas
 mod LinkLemmas
 mod TargetLemmas
 mod TextLemmas
-mod WordLemmas

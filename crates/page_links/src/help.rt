@@ -34,8 +34,7 @@ a column is a byte, as for most compilers, and a byte order mark has none. HOW i
 LABEL is that of a reference, and says which definition it uses; of others it is left out. The
 destination and the title are what is meant by their backslash escapes and character references.
 All three stand in quotation marks. Each byte of them that is a quotation mark, a backslash or not
-printable ASCII is printed as \\u00 and two hexadecimal digits. Of a page that is not UTF-8 one line
-is printed instead, FILE: not UTF-8.
+printable ASCII is printed as \\u00 and two hexadecimal digits.
 
 After the links come the labels that are wrong, at the references that use them, and then at the
 definitions:
@@ -52,7 +51,7 @@ label //, which is a comment.
   --json           prints each line as a JSON object: file, line and column; of a link start and
                    end, the bytes of the page before it and before what follows it, element, which
                    is link or image, type, which is HOW, destination, title and label; of a label
-                   fault and text; of a page that is not UTF-8 file and error
+                   fault and text
   --check          prints only what is wrong, and no links: the labels, and then the links that lead
                    nowhere, as no such file \"DESTINATION\" where that is relative and its file is not
                    there, as permission denied \"DESTINATION\" where a folder on the way to it may not
@@ -72,10 +71,15 @@ characters but alphabetic ones, marks, digits, hyphens and underscores; one that
 FILE is a page; - is standard input, and so is no FILE. The lines of the pages follow one another.
 After the word -- all words are files.
 
-A page is read whole before its lines are printed. Where a page can't be read, memory is refused or
-the output can't be written, the program stops and says why on standard error, unless the reader of
-the output has left.
+A page is read whole before its lines are printed. Of one that is not UTF-8 nothing is printed, and
+standard error has its name and how many bytes stand before the first that is wrong. Where a page
+can't be read, is not UTF-8, or memory is refused, the program says why on standard error and goes on
+with the next page. Where the output can't be written it stops, and says why unless the reader of the
+output has left.
+
+In a name, but as JSON, a tab, a line feed and a carriage return are \\t, \\n and \\r, and another
+control character is \\u{CODE} with its code in hexadecimal digits.
 
 The status is 0 where all is printed, 1 where --check has printed anything, 2 for an option that is
-not known, and 3 where the program stopped.
+not known, and 3 where a page is not printed or checked.
 ";

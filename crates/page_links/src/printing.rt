@@ -11,7 +11,6 @@ mod words;
 
 use crate::links::PageLink;
 use crate::printing::faults::push_fault_line;
-pub(crate) use crate::printing::json::push_file;
 use crate::printing::json::{push_fault_json, push_link_json};
 use crate::printing::words::push_link_line;
 use crate::reports::Report;

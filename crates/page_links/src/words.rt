@@ -1,11 +1,11 @@
 //! The words of the command line.
 ghost use Rattle.std.specs.Prelude.{◌≡◌};
-ghost use Rattle.page_links.specs.words.Words.{form_of, is_check, is_pages, setting_of};
+ghost use Rattle.page_links.specs.words.Words.{form_of, is_check, setting_of};
 
 use crate::printing::LinkForm;
 use markdown_events::event_reader::PageSetting;
 use markdown_inlines::extensions::InlineExtensions;
-use page_programs::words::{Request, has_option, parse_request, unknown_option};
+use page_programs::words::has_option;
 
 /// The options that the program has of its own.
 pub(crate) const OPTIONS: &[&str] = &["--json", "--check", "--gfm", "--wikilinks"];
@@ -35,23 +35,9 @@ pub(crate) fn form_of(words: &[&str]) -> LinkForm
     LinkForm::Words
 }
 
-/// Whether pages are checked: the words ask for that, have no option that is not known, and ask
-/// neither for the help nor for the version.
+/// Whether pages are checked.
 pub(crate) fn is_check(words: &[&str]) -> bool
     ensures { result ≡ is_check words.now }
 {
-    match unknown_option(OPTIONS, words) {
-        Some(_) => false,
-        None => has_option(words, "--check") && is_pages(parse_request(words)),
-    }
-}
-
-// Whether it is what is printed of pages.
-fn is_pages(request: Request) -> bool
-    ensures { result ≡ is_pages request }
-{
-    match request {
-        Request::Pages => true,
-        _ => false,
-    }
+    has_option(words, "--check")
 }

@@ -1,8 +1,10 @@
 -- What is printed of a page of which a write failed.
-use Rattle.std.proofs.Common.{ℕ, List, [], ◌++◌, ◌≡◌, Option, Some, None, Result, Ok, Err, IfErr, inl, inr, refl, sym, ap, ◌∙◌, append_assoc}
+use Rattle.std.proofs.Common.{ℕ, Bool, List, [], ◌++◌, ◌≡◌, Option, Some, None, Result, Ok, Err, IfOk, IfErr, inl, inr, refl, sym, ap, ◌∙◌, append_assoc}
 use Rattle.std.specs.Io.KnownBytes.{Appends, append_known}
 use Rattle.program_faults.specs.Faults.{AppendsPrefix}
-use Rattle.page_programs.specs.Cuts.{IsAllOf, IsCutShort, PrintsPart}
+use Rattle.page_programs.specs.Cuts.{IsAllOf, IsCutShort, PrintsAllOf, PrintsPart}
+use Rattle.page_programs.specs.Texts.{IsReadAs, PrintsText, is_unwritten}
+use Rattle.page_programs.proofs.ReadingLemmas.{appends-more}
 
 pub appends-known : (old : Option (List ℕ)) (bytes : List ℕ) → Appends old (append_known old bytes) bytes
 appends-known None bytes = tt
@@ -51,6 +53,24 @@ whole-cut is_printed begins title page text input left old new read printed fron
   inl (page, read, (text, printed, appends-known old (title ++ text))),
   cut-short old new (title ++ text) front,
 )
+
+module _ (mends : Bool) (is_printed : List ℕ → List ℕ → Type 0) (title page read text : List ℕ) where
+  -- so it is of one that was read as a text
+  pub text-cut : (input left old new : Option (List ℕ)) → IsAllOf input page → IsReadAs mends page read → is_printed read text
+      → AppendsPrefix old new (title ++ text) → PrintsPart (PrintsText mends is_printed title) (is_unwritten title) input left old new
+  text-cut input left old new all is printed front = (
+    append_known old (title ++ text),
+    inl (page, all, (read, text, is, printed, appends-known old (title ++ text))),
+    cut-short old new (title ++ text) front,
+  )
+
+  -- and that text is printed whole
+  pub text-printed : {T E : Type 0} (input old middle new : Option (List ℕ)) (r : Result T E) → IsAllOf input page → IsReadAs mends page read
+      → is_printed read text → Appends old middle title → IfOk r (λ _. Appends middle new text)
+      → IfOk r (λ _. PrintsAllOf (PrintsText mends is_printed title) input old new)
+  text-printed input old middle new (Ok t) all is printed first next =
+      (page, all, (read, text, is, printed, appends-more old middle new title text first next))
+  text-printed input old middle new (Err e) all is printed first next = tt
 
 -- it is due of one that was begun
 pub begun-cut : (prints : List ℕ → Option (List ℕ) → Option (List ℕ) → Type 0)

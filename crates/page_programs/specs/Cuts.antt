@@ -11,6 +11,10 @@ IsAllOf input page = IfSome input (λ bytes. page ≡ bytes)
 abbrev pub IsCutShort : Option (List ℕ) → Option (List ℕ) → Option (List ℕ) → Type 0
 IsCutShort old new whole = (bytes : List ℕ) × Appends old whole bytes × AppendsPrefix old new bytes
 
+-- all of the input is a page that is refused at this offset
+abbrev pub RefusesAllOf : (List ℕ → ℕ → Type 0) → Option (List ℕ) → ℕ → Type 0
+RefusesAllOf refuses input offset = (page : List ℕ) × IsAllOf input page × refuses page offset
+
 module _ (prints : List ℕ → Option (List ℕ) → Option (List ℕ) → Type 0) where
   -- Known bytes grow by what is printed of all of the input.
   abbrev pub PrintsAllOf : Option (List ℕ) → Option (List ℕ) → Option (List ℕ) → Type 0

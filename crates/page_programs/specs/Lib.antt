@@ -1,4 +1,9 @@
+pub mod Came
 pub mod Cuts
+pub mod Names
 pub mod Runs
 pub mod Stops
+pub mod Texts
+pub mod Tried
 pub mod Words
+pub mod Worlds

@@ -3,7 +3,7 @@ ghost use Rattle.std.specs.Prelude.{◌≡◌, ◌⊎◌, ℕ, List, Option, IfO
 ghost use Rattle.std.specs.Io.KnownBytes.{IsAtEnd};
 ghost use Rattle.program_faults.specs.Steps.{AreReads, CantWrite, HasEnded, HasFailed};
 ghost use Rattle.program_faults.specs.declared.reasons.Reason.{Reason};
-ghost use Rattle.page_programs.specs.Cuts.{PrintsAllOf, PrintsPart};
+ghost use Rattle.page_programs.specs.Cuts.{PrintsAllOf, PrintsPart, RefusesAllOf};
 ghost use Rattle.page_programs.specs.Stops.{IfWrite, IsWrite};
 ghost use Rattle.page_programs.specs.declared.stops.Stop.{Stop};
 
@@ -24,6 +24,10 @@ pub trait PrintsPages {
     // read at first, and this in the end; then it stopped, and no write had failed.
     ghost begins: { Self → List ℕ → Option (List ℕ) → Option (List ℕ) →
         Option (List ℕ) → Option (List ℕ) → Type 0 };
+
+    // A page of these bytes is refused, as it is not UTF-8: so many stand before the first that is
+    // wrong.
+    ghost refuses: { Self → List ℕ → ℕ → Type 0 };
 
     /// The title of the page of this name, of so many pages.
     fn make_title(&self, alloc: Global, pages: usize, name: &str) -> Result<String, AllocError>
@@ -52,6 +56,9 @@ pub trait PrintsPages {
         ensures failed { IfErr result (λ stop. (why : Reason) → stop ≡ Stop.Read why →
             HasFailed R.reads why input.new
             ⊎ AreReads R.reads 281474976710655 input.old input.new) }
+        ensures not_text { IfErr result (λ stop. (offset : ℕ) → stop ≡ Stop.NotText offset →
+            RefusesAllOf (refuses self.now) (R.remaining input.old) offset
+            × HasEnded R.reads input.new) }
         ensures refused { IfErr result (λ stop.
             IfWrite stop (λ why. CantWrite W.writes why output.new)) };
 }

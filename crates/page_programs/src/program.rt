@@ -1,28 +1,36 @@
 //! What a program does with its words, its input and its output.
-ghost use Rattle.std.specs.Prelude.{◌≡◌, ◌⊎◌, ℕ, List, IfOk, IfSome, IfErr, IsSome, Some, None, length};
+ghost use Rattle.std.specs.Prelude.{◌≡◌, ◌≢◌, ◌⊎◌, [], IfSome, IsSome, length};
 ghost use Rattle.std.specs.Io.KnownBytes.{Appends};
 ghost use Rattle.program_faults.specs.Faults.{AppendsPrefix};
 ghost use Rattle.program_faults.specs.Steps.{AreGiven, CantWrite};
-ghost use Rattle.page_programs.specs.Runs.{PrintsAll, PrintsNamed, stop_of};
-ghost use Rattle.page_programs.specs.Stops.{IfWrite, IsWrite, stop_parts, unknown_parts};
+ghost use Rattle.program_faults.specs.declared.reasons.Reason.{Reason};
+ghost use Rattle.page_programs.specs.Came.{status_of};
+ghost use Rattle.page_programs.specs.Runs.{PrintsAll};
+ghost use Rattle.page_programs.specs.Stops.{stop_parts, unknown_parts};
+ghost use Rattle.page_programs.specs.Tried.{AreHandled};
 ghost use Rattle.page_programs.specs.Words.{pages_of, request_of, texts, unknown_of};
+ghost use Rattle.page_programs.specs.Worlds.{world};
+ghost use Rattle.page_programs.specs.declared.came.Came.{Came};
 ghost use Rattle.page_programs.specs.declared.stops.Stop.{Stop};
 ghost use Rattle.page_programs.specs.declared.words.Request.TheVariants.{Pages, Help, Version};
 
+use crate::came::status_of;
 use crate::files::OpensFiles;
 use crate::pages::PrintsPages;
+use crate::printing::Printing;
 use crate::says::Says;
 use crate::stops::{Stop, report_stop};
-use crate::words::{Request, name_pages, parse_request, unknown_option};
-use crate::writing::write_text;
-use program_faults::{Reason, StepReader, StepWriter, complain};
+use crate::tries::{TriesPages, try_operands};
+use crate::words::{Request, parse_request, unknown_option};
+use program_faults::{Reason, StepReader, StepWriter, complain, write_whole};
 use std::alloc::Global;
 
-/// Runs a program that has these options and says this of itself on its words, without its name,
-/// and answers its status.
+/// Runs a program that has these options, says this of itself and prints pages in this way on its
+/// words, without its name, and answers its status.
 ///
 /// 0: done. 2: an option that is not known, and nothing is read. 3: a page that can't be opened or
-/// read, memory that is refused, or output that can't be written; there it stops.
+/// read, or is refused, or memory that is refused, after which it goes on with the next page; or
+/// output that can't be written, where it stops.
 pub fn run_program<P: PrintsPages, R: StepReader, F: OpensFiles, W: StepWriter, V: StepWriter>(
     alloc: Global,
     says: &Says,
@@ -55,29 +63,88 @@ pub fn run_program<P: PrintsPages, R: StepReader, F: OpensFiles, W: StepWriter, 
         AppendsPrefix (W.contents output.old) (W.contents output.new) says.now.version.now }
     ensures unread { (request_of words.now ≡ Help) ⊎ (request_of words.now ≡ Version) →
         (input.new ≡ input.old) × (files.new ≡ files.old) }
+    ensures unwritten { result ≡ 3 → (request_of words.now ≡ Help)
+        ⊎ (request_of words.now ≡ Version)
+        → (why : Reason) × AreGiven V.writes faults.old
+        (stop_parts says.now.name.now [] (Stop.Write why)) faults.new
+        × CantWrite W.writes why output.new }
 
     // Pages.
-    ensures printed { result ≡ 0 → request_of words.now ≡ Pages →
-        PrintsAll (P.titles printer.now (length (pages_of words.now)))
-        (P.prints printer.now) (P.begins printer.now)
+    ensures printed { result ≢ 2 → request_of words.now ≡ Pages →
+        (came : Came) × (result ≡ status_of came)
+        × PrintsAll (P.titles printer.now (length (pages_of words.now)))
+        (P.prints printer.now) (P.begins printer.now) (P.refuses printer.now)
         R.remaining R.reads F.opens F.File.remaining F.File.reads
-        (pages_of words.now)
-        input.old files.old (W.contents output.old)
-        input.new files.new (W.contents output.new) None }
+        W.contents W.writes V.writes says.now.name.now (pages_of words.now)
+        (world input.old files.old output.old faults.old)
+        (world input.new files.new output.new faults.new) came }
 
-    // At status 0 nothing is written to the faults; at 3 the reason is, as far as they take it.
+    // At status 0 nothing is written to the faults.
     ensures done { result ≡ 0 → faults.new ≡ faults.old }
-    ensures stopped { result ≡ 3 → (name : List ℕ) × (stop : Stop)
-        × AreGiven V.writes faults.old (stop_parts says.now.name.now name stop) faults.new
-        × IfWrite stop (λ why. CantWrite W.writes why output.new)
-        × ((request_of words.now ≡ Help) ⊎ (request_of words.now ≡ Version) → IsWrite stop)
-        × (request_of words.now ≡ Pages →
-        PrintsAll (P.titles printer.now (length (pages_of words.now)))
-        (P.prints printer.now) (P.begins printer.now)
-        R.remaining R.reads F.opens F.File.remaining F.File.reads
-        (pages_of words.now)
-        input.old files.old (W.contents output.old)
-        input.new files.new (W.contents output.new) (Some (name, stop))) }
+{
+    let printing = Printing {
+        program: says.name,
+        printer,
+    };
+    run_pages(
+        alloc, says, options, &printing, words, input, files, output, faults,
+    )
+}
+
+/// Runs a program that has these options, says this of itself and tries pages in this way on its
+/// words, without its name, and answers its status.
+///
+/// 0: done. 1: something is found in pages that are checked. 2: an option that is not known, and
+/// nothing is read. 3: a page that is not done, after which it goes on with the next; or output that
+/// can't be written, where it stops.
+pub fn run_pages<T: TriesPages<R, F, W, V>, R, F, W: StepWriter, V: StepWriter>(
+    alloc: Global,
+    says: &Says,
+    options: &[&str],
+    trier: &T,
+    words: &[&str],
+    input: &mut R,
+    files: &mut F,
+    output: &mut W,
+    faults: &mut V,
+) -> u8
+    ensures status { (result ≡ 0) ⊎ ((result ≡ 1) ⊎ ((result ≡ 2) ⊎ (result ≡ 3))) }
+
+    // An option that is not known.
+    ensures only_unknown { result ≡ 2 → IsSome (unknown_of (texts options.now) words.now) }
+    ensures unknown { IfSome (unknown_of (texts options.now) words.now) (λ word. (result ≡ 2)
+        × AreGiven V.writes faults.old
+        (unknown_parts says.now.name.now word.now says.now.usage.now) faults.new) }
+    ensures untouched { IsSome (unknown_of (texts options.now) words.now) →
+        (input.new ≡ input.old) × (files.new ≡ files.old) × (output.new ≡ output.old) }
+
+    // The help, and the version.
+    ensures help { result ≡ 0 → request_of words.now ≡ Help →
+        Appends (W.contents output.old) (W.contents output.new) says.now.help.now }
+    ensures version { result ≡ 0 → request_of words.now ≡ Version →
+        Appends (W.contents output.old) (W.contents output.new) says.now.version.now }
+    ensures help_front { request_of words.now ≡ Help →
+        AppendsPrefix (W.contents output.old) (W.contents output.new) says.now.help.now }
+    ensures version_front { request_of words.now ≡ Version →
+        AppendsPrefix (W.contents output.old) (W.contents output.new) says.now.version.now }
+    ensures unread { (request_of words.now ≡ Help) ⊎ (request_of words.now ≡ Version) →
+        (input.new ≡ input.old) × (files.new ≡ files.old) }
+    ensures silent { result ≡ 0 → (request_of words.now ≡ Help) ⊎ (request_of words.now ≡ Version)
+        → faults.new ≡ faults.old }
+    ensures unwritten { result ≡ 3 → (request_of words.now ≡ Help)
+        ⊎ (request_of words.now ≡ Version)
+        → (why : Reason) × AreGiven V.writes faults.old
+        (stop_parts says.now.name.now [] (Stop.Write why)) faults.new
+        × CantWrite W.writes why output.new }
+
+    // Pages.
+    ensures only_pages { result ≡ 1 → request_of words.now ≡ Pages }
+    ensures handled { result ≢ 2 → request_of words.now ≡ Pages →
+        (came : Came) × (result ≡ status_of came)
+        × AreHandled (T.tries trier.now (length (pages_of words.now)))
+        V.writes says.now.name.now (pages_of words.now)
+        (world input.old files.old output.old faults.old)
+        (world input.new files.new output.new faults.new) came }
 {
     if let Some(word) = unknown_option(options, words) {
         complain(faults, says.name);
@@ -86,168 +153,36 @@ pub fn run_program<P: PrintsPages, R: StepReader, F: OpensFiles, W: StepWriter, 
         complain(faults, says.usage);
         return 2;
     }
-    match answer(alloc, says, printer, words, input, files, output) {
+    match parse_request(words) {
+        Request::Pages => status_of(try_operands(
+            alloc, says.name, trier, words, input, files, output, faults,
+        )),
+        Request::Help => print_words(says.name, output, faults, says.help),
+        Request::Version => print_words(says.name, output, faults, says.version),
+    }
+}
+
+// Prints a text that is no page's, and answers the status.
+fn print_words<W: StepWriter, V: StepWriter>(
+    program: &str,
+    output: &mut W,
+    faults: &mut V,
+    text: &str,
+) -> u8
+    ensures status { (result ≡ 0) ⊎ (result ≡ 3) }
+    ensures written { result ≡ 0 → Appends (W.contents output.old)
+        (W.contents output.new) text.now }
+    ensures front { AppendsPrefix (W.contents output.old) (W.contents output.new) text.now }
+    ensures silent { result ≡ 0 → faults.new ≡ faults.old }
+    ensures refused { result ≡ 3 → (why : Reason) × AreGiven V.writes faults.old
+        (stop_parts program.now [] (Stop.Write why)) faults.new
+        × CantWrite W.writes why output.new }
+{
+    match write_whole(output, text) {
         Ok(()) => 0,
-        Err((name, stop)) => {
-            report_stop(says.name, faults, name, stop);
+        Err(reason) => {
+            report_stop(program, faults, "", Stop::Write(reason));
             3
         }
     }
-}
-
-// Writes what is asked for, or answers at the page of which name it stops, and why.
-fn answer<'a, P: PrintsPages, R: StepReader, F: OpensFiles, W: StepWriter>(
-    alloc: Global,
-    says: &Says,
-    printer: &P,
-    words: &[&'a str],
-    input: &mut R,
-    files: &mut F,
-    output: &mut W,
-) -> Result<(), (&'a str, Stop)>
-    ensures help { IfOk result (λ _. request_of words.now ≡ Help →
-        Appends (W.contents output.old) (W.contents output.new) says.now.help.now) }
-    ensures version { IfOk result (λ _. request_of words.now ≡ Version →
-        Appends (W.contents output.old) (W.contents output.new) says.now.version.now) }
-    ensures help_front { request_of words.now ≡ Help →
-        AppendsPrefix (W.contents output.old) (W.contents output.new) says.now.help.now }
-    ensures version_front { request_of words.now ≡ Version →
-        AppendsPrefix (W.contents output.old) (W.contents output.new) says.now.version.now }
-    ensures unread { (request_of words.now ≡ Help) ⊎ (request_of words.now ≡ Version) →
-        (input.new ≡ input.old) × (files.new ≡ files.old) }
-    ensures write { IfErr result (λ stop.
-        (request_of words.now ≡ Help) ⊎ (request_of words.now ≡ Version) → IsWrite stop.1) }
-    ensures refused { IfErr result (λ stop.
-        IfWrite stop.1 (λ why. CantWrite W.writes why output.new)) }
-    ensures printed { IfOk result (λ _. request_of words.now ≡ Pages →
-        PrintsAll (P.titles printer.now (length (pages_of words.now)))
-        (P.prints printer.now) (P.begins printer.now)
-        R.remaining R.reads F.opens F.File.remaining F.File.reads
-        (pages_of words.now)
-        input.old files.old (W.contents output.old)
-        input.new files.new (W.contents output.new) None) }
-    ensures stopped { IfErr result (λ stop. request_of words.now ≡ Pages →
-        PrintsAll (P.titles printer.now (length (pages_of words.now)))
-        (P.prints printer.now) (P.begins printer.now)
-        R.remaining R.reads F.opens F.File.remaining F.File.reads
-        (pages_of words.now)
-        input.old files.old (W.contents output.old)
-        input.new files.new (W.contents output.new) (Some (stop.0.now, stop.1))) }
-{
-    match parse_request(words) {
-        Request::Pages => print_operands(alloc, printer, words, input, files, output),
-        Request::Help => write_words(output, says.help),
-        Request::Version => write_words(output, says.version),
-    }
-}
-
-// Writes a text that is no page's.
-fn write_words<'a, W: StepWriter>(output: &mut W, text: &str) -> Result<(), (&'a str, Stop)>
-    ensures written { IfOk result (λ _.
-        Appends (W.contents output.old) (W.contents output.new) text.now) }
-    ensures front { AppendsPrefix (W.contents output.old) (W.contents output.new) text.now }
-    ensures write { IfErr result (λ stop. IsWrite stop.1) }
-    ensures refused { IfErr result (λ stop.
-        IfWrite stop.1 (λ why. CantWrite W.writes why output.new)) }
-{
-    match write_text(output, text) {
-        Ok(()) => Ok(()),
-        Err(stop) => Err(("", stop)),
-    }
-}
-
-// Writes what is printed of each page that the words name.
-fn print_operands<'a, P: PrintsPages, R: StepReader, F: OpensFiles, W: StepWriter>(
-    alloc: Global,
-    printer: &P,
-    words: &[&'a str],
-    input: &mut R,
-    files: &mut F,
-    output: &mut W,
-) -> Result<(), (&'a str, Stop)>
-    ensures printed { IfOk result (λ _.
-        PrintsAll (P.titles printer.now (length (pages_of words.now)))
-        (P.prints printer.now) (P.begins printer.now)
-        R.remaining R.reads F.opens F.File.remaining F.File.reads
-        (pages_of words.now)
-        input.old files.old (W.contents output.old)
-        input.new files.new (W.contents output.new) None) }
-    ensures stopped { IfErr result (λ stop.
-        PrintsAll (P.titles printer.now (length (pages_of words.now)))
-        (P.prints printer.now) (P.begins printer.now)
-        R.remaining R.reads F.opens F.File.remaining F.File.reads
-        (pages_of words.now)
-        input.old files.old (W.contents output.old)
-        input.new files.new (W.contents output.new) (Some (stop.0.now, stop.1))) }
-    ensures refused { IfErr result (λ stop.
-        IfWrite stop.1 (λ why. CantWrite W.writes why output.new)) }
-{
-    let names = match name_pages(alloc, words) {
-        Ok(names) => names,
-        Err(_) => return Err(("", Stop::Memory)),
-    };
-    print_pages(alloc, printer, &names, input, files, output)
-}
-
-// Writes what is printed of each page of these names.
-fn print_pages<'a, P: PrintsPages, R: StepReader, F: OpensFiles, W: StepWriter>(
-    alloc: Global,
-    printer: &P,
-    names: &[&'a str],
-    input: &mut R,
-    files: &mut F,
-    output: &mut W,
-) -> Result<(), (&'a str, Stop)>
-    ensures printed { IfOk result (λ _.
-        PrintsAll (P.titles printer.now (length (texts names.now)))
-        (P.prints printer.now) (P.begins printer.now)
-        R.remaining R.reads F.opens F.File.remaining F.File.reads
-        (texts names.now)
-        input.old files.old (W.contents output.old)
-        input.new files.new (W.contents output.new) None) }
-    ensures stopped { IfErr result (λ stop.
-        PrintsAll (P.titles printer.now (length (texts names.now)))
-        (P.prints printer.now) (P.begins printer.now)
-        R.remaining R.reads F.opens F.File.remaining F.File.reads
-        (texts names.now)
-        input.old files.old (W.contents output.old)
-        input.new files.new (W.contents output.new) (Some (stop.0.now, stop.1))) }
-    ensures refused { IfErr result (λ stop.
-        IfWrite stop.1 (λ why. CantWrite W.writes why output.new)) }
-{
-    for name in names {
-        if let Err(stop) = print_named(alloc, printer, names.len(), name, input, files, output) {
-            return Err((*name, stop));
-        }
-    }
-    Ok(())
-}
-
-// Writes what is printed of the page of this name, of so many pages.
-fn print_named<P: PrintsPages, R: StepReader, F: OpensFiles, W: StepWriter>(
-    alloc: Global,
-    printer: &P,
-    pages: usize,
-    name: &str,
-    input: &mut R,
-    files: &mut F,
-    output: &mut W,
-) -> Result<(), Stop>
-    ensures printed { PrintsNamed (P.titles printer.now pages)
-        (P.prints printer.now) (P.begins printer.now)
-        R.remaining R.reads F.opens F.File.remaining F.File.reads name.now
-        input.old files.old (W.contents output.old)
-        input.new files.new (W.contents output.new) (stop_of result) }
-    ensures refused { IfErr result (λ stop.
-        IfWrite stop (λ why. CantWrite W.writes why output.new)) }
-{
-    let title = printer.make_title(alloc, pages, name)?;
-    if name == "-" {
-        return printer.print_page(alloc, title.as_str(), input, output);
-    }
-    let mut file = match files.open_named(name) {
-        Ok(file) => file,
-        Err(reason) => return Err(Stop::Read(reason)),
-    };
-    printer.print_page(alloc, title.as_str(), &mut file, output)
 }

@@ -48,6 +48,7 @@ impl Unread {
         ensures room { OnOk result (length self.new.text.items + READ_SIZE * self.new.reads
             ≤ length self.old.text.items + READ_SIZE * self.old.reads) }
         ensures unwritten { IfErr result (λ stop. (why : Reason) → stop ≢ Stop.Write why) }
+        ensures taken { IfErr result (λ stop. (offset : ℕ) → stop ≢ Stop.NotText offset) }
         ensures reads { (count : ℕ) × (self.new.reads + count ≡ self.old.reads)
             × AreReads R.reads count input.old input.new }
         ensures ended { IfOk result (λ has_ended. IsTrue has_ended →
@@ -92,6 +93,7 @@ pub fn read_page<R: StepReader>(alloc: Global, input: &mut R) -> Result<Vec<u8>,
     ensures read { IfOk result (λ _. IsAtEnd (R.remaining input.new)) }
     ensures ended { IfOk result (λ _. HasEnded R.reads input.new) }
     ensures unwritten { IfErr result (λ stop. (why : Reason) → stop ≢ Stop.Write why) }
+    ensures taken { IfErr result (λ stop. (offset : ℕ) → stop ≢ Stop.NotText offset) }
     ensures reads { (count : ℕ) × AreReads R.reads count input.old input.new }
     ensures failed { IfErr result (λ stop. (why : Reason) → stop ≡ Stop.Read why →
         HasFailed R.reads why input.new ⊎ AreReads R.reads 281474976710655 input.old input.new) }

@@ -1,8 +1,9 @@
 //! Why a program stops before the end, and how it says so.
 ghost use Rattle.std.specs.Prelude.{◌≡◌};
 ghost use Rattle.program_faults.specs.Steps.{AreGiven};
-ghost use Rattle.page_programs.specs.Stops.{stop_parts, shown_name, write_parts};
+ghost use Rattle.page_programs.specs.Stops.{parts_for, write_parts};
 
+use itoa::Buffer;
 use program_faults::{Reason, StepWriter, complain};
 use std::alloc::AllocError;
 
@@ -11,6 +12,8 @@ use std::alloc::AllocError;
 pub enum Stop {
     /// The page can't be opened, or not be read.
     Read(Reason),
+    /// The page is not UTF-8, and is refused: so many bytes stand before the first that is wrong.
+    NotText(usize),
     /// The output can't be written.
     Write(Reason),
     /// Memory is refused.
@@ -27,16 +30,24 @@ impl From<AllocError> for Stop {
     }
 }
 
-/// Tells of a stop at the page of this name.
-pub fn report_stop<V: StepWriter>(program: &str, faults: &mut V, name: &str, stop: Stop)
-    ensures { AreGiven V.writes faults.old (stop_parts program.now name.now stop) faults.new }
+/// Tells of a stop at the page that is called so.
+pub fn report_stop<V: StepWriter>(program: &str, faults: &mut V, called: &str, stop: Stop)
+    ensures { AreGiven V.writes faults.old (parts_for program.now called.now stop) faults.new }
 {
     match stop {
         Stop::Read(reason) => {
             complain(faults, program);
             complain(faults, ": ");
-            complain(faults, shown_name(name));
+            complain(faults, called);
             complain(faults, reason.line());
+        }
+        Stop::NotText(offset) => {
+            complain(faults, program);
+            complain(faults, ": ");
+            complain(faults, called);
+            complain(faults, ": not UTF-8: wrong byte at offset ");
+            complain(faults, Buffer::new().format(offset));
+            complain(faults, "\n");
         }
         Stop::Write(reason) => report_write(program, faults, reason),
         Stop::Memory => {
@@ -58,14 +69,4 @@ fn report_write<V: StepWriter>(program: &str, faults: &mut V, reason: Reason)
             complain(faults, reason.line());
         }
     }
-}
-
-// How a page is called.
-fn shown_name(name: &str) -> &str
-    ensures { result.now ≡ shown_name name.now }
-{
-    if name == "-" {
-        return "standard input";
-    }
-    name
 }

@@ -1,19 +1,14 @@
 -- What is made and said of a page.
-use Rattle.std.proofs.Common.{ℕ, Bool, List, inl, inr}
-use Rattle.page_tables.specs.Looks.{IsSaid}
+use Rattle.std.proofs.Common.{ℕ, Bool, List}
+use Rattle.page_tables.specs.Looks.{IsLook}
 use Rattle.page_tables.specs.Printed.{IsPrinted}
 use Rattle.page_tables.specs.Widths.{display_width}
 use Rattle.page_tables.proofs.SettledLemmas.{made_formatted, made_same}
 
 -- the text is what a formatter makes of the page
-pub said_printed : (checks : Bool) (name page text notes lines : List ℕ) → IsSaid checks name page text notes lines → IsPrinted page text
-said_printed checks name page text notes lines said = record {
-  is_printed = elim said [
-    | inl look ↦ inl record {
-      is_text = look.is_text;
-      is_formatted = made_formatted display_width page look.marks look.are_marks text look.left look.is_made;
-      same = made_same display_width page look.marks look.are_marks text look.left look.is_made;
-    }
-    | inr none ↦ inr (none.no_text, none.same)
-  ];
+pub look_printed : (checks : Bool) (name page text notes lines : List ℕ) → IsLook checks name page text notes lines → IsPrinted page text
+look_printed checks name page text notes lines look = record {
+  is_text = look.is_text;
+  is_formatted = made_formatted display_width page look.marks look.are_marks text look.left look.is_made;
+  same = made_same display_width page look.marks look.are_marks text look.left look.is_made;
 }

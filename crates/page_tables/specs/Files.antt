@@ -46,8 +46,8 @@ module _ {F O N : Type 0} (refuses : F → Reason → F → Type 0) (reads : O �
   module _ (holds : F → List ℕ → Option (List ℕ)) (is_beside : F → List ℕ → List ℕ → Type 0) where
     -- What there is where the file of this name is not replaced: it stands as it was; or as it is, since it does not hold this page; or it
     -- may be written in part, and a copy of it is beside it.
-    abbrev pub IsRefused : List ℕ → List ℕ → F → F → Refusal → Type 0
-    IsRefused name page old new (Stands why) = Stood holds name old new × WasRefused why
-    IsRefused name page old new HasChanged = AreKept holds old new × IfSome (holds old name) (λ now. now ≢ page)
-    IsRefused name page old new (IsCopied why) =
+    abbrev pub IsUnreplaced : List ℕ → List ℕ → F → F → Refusal → Type 0
+    IsUnreplaced name page old new (Stands why) = Stood holds name old new × WasRefused why
+    IsUnreplaced name page old new HasChanged = AreKept holds old new × IfSome (holds old name) (λ now. now ≢ page)
+    IsUnreplaced name page old new (IsCopied why) =
         AreOthersKept holds name old new × WasRefused why × IfSome (holds old name) (λ before. is_beside new name before)

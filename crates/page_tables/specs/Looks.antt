@@ -1,12 +1,12 @@
 -- What is made and said of a page.
-use Rattle.std.specs.Prelude.{ℕ, Bool, true, false, not, ◌&&◌, ◌≡◌, ◌⊎◌, List, [], ◌++◌, string_bytes, if◌then◌else◌}
-use Rattle.std.specs.Str.{IsUtf8, bytes_eq}
+use Rattle.std.specs.Prelude.{ℕ, Bool, true, false, ◌≡◌, ◌⊎◌, List, [], ◌++◌, string_bytes, if◌then◌else◌}
+use Rattle.std.specs.Str.{IsUtf8}
 use Rattle.page_tables.specs.Changes.{changes_of}
 use Rattle.page_tables.specs.Formatted.{IsSettled}
 use Rattle.page_tables.specs.Layout.{laid_out}
 use Rattle.page_tables.specs.Marks.{AreMarksOf, MarkView}
 use Rattle.page_tables.specs.Misfits.{misfits}
-use Rattle.page_tables.specs.Reports.{change_lines, left_line, misfit_lines, not_text_line}
+use Rattle.page_tables.specs.Reports.{change_lines, left_line, misfit_lines}
 use Rattle.page_tables.specs.Widths.{display_width}
 use Rattle.page_tables.specs.declared.formatted.Made.{Made}
 use Rattle.page_tables.specs.declared.formatted.Made.TheVariants.{Stays, Becomes, IsLeft}
@@ -44,13 +44,3 @@ pub record IsLook (checks : Bool) (name page text notes lines : List ℕ) : Type
   pub is_made : IsMade display_width page marks text left
   pub are_notes : notes ≡ misfit_lines name page (misfits page marks) ++ (if left then left_line name else [])
   pub are_lines : lines ≡ (if checks then change_lines name page (changes_of display_width page marks text) else [])
-
--- one that is not UTF-8 stays
-pub record IsNoText (name page text notes lines : List ℕ) : Type 0 where
-  pub no_text : ¬ IsUtf8 page
-  pub same : text ≡ page
-  pub are_notes : notes ≡ not_text_line name
-  pub no_lines : lines ≡ []
-
-abbrev pub IsSaid : Bool → List ℕ → List ℕ → List ℕ → List ℕ → List ℕ → Type 0
-IsSaid checks name page text notes lines = IsLook checks name page text notes lines ⊎ IsNoText name page text notes lines

@@ -33,7 +33,3 @@ misfit_lines name page rows = flat_map (misfit_line name page) rows
 -- of a page that is left as it is
 abbrev pub left_line : List ℕ → List ℕ
 left_line name = name ++ (codes ":1:1: tables would not stay the same, and the page is left as it is" ++ line_feed ∷ [])
-
--- of a page that is not UTF-8
-abbrev pub not_text_line : List ℕ → List ℕ
-not_text_line name = name ++ (codes ":1:1: page is not UTF-8, and is left as it is" ++ line_feed ∷ [])

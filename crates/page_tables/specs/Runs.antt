@@ -1,19 +1,24 @@
 -- What becomes of the pages that the words name.
-use Rattle.std.specs.Prelude.{ℕ, Bool, true, false, not, ◌≡◌, ◌⊎◌, ⊤, List, [], ◌∷◌, Option, Result, Ok, Err, IfSome, if◌then◌else◌}
+use Rattle.std.specs.Prelude.{ℕ, Bool, true, false, not, ◌≡◌, ◌⊎◌, ⊤, List, Option, Result, Ok, Err, IfSome, codes, if◌then◌else◌}
 use Rattle.std.specs.Io.KnownBytes.{Appends, IsAtEnd}
 use Rattle.std.specs.Str.{bytes_eq}
 use Rattle.program_faults.specs.Faults.{AppendsPrefix}
-use Rattle.program_faults.specs.Steps.{AreGiven, AreReads, CantWrite, HasEnded, HasFailed, IsGiven}
+use Rattle.program_faults.specs.Steps.{AreReads, CantWrite, HasEnded, HasFailed, IsGiven}
 use Rattle.program_faults.specs.declared.reasons.Reason.{Reason}
+use Rattle.page_programs.specs.Came.{came_of}
+use Rattle.page_programs.specs.Cuts.{RefusesAllOf}
+use Rattle.page_programs.specs.Names.{shown}
+use Rattle.page_programs.specs.Texts.{IsRefused}
+use Rattle.page_programs.specs.Tried.{AreHandled}
 use Rattle.page_programs.specs.Words.{dash}
+use Rattle.page_programs.specs.Worlds.{IsReported, Outside, World}
+use Rattle.page_programs.specs.declared.came.Came.{Came}
 use Rattle.page_programs.specs.declared.stops.Stop.{Stop}
-use Rattle.page_programs.specs.declared.stops.Stop.TheVariants.{Read, Write, Memory}
-use Rattle.page_tables.specs.Files.{AreKept, IsRefused, IsReplaced}
-use Rattle.page_tables.specs.Halts.{came_at, came_of, halt_parts, worse}
-use Rattle.page_tables.specs.Looks.{IsSaid}
+use Rattle.page_programs.specs.declared.stops.Stop.TheVariants.{Read, NotText, Write, Memory}
+use Rattle.page_tables.specs.Files.{AreKept, IsReplaced, IsUnreplaced}
+use Rattle.page_tables.specs.Halts.{halt_came, halt_parts}
+use Rattle.page_tables.specs.Looks.{IsLook}
 use Rattle.page_tables.specs.Words.{is_check, task_for}
-use Rattle.page_tables.specs.declared.halts.Came.{Came}
-use Rattle.page_tables.specs.declared.halts.Came.TheVariants.{Done, IsNotDone, HasNoOutput}
 use Rattle.page_tables.specs.declared.halts.Halt.{Halt}
 use Rattle.page_tables.specs.declared.halts.Halt.TheVariants.{OfPage, OfFile}
 use Rattle.page_tables.specs.declared.words.Task.{Task}
@@ -27,31 +32,16 @@ module _ {R : Type 0} (remaining : R → Option (List ℕ)) (reads : R → Resul
     pub ended : HasEnded reads new
     pub reads_alone : (count : ℕ) × AreReads reads count old new
 
-  -- Why it was not: the last read failed, or there were as many reads as are made, or memory is refused.
+  -- Why it was not: the last read failed, or there were as many reads as are made; or all of it was read, and it is not UTF-8; or memory is
+  -- refused.
   abbrev pub CantRead : R → R → Stop → Type 0
   CantRead old new (Read why) = HasFailed reads why new ⊎ AreReads reads 281474976710655 old new
+  CantRead old new (NotText offset) = RefusesAllOf (IsRefused false) (remaining old) offset × HasEnded reads new
   CantRead old new (Write why) = ⊥
   CantRead old new Memory = ⊤
 
   abbrev pub IsUnread : R → R → Stop → Type 0
   IsUnread old new stop = CantRead old new stop × (count : ℕ) × AreReads reads count old new
-
--- what a run may change besides its input
-pub record Outside (F W V : Type 0) : Type 0 where
-  pub files : F
-  pub output : W
-  pub faults : V
-
-abbrev pub outside : {F W V : Type 0} → F → W → V → Outside F W V
-outside files output faults = record { files = files; output = output; faults = faults }
-
--- all that it may change
-pub record World (R F W V : Type 0) : Type 0 where
-  pub input : R
-  pub rest : Outside F W V
-
-abbrev pub world : {R F W V : Type 0} → R → F → W → V → World R F W V
-world input files output faults = record { input = input; rest = outside files output faults }
 
 -- what is printed of a page: its text, or where its tables change
 abbrev pub printed : Task → List ℕ → List ℕ → List ℕ
@@ -64,7 +54,7 @@ module _ {F O N W V : Type 0} (contents : W → Option (List ℕ)) (writes : W �
   -- This is made and said of a page, and what is said of tables that are left as they are is given to the faults.
   pub record IsNoted (checks : Bool) (name page text lines : List ℕ) (old new : Outside F W V) : Type 0 where
     pub notes : List ℕ
-    pub is_said : IsSaid checks name page text notes lines
+    pub is_said : IsLook checks (shown name) page text notes lines
     pub is_given : IsGiven fault_writes old.faults notes new.faults
 
   -- What is done with a page of this name: its text is printed; or the lines of tables that change are; or its file is replaced.
@@ -83,6 +73,7 @@ module _ {F O N W V : Type 0} (contents : W → Option (List ℕ)) (writes : W �
   -- file is changed; or the file is not replaced.
   abbrev pub IsHalted : Task → List ℕ → List ℕ → List ℕ → List ℕ → Outside F W V → Outside F W V → Halt → Type 0
   IsHalted task name page text lines old new (OfPage (Read why)) = ⊥
+  IsHalted task name page text lines old new (OfPage (NotText offset)) = ⊥
   IsHalted task name page text lines old new (OfPage Memory) = new ≡ old
   IsHalted task name page text lines old new (OfPage (Write why)) =
       IsNoted (is_check task) name page text lines old new
@@ -90,7 +81,7 @@ module _ {F O N W V : Type 0} (contents : W → Option (List ℕ)) (writes : W �
       × (new.files ≡ old.files) × CantWrite writes why new.output
   IsHalted task name page text lines old new (OfFile refusal) =
       IsNoted false name page text lines old new × (new.output ≡ old.output)
-      × IsRefused refuses file_reads copy_writes holds is_beside name page old.files new.files refusal
+      × IsUnreplaced refuses file_reads copy_writes holds is_beside name page old.files new.files refusal
 
   abbrev pub IsUsed : Task → List ℕ → List ℕ → Outside F W V → Outside F W V → Result Bool Halt → Type 0
   IsUsed task name page old new (Ok changed) =
@@ -121,7 +112,7 @@ module _ {R F O W V : Type 0} (remaining : R → Option (List ℕ)) (reads : R �
     from_file : (file last : O) → IsOpened name old new file → IsWhole file_remaining file_reads file last page
         → AreUnwritten old new → IsFetched name page old new
 
-  -- why it can't be read
+  -- Why it can't be read. Memory may be refused before it.
   pub data IsMissed (name : List ℕ) (stop : Stop) (old new : World R F W V) : Type 0 where
     of_input : bytes_eq name dash ≡ true → IsUnread remaining reads old.input new.input stop → new.rest.files ≡ old.rest.files
         → AreUnwritten old new → IsMissed name stop old new
@@ -129,6 +120,7 @@ module _ {R F O W V : Type 0} (remaining : R → Option (List ℕ)) (reads : R �
         → AreUnwritten old new → IsMissed name stop old new
     not_opened : (why : Reason) → bytes_eq name dash ≡ false → stop ≡ Read why → opens old.rest.files name (Err why) new.rest.files
         → AreKept holds old.rest.files new.rest.files → new.input ≡ old.input → AreUnwritten old new → IsMissed name stop old new
+    not_begun : stop ≡ Memory → new ≡ old → IsMissed name stop old new
 
 module _ {R F O N W V : Type 0} (remaining : R → Option (List ℕ)) (reads : R → Result (List ℕ) Reason → R → Type 0)
     (opens : F → List ℕ → Result O Reason → F → Type 0) (file_remaining : O → Option (List ℕ))
@@ -145,29 +137,12 @@ module _ {R F O N W V : Type 0} (remaining : R → Option (List ℕ)) (reads : R
     missed : (stop : Stop) → IsMissed remaining reads opens file_remaining file_reads holds name stop old new
         → IsHandled task name old new (Err (OfPage stop))
 
-  -- these parts were given to the faults, and nothing else was done
-  pub record IsReported (parts : List (List ℕ)) (old new : World R F W V) : Type 0 where
-    pub is_given : AreGiven fault_writes old.rest.faults parts new.rest.faults
-    pub same_input : new.input ≡ old.input
-    pub same_files : new.rest.files ≡ old.rest.files
-    pub same_output : new.rest.output ≡ old.rest.output
-
   -- What came of the page of a name. Where it is not done the faults are given why.
   pub data IsTried (task : Task) (name : List ℕ) (old new : World R F W V) : Came → Type 0 where
     is_done : (changes : Bool) → IsHandled task name old new (Ok changes) → IsTried task name old new (came_of changes)
-    not_done : (halt : Halt) (middle : World R F W V) → IsHandled task name old middle (Err halt) → IsReported (halt_parts name halt) middle new
-        → IsTried task name old new (came_at halt)
+    not_done : (halt : Halt) (middle : World R F W V) → IsHandled task name old middle (Err halt) → IsReported fault_writes (halt_parts name halt) middle new
+        → IsTried task name old new (halt_came halt)
 
-  -- What came of the pages of names: each is tried, one after another, up to the first at which the output can't be written. What came of
-  -- all is the worst that came of one.
-  pub data AreTried (task : Task) : List (List ℕ) → World R F W V → World R F W V → Came → Type 0 where
-    none_left : (at : World R F W V) → AreTried task [] at at Done
-    tried : (name : List ℕ) (names : List (List ℕ)) (old middle new : World R F W V) (one more : Came)
-        → IsTried task name old middle one → AreTried task names middle new more → AreTried task (name ∷ names) old new (worse one more)
-    last_tried : (name : List ℕ) (names : List (List ℕ)) (old new : World R F W V)
-        → IsTried task name old new HasNoOutput → AreTried task (name ∷ names) old new HasNoOutput
-
-  -- Memory may be refused before them.
-  pub data AreHandled (task : Task) (names : List (List ℕ)) (old new : World R F W V) : Came → Type 0 where
-    in_turn : (came : Came) → AreTried task names old new came → AreHandled task names old new came
-    not_begun : IsReported (halt_parts [] (OfPage Memory)) old new → AreHandled task names old new IsNotDone
+  -- What came of the pages of names: each is tried, one after another, up to the first at which the output can't be written.
+  abbrev pub HandlesAll : Task → List (List ℕ) → World R F W V → World R F W V → Came → Type 0
+  HandlesAll task = AreHandled (IsTried task) fault_writes (codes "fillaqut")

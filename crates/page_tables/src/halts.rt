@@ -1,24 +1,12 @@
-//! What came of a page, and how the program says why one is not done.
+//! How the program says why a page is not done.
 ghost use Rattle.program_faults.specs.Steps.{AreGiven};
 ghost use Rattle.std.specs.Prelude.{◌≡◌};
-ghost use Rattle.page_tables.specs.Halts.{came_at, came_of, halt_parts, refusal_parts, status_of, worse};
+ghost use Rattle.page_tables.specs.Halts.{halt_came, refusal_parts, halt_parts_for};
 
 use crate::replacing::Refusal;
+use page_programs::came::{Came, came_at};
 use page_programs::stops::{Stop, report_stop};
 use program_faults::{StepWriter, complain};
-
-/// What came of a page, or of several.
-#[derive(Clone, Copy)]
-pub enum Came {
-    /// It is done.
-    Done,
-    /// It is checked, and would change.
-    Changes,
-    /// It is not done.
-    IsNotDone,
-    /// It is not done, as the output can't be written; no more is done then.
-    HasNoOutput,
-}
 
 /// Why a page is not done.
 #[derive(Clone, Copy)]
@@ -29,15 +17,15 @@ pub enum Halt {
     OfFile(Refusal),
 }
 
-/// Tells why the page of this name is not done.
-pub(crate) fn report_halt<V: StepWriter>(faults: &mut V, name: &str, halt: Halt)
-    ensures { AreGiven V.writes faults.old (halt_parts name.now halt) faults.new }
+/// Tells why the page that is called so is not done.
+pub(crate) fn report_halt<V: StepWriter>(faults: &mut V, called: &str, halt: Halt)
+    ensures { AreGiven V.writes faults.old (halt_parts_for called.now halt) faults.new }
 {
     match halt {
-        Halt::OfPage(stop) => report_stop("fillaqut", faults, name, stop),
+        Halt::OfPage(stop) => report_stop("fillaqut", faults, called, stop),
         Halt::OfFile(refusal) => {
             complain(faults, "fillaqut: ");
-            complain(faults, name);
+            complain(faults, called);
             report_refusal(faults, refusal);
         }
     }
@@ -65,45 +53,12 @@ fn report_refusal<V: StepWriter>(faults: &mut V, refusal: Refusal)
     }
 }
 
-/// What came of a page that is done, by whether it is checked and would change.
-pub(crate) fn came_of(changes: bool) -> Came
-    ensures { result ≡ came_of changes }
-{
-    if changes {
-        return Came::Changes;
-    }
-    Came::Done
-}
-
-/// What came of one that is not.
-pub(crate) fn came_at(halt: Halt) -> Came
-    ensures { result ≡ came_at halt }
+/// What came of a page that is not done.
+pub(crate) fn halt_came(halt: Halt) -> Came
+    ensures { result ≡ halt_came halt }
 {
     match halt {
-        Halt::OfPage(Stop::Write(_)) => Came::HasNoOutput,
-        Halt::OfPage(Stop::Read(_) | Stop::Memory) | Halt::OfFile(_) => Came::IsNotDone,
-    }
-}
-
-/// The worse of two.
-pub(crate) fn worse(one: Came, other: Came) -> Came
-    ensures { result ≡ worse one other }
-{
-    match (one, other) {
-        (Came::HasNoOutput, _) | (_, Came::HasNoOutput) => Came::HasNoOutput,
-        (Came::IsNotDone, _) | (_, Came::IsNotDone) => Came::IsNotDone,
-        (Came::Changes, _) | (_, Came::Changes) => Came::Changes,
-        (Came::Done, Came::Done) => Came::Done,
-    }
-}
-
-/// The status of a run.
-pub(crate) fn status_of(came: Came) -> u8
-    ensures { result ≡ status_of came }
-{
-    match came {
-        Came::Done => 0,
-        Came::Changes => 1,
-        Came::IsNotDone | Came::HasNoOutput => 3,
+        Halt::OfPage(stop) => came_at(stop),
+        Halt::OfFile(_) => Came::IsNotDone,
     }
 }

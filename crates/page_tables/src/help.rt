@@ -29,15 +29,20 @@ nothing is written.
 
 A table with a row of more cells than columns, or of none, is left as it is, and standard error has
 FILE:LINE:COLUMN of the row. The tables of the page printed have the same cells in the same rows and
-columns, aligned alike, and are laid out: a page of which that would not be so, and one that is not
-UTF-8, is left as it is, and standard error says so.
+columns, aligned alike, and are laid out: a page of which that would not be so is left as it is, and
+standard error says so. Of a page that is not UTF-8 nothing is printed or written, and standard error
+has its name and how many bytes stand before the first that is wrong.
 
 FILE is a page; - is standard input, and so is no FILE. What is printed of the pages follows one
 another. After the word -- all words are files.
 
-A page is read whole before anything is done with it. Where a page can't be read, memory is refused
-or a file is not written over, the program says why on standard error and goes on with the next page.
-Where the output can't be written it stops, and says why unless the reader of the output has left.
+A page is read whole before anything is done with it. Where a page can't be read, is not UTF-8,
+memory is refused or a file is not written over, the program says why on standard error and goes on
+with the next page. Where the output can't be written it stops, and says why unless the reader of the
+output has left.
+
+In a name that is printed a tab, a line feed and a carriage return are \\t, \\n and \\r, and another
+control character is \\u{CODE} with its code in hexadecimal digits.
 
 The status is 0 where all is done, 1 where --check found a table that is not laid out, 2 for an
 option that is not known, and 3 where a page is not done.

@@ -2,21 +2,20 @@
 ghost use Rattle.std.specs.Prelude.{◌≡◌, ◌++◌, [], IfOk, map, not, string_bytes, if◌then◌else◌};
 ghost use Rattle.std.specs.Str.{bytes_eq};
 ghost use Rattle.page_tables.specs.Changes.{changes_of};
-ghost use Rattle.page_tables.specs.Looks.{IsLook, IsSaid, becomes_other, is_left, made_text};
+ghost use Rattle.page_tables.specs.Looks.{IsLook, becomes_other, is_left, made_text};
 ghost use Rattle.page_tables.specs.Marks.{mark_view};
 ghost use Rattle.page_tables.specs.Misfits.{misfits};
 ghost use Rattle.page_tables.specs.Printed.{IsPrinted};
-ghost use Rattle.page_tables.specs.Reports.{change_lines, left_line, misfit_lines, not_text_line};
+ghost use Rattle.page_tables.specs.Reports.{change_lines, left_line, misfit_lines};
 ghost use Rattle.page_tables.specs.Widths.{display_width};
 
 use crate::changes::changes_of;
 use crate::formatted::{Made, becomes_other, is_left, made_of};
 use crate::marks::{Mark, marks_of_page};
 use crate::misfits::misfits;
-use crate::reports::{push_changes, push_left, push_misfits, push_not_text};
+use crate::reports::{push_changes, push_left, push_misfits};
 use crate::widths::DisplayWidths;
 use std::alloc::{AllocError, Global};
-use std::str::from_utf8;
 
 /// What is made and said of a page.
 #[derive(Drop)]
@@ -54,26 +53,18 @@ impl Look {
 /// # Errors
 ///
 /// `AllocError` where memory is refused.
-pub fn look_at_page(
-    alloc: Global,
-    name: &str,
-    page: &[u8],
-    checks: bool,
-) -> Result<Look, AllocError>
-    ensures said { IfOk result (λ look. IsSaid checks name.now page.now
+pub fn look_at_page(alloc: Global, name: &str, page: &str, checks: bool) -> Result<Look, AllocError>
+    ensures said { IfOk result (λ look. IsLook checks name.now page.now
         (made_text page.now look.made)
         (string_bytes look.notes) (string_bytes look.lines)) }
     ensures printed { IfOk result (λ look. IsPrinted page.now (made_text page.now look.made)) }
     ensures changes { IfOk result (λ look. becomes_other look.made
         ≡ not (bytes_eq (made_text page.now look.made) page.now)) }
 {
-    match from_utf8(page) {
-        Ok(text) => look_at_text(alloc, name, text, checks),
-        Err(_) => look_at_bytes(alloc, name),
-    }
+    look_at_text(alloc, name, page, checks)
 }
 
-// The same of a page that is a text.
+// The same, by its tables.
 fn look_at_text(alloc: Global, name: &str, page: &str, checks: bool) -> Result<Look, AllocError>
     ensures look { IfOk result (λ look. IsLook checks name.now page.now
         (made_text page.now look.made)
@@ -131,19 +122,4 @@ fn lines_of(
     let heads = changes_of(alloc, page, &DisplayWidths, marks, made)?;
     push_changes(&mut lines, name, page.as_bytes(), &heads)?;
     Ok(lines)
-}
-
-// What is said of a page that is not UTF-8.
-fn look_at_bytes(alloc: Global, name: &str) -> Result<Look, AllocError>
-    ensures stays { IfOk result (λ look. look.made ≡ Made.Stays) }
-    ensures notes { IfOk result (λ look. string_bytes look.notes ≡ not_text_line name.now) }
-    ensures lines { IfOk result (λ look. string_bytes look.lines ≡ []) }
-{
-    let mut notes = String::new(alloc);
-    push_not_text(&mut notes, name)?;
-    Ok(Look {
-        made: Made::Stays,
-        notes,
-        lines: String::new(alloc),
-    })
 }

@@ -4,23 +4,24 @@ ghost use Rattle.std.specs.Io.KnownBytes.{Appends};
 ghost use Rattle.program_faults.specs.Faults.{AppendsPrefix};
 ghost use Rattle.program_faults.specs.Steps.{AreGiven, CantWrite};
 ghost use Rattle.program_faults.specs.declared.reasons.Reason.{Reason};
+ghost use Rattle.page_programs.specs.Came.{status_of};
 ghost use Rattle.page_programs.specs.Stops.{stop_parts, unknown_parts};
 ghost use Rattle.page_programs.specs.Words.{pages_of, request_of, unknown_of};
+ghost use Rattle.page_programs.specs.Worlds.{world};
+ghost use Rattle.page_programs.specs.declared.came.Came.{Came};
 ghost use Rattle.page_programs.specs.declared.stops.Stop.{Stop};
 ghost use Rattle.page_programs.specs.declared.words.Request.TheVariants.{Pages, Help, Version};
-ghost use Rattle.page_tables.specs.Halts.{status_of};
-ghost use Rattle.page_tables.specs.Runs.{AreHandled, world};
+ghost use Rattle.page_tables.specs.Runs.{HandlesAll};
 ghost use Rattle.page_tables.specs.Words.{own_options, task_of};
-ghost use Rattle.page_tables.specs.declared.halts.Came.{Came};
 
 use crate::files::ReplacesFiles;
-use crate::halts::status_of;
-use crate::handling::handle_operands;
+use crate::handling::Tables;
 use crate::help::{HELP, USAGE, VERSION};
 use crate::words::task_of;
-use page_programs::stops::{Stop, report_stop};
-use page_programs::words::{Request, parse_request, unknown_option};
-use program_faults::{Reason, StepReader, StepWriter, complain, write_whole};
+use page_programs::program::run_pages;
+use page_programs::says::Says;
+use page_programs::stops::Stop;
+use program_faults::{Reason, StepReader, StepWriter};
 use std::alloc::Global;
 
 /// Runs the program on its words, without its name, and answers its status.
@@ -69,62 +70,30 @@ pub fn run_program<R: StepReader, F: ReplacesFiles, W: StepWriter, V: StepWriter
     // Pages.
     ensures handled { result ≢ 2 → request_of words.now ≡ Pages →
         (came : Came) × (result ≡ status_of came)
-        × AreHandled R.remaining R.reads F.opens F.File.remaining F.File.reads F.holds
+        × HandlesAll R.remaining R.reads F.opens F.File.remaining F.File.reads F.holds
         F.refuses F.NewFile.writes F.is_beside W.contents W.writes V.writes
         (task_of words.now) (pages_of words.now)
         (world input.old files.old output.old faults.old)
         (world input.new files.new output.new faults.new) came }
 {
-    if let Some(word) = unknown_option(&["--check", "--write"], words) {
-        complain(faults, "fillaqut");
-        complain(faults, ": unknown option ");
-        complain(faults, word);
-        complain(faults, USAGE);
-        return 2;
-    }
-    match parse_request(words) {
-        Request::Pages => run_on_pages(alloc, words, input, files, output, faults),
-        Request::Help => print_words(output, faults, HELP),
-        Request::Version => print_words(output, faults, VERSION),
-    }
-}
-
-// Prints a text that is no page's, and answers the status.
-fn print_words<W: StepWriter, V: StepWriter>(output: &mut W, faults: &mut V, text: &str) -> u8
-    ensures status { (result ≡ 0) ⊎ (result ≡ 3) }
-    ensures written { result ≡ 0 → Appends (W.contents output.old)
-        (W.contents output.new) text.now }
-    ensures front { AppendsPrefix (W.contents output.old) (W.contents output.new) text.now }
-    ensures silent { result ≡ 0 → faults.new ≡ faults.old }
-    ensures refused { result ≡ 3 → (why : Reason) × AreGiven V.writes faults.old
-        (stop_parts (codes "fillaqut") [] (Stop.Write why)) faults.new
-        × CantWrite W.writes why output.new }
-{
-    match write_whole(output, text) {
-        Ok(()) => 0,
-        Err(reason) => {
-            report_stop("fillaqut", faults, "", Stop::Write(reason));
-            3
-        }
-    }
-}
-
-// Does with the pages what the words ask for, and answers the status.
-fn run_on_pages<R: StepReader, F: ReplacesFiles, W: StepWriter, V: StepWriter>(
-    alloc: Global,
-    words: &[&str],
-    input: &mut R,
-    files: &mut F,
-    output: &mut W,
-    faults: &mut V,
-) -> u8
-    ensures status { (result ≡ 0) ⊎ ((result ≡ 1) ⊎ (result ≡ 3)) }
-    ensures handled { (came : Came) × (result ≡ status_of came)
-        × AreHandled R.remaining R.reads F.opens F.File.remaining F.File.reads F.holds
-        F.refuses F.NewFile.writes F.is_beside W.contents W.writes V.writes
-        (task_of words.now) (pages_of words.now)
-        (world input.old files.old output.old faults.old)
-        (world input.new files.new output.new faults.new) came }
-{
-    status_of(handle_operands(alloc, task_of(words), words, input, files, output, faults))
+    let says = Says {
+        name: "fillaqut",
+        usage: USAGE,
+        help: HELP,
+        version: VERSION,
+    };
+    let tables = Tables {
+        task: task_of(words),
+    };
+    run_pages(
+        alloc,
+        &says,
+        &["--check", "--write"],
+        &tables,
+        words,
+        input,
+        files,
+        output,
+        faults,
+    )
 }

@@ -1,6 +1,6 @@
 //! Replacing what a file holds, while a copy of that is beside it.
 ghost use Rattle.std.specs.Prelude.{◌≡◌, ◌≢◌, ◌⊎◌, Some, None, IfOk, IfErr, IfSome};
-ghost use Rattle.page_tables.specs.Files.{AreKept, AreOthersKept, HeldPage, HoldsNow, IsRefused, WasRefused};
+ghost use Rattle.page_tables.specs.Files.{AreKept, AreOthersKept, HeldPage, HoldsNow, IsUnreplaced, WasRefused};
 
 use crate::files::ReplacesFiles;
 use page_programs::reading::read_page;
@@ -38,7 +38,7 @@ pub fn replace_file<F: ReplacesFiles>(
     ensures replaced { IfOk result (λ _.
         HoldsNow F.holds name.now bytes.now files.old files.new) }
     ensures others { AreOthersKept F.holds name.now files.old files.new }
-    ensures refused { IfErr result (IsRefused F.refuses F.File.reads F.NewFile.writes
+    ensures refused { IfErr result (IsUnreplaced F.refuses F.File.reads F.NewFile.writes
         F.holds F.is_beside name.now page.now files.old files.new) }
 {
     let copy = match copy_beside(files, name, page) {
@@ -113,6 +113,7 @@ fn open_same<F: ReplacesFiles>(
         }
         Err(Stop::Read(reason) | Stop::Write(reason)) => Err(reason),
         Err(Stop::Memory) => Err(Reason::Memory),
+        Err(Stop::NotText(_)) => unreachable!(),
     }
 }
 
@@ -132,7 +133,7 @@ fn write_guarded<F: ReplacesFiles>(
     ensures replaced { IfOk result (λ _.
         HoldsNow F.holds name.now bytes.now files.old files.new) }
     ensures others { AreOthersKept F.holds name.now files.old files.new }
-    ensures refused { IfErr result (IsRefused F.refuses F.File.reads F.NewFile.writes
+    ensures refused { IfErr result (IsUnreplaced F.refuses F.File.reads F.NewFile.writes
         F.holds F.is_beside name.now page.now files.old files.new) }
 {
     match files.write_over(file, name, &copy, bytes) {

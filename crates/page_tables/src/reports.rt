@@ -2,7 +2,7 @@
 ghost use Rattle.std.specs.Prelude.{◌≡◌, ◌++◌, OnOk, string_bytes};
 ghost use Rattle.markdown_blocks.specs.byte_order_mark.ByteOrderMark.{text_of};
 ghost use Rattle.page_positions.specs.private.Lines.{IsLineOf};
-ghost use Rattle.page_tables.specs.Reports.{change_line, change_lines, left_line, line_at, misfit_line, misfit_lines, misfit_words, not_text_line};
+ghost use Rattle.page_tables.specs.Reports.{change_line, change_lines, left_line, line_at, misfit_line, misfit_lines, misfit_words};
 
 use crate::misfits::Misfit;
 use page_positions::{Line, Position, text_position_at};
@@ -108,13 +108,4 @@ pub(crate) fn push_left(text: &mut String, name: &str) -> Result<(), AllocError>
 {
     text.push_str(name)?;
     text.push_str(":1:1: tables would not stay the same, and the page is left as it is\n")
-}
-
-/// Adds the line of a page that is not UTF-8.
-pub(crate) fn push_not_text(text: &mut String, name: &str) -> Result<(), AllocError>
-    ensures { OnOk result (string_bytes text.new
-        ≡ string_bytes text.old ++ not_text_line name.now) }
-{
-    text.push_str(name)?;
-    text.push_str(":1:1: page is not UTF-8, and is left as it is\n")
 }

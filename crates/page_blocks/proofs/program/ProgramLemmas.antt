@@ -1,5 +1,5 @@
 -- A page that is printed while it is read.
-use Rattle.std.proofs.Common.{ℕ, Bool, true, false, IsTrue, List, [], ◌++◌, ◌≡◌, Option, Some, None, string_bytes, drop}
+use Rattle.std.proofs.Common.{ℕ, Bool, true, false, IsTrue, List, [], ◌++◌, ◌≡◌, Option, string_bytes, drop}
 use Rattle.std.proofs.Common.{inl, refl, sym, ap, ◌∙◌, subst, append_assoc, append-nil}
 use Rattle.std.specs.Io.KnownBytes.{Consumes, Appends, IsAtEnd, append_known}
 use Rattle.markdown_scanners_tree.specs.scanners.TextLines.{lines_of}

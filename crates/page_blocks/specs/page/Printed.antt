@@ -231,3 +231,7 @@ abbrev pub IsBegunTo : BlockExtensions → Form → List ℕ → Option (List �
 IsBegunTo asked form title input left old new =
     (read : List ℕ) × Consumes input left read
     × (text : List ℕ) × ((more : List ℕ) → PrintsFront asked form (read ++ more) text) × Appends old new (title ++ text)
+
+-- No page is refused: its bytes need not be UTF-8.
+abbrev pub no_page_is_refused : List ℕ → ℕ → Type 0
+no_page_is_refused page offset = ⊥

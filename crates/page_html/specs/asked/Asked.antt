@@ -1,5 +1,5 @@
 -- What the words of the command line ask for, beside what those of each program ask for. An option and its value are one word.
-use Rattle.std.specs.Prelude.{ℕ, Bool, ◌||◌, List, [], ◌∷◌, codes, if◌then◌else◌}
+use Rattle.std.specs.Prelude.{ℕ, Bool, true, false, ◌||◌, List, [], ◌∷◌, codes, if◌then◌else◌}
 use Rattle.std.specs.Borrow.{Bor}
 use Rattle.markdown_inlines.specs.declared.extensions.InlineExtensions.{InlineExtensions}
 use Rattle.markdown_events.specs.declared.settings.PageSetting.{PageSetting}
@@ -12,6 +12,9 @@ use Rattle.page_html.specs.declared.asked.Form.TheVariants.{Html, Events, Json}
 
 abbrev pub safe : List ℕ
 safe = codes "--safe"
+
+abbrev pub strict : List ℕ
+strict = codes "--strict"
 
 abbrev pub to_html : List ℕ
 to_html = codes "--to html"
@@ -38,7 +41,7 @@ abbrev pub gfm : List ℕ
 gfm = codes "--gfm"
 
 abbrev pub own_options : List (List ℕ)
-own_options = safe ∷ to_html ∷ to_events ∷ to_json ∷ table ∷ strikethrough ∷ tasklist ∷ wikilinks ∷ gfm ∷ []
+own_options = safe ∷ strict ∷ to_html ∷ to_events ∷ to_json ∷ table ∷ strikethrough ∷ tasklist ∷ wikilinks ∷ gfm ∷ []
 
 -- ---- what they ask for
 
@@ -55,5 +58,11 @@ setting_of words = record { tables = is_on table words; tasks = is_on tasklist w
 abbrev pub form_of : List (Bor (List ℕ)) → Form
 form_of words = if asks to_events words then Events else if asks to_json words then Json else Html
 
+abbrev pub is_html : Form → Bool
+is_html Html = true
+is_html Events = false
+is_html Json = false
+
 abbrev pub asked_of : List (Bor (List ℕ)) → Asked
-asked_of words = record { form = form_of words; safe = asks safe words; setting = setting_of words }
+asked_of words =
+    record { form = form_of words; safe = asks safe words; strict = asks strict words; setting = setting_of words }

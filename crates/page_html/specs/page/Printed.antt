@@ -1,14 +1,14 @@
 -- What the program prints of a page.
-use Rattle.std.specs.Prelude.{ℕ, Bool, true, false, ◌≡◌, ◌⊎◌, List, [], ◌++◌, Option}
-use Rattle.std.specs.Io.KnownBytes.{Appends}
-use Rattle.std.specs.Str.{IsUtf8}
+use Rattle.std.specs.Prelude.{ℕ, Bool, true, false, not, ◌&&◌, ◌≡◌, List, [], ◌++◌, Option}
 use Rattle.markdown_html.specs.PageHtml.{IsHtmlOf}
 use Rattle.markdown_html.specs.SafeHtml.{IsSafeHtml}
 use Rattle.markdown_html.specs.SafeSetting.{default_schemes, safe_setting}
 use Rattle.markdown_html.specs.Settings.{Setting, plain_setting}
 use Rattle.program_faults.specs.Faults.{AppendsPrefix}
+use Rattle.page_programs.specs.Texts.{PrintsText}
 use Rattle.page_events.specs.declared.page.EventForm.TheVariants as EventForms
-use Rattle.page_events.specs.page.Printed as EventLines
+use Rattle.page_events.specs.page.Printed.{AreEventLines}
+use Rattle.page_html.specs.asked.Asked.{is_html}
 use Rattle.page_html.specs.declared.asked.Asked.{Asked}
 use Rattle.page_html.specs.declared.asked.Form.{Form}
 use Rattle.page_html.specs.declared.asked.Form.TheVariants.{Html, Events, Json}
@@ -18,16 +18,15 @@ abbrev pub html_setting : Bool → Setting
 html_setting true = safe_setting default_schemes
 html_setting false = plain_setting
 
--- The text is the HTML of the page.
-pub record IsPageHtml (asked : Asked) (page text : List ℕ) : Type 0 where
-  pub is_text : IsUtf8 page
-  pub is_html : IsHtmlOf page asked.setting (html_setting asked.safe) text
+-- Whether a page that is not UTF-8 is read as text all the same: its HTML is printed, and it is not asked that such pages are refused.
+abbrev pub mends : Asked → Bool
+mends asked = is_html asked.form && not asked.strict
 
--- The text is what is printed of the page in this form. Of one that is not UTF-8 it is a line that says so.
+-- The text is what is printed of the page in this form.
 abbrev pub IsPrintedAs : Form → Asked → List ℕ → List ℕ → Type 0
-IsPrintedAs Html asked page text = IsPageHtml asked page text ⊎ ((¬ IsUtf8 page) × (text ≡ EventLines.not_text))
-IsPrintedAs Events asked page text = EventLines.IsPrinted EventForms.Words asked.setting page text
-IsPrintedAs Json asked page text = EventLines.IsPrinted EventForms.Json asked.setting page text
+IsPrintedAs Html asked page text = IsHtmlOf page asked.setting (html_setting asked.safe) text
+IsPrintedAs Events asked page text = AreEventLines EventForms.Words asked.setting page text
+IsPrintedAs Json asked page text = AreEventLines EventForms.Json asked.setting page text
 
 -- Where safe HTML is asked for, no script has a place in the text.
 abbrev pub IsSafeIfAsked : Asked → List ℕ → Type 0
@@ -40,7 +39,7 @@ pub record IsPrinted (asked : Asked) (page text : List ℕ) : Type 0 where
 
 -- known bytes grow by the title, which is empty, and by what is printed of the page
 abbrev pub IsPrintedTo : Asked → List ℕ → List ℕ → Option (List ℕ) → Option (List ℕ) → Type 0
-IsPrintedTo asked title page old new = (text : List ℕ) × IsPrinted asked page text × Appends old new (title ++ text)
+IsPrintedTo asked = PrintsText (mends asked) (IsPrinted asked)
 
 -- the safe HTML of pages, one after another
 pub data AreSafePages : List ℕ → Type 0 where

@@ -1,6 +1,5 @@
 -- What the program prints of a page: a line for each of its blocks that has inlines, and then one for each of these.
 use Rattle.std.specs.Prelude.{ℕ, false, ◌+◌, ◌≡◌, ◌⊎◌, List, [], ◌∷◌, ◌++◌, length, take, drop, Option, MatchBool}
-use Rattle.std.specs.Io.KnownBytes.{Appends}
 use Rattle.std.specs.List.{concat, flat_map}
 use Rattle.std.specs.Option.{is_some}
 use Rattle.std.specs.Str.{IsUtf8}
@@ -17,6 +16,7 @@ use Rattle.markdown_inlines.specs.Links.{Known}
 use Rattle.markdown_inlines.specs.Output.{AreInlines}
 use Rattle.markdown_inlines.specs.declared.inlines.Inline.{Inline}
 use Rattle.markdown_inlines.specs.declared.links.Link.{Link}
+use Rattle.page_programs.specs.Texts.{PrintsText}
 use Rattle.page_inlines.specs.printing.Lines.{has_inlines, block_line, inline_line, not_text}
 
 -- the labels that a page defines (4.7)
@@ -85,14 +85,6 @@ pub record IsPrinted (page text : List ℕ) : Type 0 where
   pub is_page : IsPage no_extensions (text_of page) pieces
   pub is_text : IsPiecesText known page 0 (text_start page) pieces text
 
--- nothing is printed before a page
-abbrev pub no_title : List ℕ → List ℕ
-no_title name = []
-
 -- known bytes grow by the title, which is empty, and by what is printed of the page
 abbrev pub IsPrintedTo : List ℕ → List ℕ → Option (List ℕ) → Option (List ℕ) → Type 0
-IsPrintedTo title page old new = (text : List ℕ) × IsPrinted page text × Appends old new (title ++ text)
-
--- nothing of the page is printed, whatever was read of it
-abbrev pub is_unwritten : List ℕ → Option (List ℕ) → Option (List ℕ) → Option (List ℕ) → Option (List ℕ) → Type 0
-is_unwritten title input left old new = new ≡ old
+IsPrintedTo = PrintsText false IsPrinted

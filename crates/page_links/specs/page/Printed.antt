@@ -1,11 +1,11 @@
 -- What the program prints of a page: a line for each of its links and images, and of what is reported of its labels, in words or as JSON.
-use Rattle.std.specs.Prelude.{ℕ, ◌≡◌, ◌⊎◌, List, [], ◌∷◌, ◌++◌, codes, Option}
+use Rattle.std.specs.Prelude.{ℕ, ◌≡◌, List, ◌++◌, Option}
 use Rattle.std.specs.Io.KnownBytes.{Appends}
 use Rattle.std.specs.List.{flat_map}
 use Rattle.std.specs.Str.{IsUtf8}
-use Rattle.markdown_scanners_tree.specs.Ascii.{line_feed}
 use Rattle.markdown_events.specs.declared.settings.PageSetting.{PageSetting}
 use Rattle.page_links.specs.declared.checks.FileState.{FileState}
+use Rattle.page_programs.specs.Names.{shown}
 use Rattle.page_links.specs.declared.printing.LinkForm.{LinkForm}
 use Rattle.page_links.specs.declared.printing.LinkForm.TheVariants.{Words, Json}
 use Rattle.page_links.specs.anchors.Anchors.{AreAnchorsOf}
@@ -14,8 +14,13 @@ use Rattle.page_links.specs.labels.Labels.{AreLabelReports}
 use Rattle.page_links.specs.links.Links.{AreLinksOf, Seen}
 use Rattle.page_positions.specs.Positions.{text_position}
 use Rattle.page_links.specs.printing.Faults.{fault_in}
-use Rattle.page_links.specs.printing.Lines.{file_member, line_in}
+use Rattle.page_links.specs.printing.Lines.{line_in}
 use Rattle.page_links.specs.reports.Reports.{Reported}
+
+-- The name of a page as lines in this form have it: in words no control character of it breaks a line.
+abbrev pub name_in : LinkForm → List ℕ → List ℕ
+name_in Words name = shown name
+name_in Json name = name
 
 -- the line of a link of a page of this name
 abbrev pub line_of : LinkForm → List ℕ → List ℕ → Seen → List ℕ
@@ -42,22 +47,6 @@ pub record IsList (form : LinkForm) (setting : PageSetting) (name page text : Li
   pub are_reports : AreLabelReports page setting links reports
   pub is_list : text ≡ list_of form name page links ++ reports_of form name page reports
 
--- the line of a page that is not UTF-8
-abbrev pub not_text : List ℕ → List ℕ
-not_text name = name ++ (codes ": not UTF-8" ++ line_feed ∷ [])
-
--- its object
-abbrev pub not_text_json : List ℕ → List ℕ
-not_text_json name = file_member name ++ codes ",\"error\":\"not UTF-8\"}\n"
-
-abbrev pub not_text_in : LinkForm → List ℕ → List ℕ
-not_text_in Words = not_text
-not_text_in Json = not_text_json
-
--- The text is what is printed of the page of this name. One that is not UTF-8 has no events, but a line that says so.
-abbrev pub IsPrinted : LinkForm → PageSetting → List ℕ → List ℕ → List ℕ → Type 0
-IsPrinted form setting name page text = IsList form setting name page text ⊎ ((¬ IsUtf8 page) × (text ≡ not_text_in form name))
-
 -- The text is the lines of what is reported of the page of this name where it is checked, and files may be found or not.
 pub record IsChecked (finds : List ℕ → FileState → Type 0) (form : LinkForm) (setting : PageSetting) (name page text : List ℕ) : Type 0 where
   pub is_text : IsUtf8 page
@@ -69,21 +58,16 @@ pub record IsChecked (finds : List ℕ → FileState → Type 0) (form : LinkFor
   pub are_labels : AreLabelReports page setting links labels
   pub targets : List Reported
   pub are_targets : AreTargetReports finds name anchors links targets
-  pub is_list : text ≡ reports_of form name page (labels ++ targets)
+  pub is_list : text ≡ reports_of form (name_in form name) page (labels ++ targets)
 
--- The same, or a line that says that the page is not UTF-8.
-abbrev pub IsCheck : (List ℕ → FileState → Type 0) → LinkForm → PageSetting → List ℕ → List ℕ → List ℕ → Type 0
-IsCheck finds form setting name page text =
-    IsChecked finds form setting name page text ⊎ ((¬ IsUtf8 page) × (text ≡ not_text_in form name))
-
--- each line begins with the name of the page, and nothing else is printed before it
+-- each line begins with the name of the page that is checked, and nothing else is printed before it
 abbrev pub by_name : List ℕ → List ℕ
 by_name name = name
 
--- known bytes grow by what is printed of the page of this name
+-- known bytes grow by what is printed of the page that is named so
 abbrev pub IsPrintedTo : LinkForm → PageSetting → List ℕ → List ℕ → Option (List ℕ) → Option (List ℕ) → Type 0
-IsPrintedTo form setting name page old new = (text : List ℕ) × IsPrinted form setting name page text × Appends old new text
+IsPrintedTo form setting name page old new = (text : List ℕ) × IsList form setting name page text × Appends old new text
 
 -- known bytes grow by what is printed of the page of this name where it is checked
 abbrev pub IsCheckedTo : (List ℕ → FileState → Type 0) → LinkForm → PageSetting → List ℕ → List ℕ → Option (List ℕ) → Option (List ℕ) → Type 0
-IsCheckedTo finds form setting name page old new = (text : List ℕ) × IsCheck finds form setting name page text × Appends old new text
+IsCheckedTo finds form setting name page old new = (text : List ℕ) × IsChecked finds form setting name page text × Appends old new text

@@ -1,11 +1,9 @@
 -- What the words of the command line ask for, beside what those of each program ask for.
-use Rattle.std.specs.Prelude.{ℕ, Bool, true, false, ◌&&◌, List, [], ◌∷◌, codes, is_none, if◌then◌else◌}
+use Rattle.std.specs.Prelude.{ℕ, Bool, List, [], ◌∷◌, codes, if◌then◌else◌}
 use Rattle.std.specs.Borrow.{Bor}
 use Rattle.markdown_inlines.specs.declared.extensions.InlineExtensions.{InlineExtensions}
 use Rattle.markdown_events.specs.declared.settings.PageSetting.{PageSetting}
-use Rattle.page_programs.specs.Words.{asks, request_of, unknown_of}
-use Rattle.page_programs.specs.declared.words.Request.{Request}
-use Rattle.page_programs.specs.declared.words.Request.TheVariants.{Pages}
+use Rattle.page_programs.specs.Words.{asks}
 use Rattle.page_links.specs.declared.printing.LinkForm.{LinkForm}
 use Rattle.page_links.specs.declared.printing.LinkForm.TheVariants as Form
 
@@ -36,10 +34,6 @@ setting_of words = record { tables = asks gfm words; tasks = asks gfm words; inl
 abbrev pub form_of : List (Bor (List ℕ)) → LinkForm
 form_of words = if asks json words then Form.Json else Form.Words
 
-abbrev pub is_pages : Request → Bool
-is_pages Pages = true
-is_pages request = false
-
--- pages are checked where no option is unknown, `--check` asks for that, and neither the help nor the version is asked for
+-- pages are checked where `--check` asks for that
 abbrev pub is_check : List (Bor (List ℕ)) → Bool
-is_check words = is_none (unknown_of own_options words) && (asks check words && is_pages (request_of words))
+is_check words = asks check words

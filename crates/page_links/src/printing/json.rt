@@ -50,8 +50,8 @@ fn push_element(text: &mut String, is_image: bool) -> Result<(), AllocError>
     push_word(text, "element", shown_as(is_image))
 }
 
-/// Adds the front of an object: the name of the page that it is of.
-pub(crate) fn push_file(alloc: Global, text: &mut String, name: &str) -> Result<(), AllocError>
+// Adds the front of an object: the name of the page that it is of.
+fn push_file(alloc: Global, text: &mut String, name: &str) -> Result<(), AllocError>
     ensures { OnOk result (string_bytes text.new ≡ string_bytes text.old ++ file_member name.now) }
 {
     text.push_str("{\"file\":\"")?;

@@ -2,6 +2,3 @@ use Rattle.page_events.proofs.program.run_program.Goals as goal
 
 pub returns-clause-printed : goal.returns-clause-printed
 returns-clause-printed g c = rw (← c.setting_of.ensures) c.run_program.ensures.printed
-
-pub returns-clause-stopped : goal.returns-clause-stopped
-returns-clause-stopped g c = rw (← c.setting_of.ensures) c.run_program.ensures.stopped

@@ -1,6 +1,5 @@
-use Rattle.std.proofs.Common.{[], append-nil, sym, ◌∙◌}
+use Rattle.std.proofs.Common.{[], sym, ◌∙◌}
 use Rattle.std.proofs.KnownBytes.{Appends-nil}
-use Rattle.std.specs.Prelude.{Some, None}
 use Rattle.std.proofs.lemmas.Result.{IfOk-weaker, IfErr-weaker}
 use Rattle.page_programs.specs.Runs.{from_input, from_file, not_opened}
 use Rattle.std.specs.Io.KnownBytes.{Appends}
@@ -12,7 +11,7 @@ returns-then-eq-clause-checked g c =
     IfOk-weaker c.check_page.result _ _
     (λ found all. (
       all.0,
-      λ before. from_input _ _ _ _ _ _ _ (sym c.eq.ensures ∙ c.if-eq.true) (all.1 before),
+      from_input _ _ _ _ _ _ _ (sym c.eq.ensures ∙ c.if-eq.true) all.1,
       all.2,
       all.3,
     ))
@@ -24,15 +23,16 @@ returns-then-eq-clause-checked g c =
 pub returns-then-eq-clause-stopped : goal.returns-then-eq-clause-stopped
 returns-then-eq-clause-stopped g c =
     IfErr-weaker c.check_page.result _ _
-    (λ stop all. (all.0, λ before. from_input _ _ _ _ _ _ _ (sym c.eq.ensures ∙ c.if-eq.true) (all.1 before), all.2))
+    (λ stop all. (all.0, from_input _ _ _ _ _ _ _ (sym c.eq.ensures ∙ c.if-eq.true) all.1, all.2))
     (page_stopped (g.L.FindsFiles.finds c.args.checks.now.finder.now) c.args.checks.now.form c.args.checks.now.setting g.R.Read.remaining
     g.R.StepReader.reads c.args.name.now c.args.input.now c.check_page.new.input g.W.Write.contents c.args.output.now c.check_page.new.output
-    c.check_page.result c.check_page.ensures.unwritten c.check_page.ensures.cut c.check_page.ensures.failed c.check_page.ensures.reads)
+    c.check_page.result c.check_page.ensures.unwritten c.check_page.ensures.cut c.check_page.ensures.failed
+    c.check_page.ensures.not_text c.check_page.ensures.reads)
 
 pub returns-in-Err-clause-stopped : goal.returns-in-Err-clause-stopped
 returns-in-Err-clause-stopped g c = (
   [],
-  λ before. rw append-nil (not_opened _ _ _ _ _ c.in-Err.reason (sym c.eq.ensures ∙ c.if-eq.false) c.in-Err.ensures),
+  not_opened _ _ _ _ _ c.in-Err.reason (sym c.eq.ensures ∙ c.if-eq.false) c.in-Err.ensures,
   Appends-nil (g.W.Write.contents c.args.output.now),
 )
 
@@ -41,7 +41,7 @@ returns-clause-checked g c =
     IfOk-weaker c.check_page-2.result _ _
     (λ found all. (
       all.0,
-      λ before. from_file _ _ _ _ _ _ _ c.in-Ok.file c.check_page-2.new.input (sym c.eq.ensures ∙ c.if-eq.false) c.in-Ok.ensures (all.1 before),
+      from_file _ _ _ _ _ _ _ c.in-Ok.file c.check_page-2.new.input (sym c.eq.ensures ∙ c.if-eq.false) c.in-Ok.ensures all.1,
       all.2,
       all.3,
     ))
@@ -55,9 +55,10 @@ returns-clause-stopped g c =
     IfErr-weaker c.check_page-2.result _ _
     (λ stop all. (
       all.0,
-      λ before. from_file _ _ _ _ _ _ _ c.in-Ok.file c.check_page-2.new.input (sym c.eq.ensures ∙ c.if-eq.false) c.in-Ok.ensures (all.1 before),
+      from_file _ _ _ _ _ _ _ c.in-Ok.file c.check_page-2.new.input (sym c.eq.ensures ∙ c.if-eq.false) c.in-Ok.ensures all.1,
       all.2,
     ))
     (page_stopped (g.L.FindsFiles.finds c.args.checks.now.finder.now) c.args.checks.now.form c.args.checks.now.setting g.F.File.Read.remaining
     g.F.File.StepReader.reads c.args.name.now c.in-Ok.file c.check_page-2.new.input g.W.Write.contents c.args.output.now c.check_page-2.new.output
-    c.check_page-2.result c.check_page-2.ensures.unwritten c.check_page-2.ensures.cut c.check_page-2.ensures.failed c.check_page-2.ensures.reads)
+    c.check_page-2.result c.check_page-2.ensures.unwritten c.check_page-2.ensures.cut c.check_page-2.ensures.failed
+    c.check_page-2.ensures.not_text c.check_page-2.ensures.reads)

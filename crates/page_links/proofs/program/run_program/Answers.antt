@@ -1,56 +1,47 @@
-use Rattle.std.proofs.Common.{inl, inr, sym, ◌∙◌}
+use Rattle.std.proofs.Common.{inl, inr, sym, ◌∙◌, arith}
 use Rattle.std.specs.Prelude.{⊤}
 use Rattle.std.proofs.lemmas.Bool.{false≢true}
-use Rattle.page_links.proofs.WordLemmas.{not_asked, options_known}
+use Rattle.page_programs.proofs.EndLemmas.{by_request, ends_done, not_pages}
+use Rattle.page_programs.specs.Words.{pages_of, request_of}
+use Rattle.page_programs.specs.Worlds.{world}
+use Rattle.page_links.proofs.CheckingLemmas.{checks_end}
 use Rattle.page_links.proofs.program.run_program.Goals as goal
 
-pub returns-then-is_check-clause-unknown : goal.returns-then-is_check-clause-unknown
-returns-then-is_check-clause-unknown g c = (options_known c.args.words.now (sym c.is_check.ensures ∙ c.if-is_check.true) _).1
-
-pub returns-then-is_check-clause-untouched : goal.returns-then-is_check-clause-untouched
-returns-then-is_check-clause-untouched g c = λ some.
-    absurd ((options_known c.args.words.now (sym c.is_check.ensures ∙ c.if-is_check.true) (λ word. ⊤)).0 some)
-
-pub returns-then-is_check-clause-help : goal.returns-then-is_check-clause-help
-returns-then-is_check-clause-help g c = λ zero help. absurd (not_asked c.args.words.now (sym c.is_check.ensures ∙ c.if-is_check.true) (inl help))
-
-pub returns-then-is_check-clause-version : goal.returns-then-is_check-clause-version
-returns-then-is_check-clause-version g c = λ zero version.
-    absurd (not_asked c.args.words.now (sym c.is_check.ensures ∙ c.if-is_check.true) (inr version))
-
-pub returns-then-is_check-clause-help_front : goal.returns-then-is_check-clause-help_front
-returns-then-is_check-clause-help_front g c = λ help. absurd (not_asked c.args.words.now (sym c.is_check.ensures ∙ c.if-is_check.true) (inl help))
-
-pub returns-then-is_check-clause-version_front : goal.returns-then-is_check-clause-version_front
-returns-then-is_check-clause-version_front g c = λ version.
-    absurd (not_asked c.args.words.now (sym c.is_check.ensures ∙ c.if-is_check.true) (inr version))
-
-pub returns-then-is_check-clause-unread : goal.returns-then-is_check-clause-unread
-returns-then-is_check-clause-unread g c = λ asked. absurd (not_asked c.args.words.now (sym c.is_check.ensures ∙ c.if-is_check.true) asked)
+pub returns-then-is_check-clause-printed : goal.returns-then-is_check-clause-printed
+returns-then-is_check-clause-printed g c = λ known pages unchecked.
+    absurd (false≢true (sym unchecked ∙ sym c.is_check.ensures ∙ c.if-is_check.true))
 
 pub returns-then-is_check-clause-checked : goal.returns-then-is_check-clause-checked
-returns-then-is_check-clause-checked g c = λ done so. c.run_checks.ensures.checked done
+returns-then-is_check-clause-checked g c =
+    rw (← c.form_of-form.ensures) (rw (← c.setting_of-setting.ensures) (λ known pages so. c.run_pages.ensures.handled known pages))
 
-pub returns-then-is_check-clause-stopped : goal.returns-then-is_check-clause-stopped
-returns-then-is_check-clause-stopped g c = λ three.
-    let so = sym c.is_check.ensures ∙ c.if-is_check.true in
-    let end = c.run_checks.ensures.stopped three in (
-      end.0,
-      end.1,
-      end.2,
-      end.3,
-      λ asked. absurd (not_asked c.args.words.now so asked),
-      λ pages unchecked. absurd (false≢true (sym unchecked ∙ so)),
-      λ again. (end.4, end.5, end.6),
-    )
+pub returns-then-is_check-clause-only_checked : goal.returns-then-is_check-clause-only_checked
+returns-then-is_check-clause-only_checked g c = λ one. (c.run_pages.ensures.only_pages one, sym c.is_check.ensures ∙ c.if-is_check.true)
+
+pub returns-then-is_check-clause-done : goal.returns-then-is_check-clause-done
+returns-then-is_check-clause-done g c = λ done.
+    by_request (request_of c.args.words.now) (λ pages.
+    let all = c.run_pages.ensures.handled (λ two. elim done [
+      | inl none ↦ absurd (omega (arith, none, two))
+      | inr one ↦ absurd (omega (arith, one, two))
+    ]) pages in
+    let ends = checks_end (g.L.FindsFiles.finds c.args.finder.now) c.form_of-form.result c.setting_of-setting.result
+    g.R.Read.remaining g.R.StepReader.reads g.F.OpensFiles.opens g.F.File.Read.remaining g.F.File.StepReader.reads
+    g.W.Write.contents g.W.StepWriter.writes g.V.StepWriter.writes (pages_of c.args.words.now)
+    (world c.args.input.now c.args.files.now c.args.output.now c.args.faults.now)
+    (world c.run_pages.new.input c.run_pages.new.files c.run_pages.new.output c.run_pages.new.faults) all.0 all.2 in
+    ends_done ⊤ _ all.0 ends (elim done [
+      | inl none ↦ inl (sym all.1 ∙ none)
+      | inr one ↦ inr (sym all.1 ∙ one)
+    ]))
+    (λ other. elim done [
+      | inl none ↦ c.run_pages.ensures.silent none other
+      | inr one ↦ absurd (not_pages (request_of c.args.words.now) (c.run_pages.ensures.only_pages one) other)
+    ])
 
 pub returns-clause-printed : goal.returns-clause-printed
 returns-clause-printed g c =
-    rw (← c.form_of.ensures) (rw (← c.setting_of.ensures) (λ zero pages unchecked. c.run_program.ensures.printed zero pages))
+    rw (← c.form_of-form.ensures) (rw (← c.setting_of-setting.ensures) (λ known pages unchecked. c.run_program.ensures.printed known pages))
 
-pub returns-clause-stopped : goal.returns-clause-stopped
-returns-clause-stopped g c =
-    let unchecked = sym c.is_check.ensures ∙ c.if-is_check.false in
-    rw (← c.form_of.ensures) (rw (← c.setting_of.ensures) (λ three.
-    let end = c.run_program.ensures.stopped three in
-    (end.0, end.1, end.2, end.3, end.4, λ pages same. end.5 pages, λ so. absurd (false≢true (sym unchecked ∙ so)))))
+pub returns-clause-checked : goal.returns-clause-checked
+returns-clause-checked g c = λ known pages so. absurd (false≢true (sym (sym c.is_check.ensures ∙ c.if-is_check.false) ∙ so))

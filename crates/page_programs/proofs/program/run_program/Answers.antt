@@ -1,20 +1,31 @@
-use Rattle.std.proofs.Common.{refl}
-use Rattle.program_faults.specs.Steps.{no_part, part}
-use Rattle.program_faults.proofs.StepLemmas.{printed-none}
+use Rattle.std.proofs.Common.{inl, length, sym, ◌∙◌, arith}
+use Rattle.page_programs.specs.Words.{pages_of, request_of}
+use Rattle.page_programs.specs.Worlds.{world}
+use Rattle.page_programs.proofs.EndLemmas.{by_request, ends_done, ends_found}
+use Rattle.page_programs.proofs.RunLemmas.{run_ends, without_one}
 use Rattle.page_programs.proofs.program.run_program.Goals as goal
 
-pub returns-in-Some-clause-unknown : goal.returns-in-Some-clause-unknown
-returns-in-Some-clause-unknown g c =
-    rw (← c.in-Some.ensures) (
-      refl,
-      part _ _ _ _ _ c.complain.ensures.given (part _ _ _ _ _ c.complain-in-Some.ensures.given
-          (part _ _ _ _ _ c.complain-in-Some-2.ensures.given (part _ _ _ _ _ c.complain-in-Some-3.ensures.given (no_part _)))),
-    )
+pub returns-clause-status : goal.returns-clause-status
+returns-clause-status g c =
+    without_one c.run_pages.result c.run_pages.ensures.status (λ one.
+    let all = c.run_pages.ensures.handled (λ two. absurd (omega (arith, one, two))) (c.run_pages.ensures.only_pages one) in
+    let ends = run_ends (g.P.PrintsPages.titles c.args.printer.now (length (pages_of c.args.words.now)))
+    (g.P.PrintsPages.prints c.args.printer.now) (g.P.PrintsPages.begins c.args.printer.now) (g.P.PrintsPages.refuses c.args.printer.now)
+    g.R.Read.remaining g.R.StepReader.reads g.F.OpensFiles.opens g.F.File.Read.remaining g.F.File.StepReader.reads
+    g.W.Write.contents g.W.StepWriter.writes g.V.StepWriter.writes c.args.says.now.name.now (pages_of c.args.words.now)
+    (world c.args.input.now c.args.files.now c.args.output.now c.args.faults.now)
+    (world c.run_pages.new.input c.run_pages.new.files c.run_pages.new.output c.run_pages.new.faults) all.0 all.2 in
+    ends_found ⊥ _ all.0 ends (sym all.1 ∙ one))
 
-pub returns-in-Some-clause-help_front : goal.returns-in-Some-clause-help_front
-returns-in-Some-clause-help_front g c = λ help.
-    (c.args.says.now.help.now, printed-none (g.W.Write.contents c.args.output.now) c.args.says.now.help.now)
-
-pub returns-in-Some-clause-version_front : goal.returns-in-Some-clause-version_front
-returns-in-Some-clause-version_front g c = λ version.
-    (c.args.says.now.version.now, printed-none (g.W.Write.contents c.args.output.now) c.args.says.now.version.now)
+pub returns-clause-done : goal.returns-clause-done
+returns-clause-done g c = λ none.
+    by_request (request_of c.args.words.now) (λ pages.
+    let all = c.run_pages.ensures.handled (λ two. absurd (omega (arith, none, two))) pages in
+    let ends = run_ends (g.P.PrintsPages.titles c.args.printer.now (length (pages_of c.args.words.now)))
+    (g.P.PrintsPages.prints c.args.printer.now) (g.P.PrintsPages.begins c.args.printer.now) (g.P.PrintsPages.refuses c.args.printer.now)
+    g.R.Read.remaining g.R.StepReader.reads g.F.OpensFiles.opens g.F.File.Read.remaining g.F.File.StepReader.reads
+    g.W.Write.contents g.W.StepWriter.writes g.V.StepWriter.writes c.args.says.now.name.now (pages_of c.args.words.now)
+    (world c.args.input.now c.args.files.now c.args.output.now c.args.faults.now)
+    (world c.run_pages.new.input c.run_pages.new.files c.run_pages.new.output c.run_pages.new.faults) all.0 all.2 in
+    ends_done ⊥ _ all.0 ends (inl (sym all.1 ∙ none)))
+    (λ other. c.run_pages.ensures.silent none other)

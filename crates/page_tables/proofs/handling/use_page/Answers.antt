@@ -5,15 +5,15 @@ use Rattle.page_tables.proofs.handling.use_page.Goals as goal
 
 pub returns-in-Ok-write_bytes : goal.returns-in-Ok-write_bytes
 returns-in-Ok-write_bytes g c = rw c.in-Print.is (
-  made_text c.args.page.now c.in-Ok.look.made,
-  string_bytes c.in-Ok.look.lines,
+  made_text c.args.page.now c.in-Ok-look_at_page.look.made,
+  string_bytes c.in-Ok-look_at_page.look.lines,
   (
     record {
-      notes = string_bytes c.in-Ok.look.notes;
-      is_said = rw (c.is_check.ensures ∙ ap is_check c.in-Print.is) at c.in-Ok.ensures.said;
-      is_given = rw c.as_str.ensures.value at c.complain.ensures.given;
+      notes = string_bytes c.in-Ok-look_at_page.look.notes;
+      is_said = rw (c.as_str.ensures.value, c.in-Ok.ensures, c.is_check.ensures ∙ ap is_check c.in-Print.is) at c.in-Ok-look_at_page.ensures.said;
+      is_given = rw c.as_str-2.ensures.value at c.complain.ensures.given;
     },
-    rw c.text.ensures at c.in-Ok-write_bytes.ensures.written,
+    rw (c.text.ensures, c.as_bytes.ensures.value) at c.in-Ok-write_bytes.ensures.written,
     refl,
     refl,
   ),
@@ -21,47 +21,47 @@ returns-in-Ok-write_bytes g c = rw c.in-Print.is (
 
 pub returns-in-Ok-write_whole : goal.returns-in-Ok-write_whole
 returns-in-Ok-write_whole g c = rw c.in-Check.is (
-  made_text c.args.page.now c.in-Ok.look.made,
-  string_bytes c.in-Ok.look.lines,
+  made_text c.args.page.now c.in-Ok-look_at_page.look.made,
+  string_bytes c.in-Ok-look_at_page.look.lines,
   (
     record {
-      notes = string_bytes c.in-Ok.look.notes;
-      is_said = rw (c.is_check.ensures ∙ ap is_check c.in-Check.is) at c.in-Ok.ensures.said;
-      is_given = rw c.as_str.ensures.value at c.complain.ensures.given;
+      notes = string_bytes c.in-Ok-look_at_page.look.notes;
+      is_said = rw (c.as_str.ensures.value, c.in-Ok.ensures, c.is_check.ensures ∙ ap is_check c.in-Check.is) at c.in-Ok-look_at_page.ensures.said;
+      is_given = rw c.as_str-2.ensures.value at c.complain.ensures.given;
     },
     rw c.as_str-in-Check.ensures.value at c.in-Ok-write_whole.ensures.written,
     refl,
-    c.changes.ensures ∙ c.in-Ok.ensures.changes,
+    c.changes.ensures ∙ c.in-Ok-look_at_page.ensures.changes,
   ),
 )
 
 pub returns-in-Ok-replace_with : goal.returns-in-Ok-replace_with
 returns-in-Ok-replace_with g c = rw c.in-Replace.is (
-  made_text c.args.page.now c.in-Ok.look.made,
-  string_bytes c.in-Ok.look.lines,
+  made_text c.args.page.now c.in-Ok-look_at_page.look.made,
+  string_bytes c.in-Ok-look_at_page.look.lines,
   (
     record {
-      notes = string_bytes c.in-Ok.look.notes;
-      is_said = rw (c.is_check.ensures ∙ ap is_check c.in-Replace.is) at c.in-Ok.ensures.said;
-      is_given = rw c.as_str.ensures.value at c.complain.ensures.given;
+      notes = string_bytes c.in-Ok-look_at_page.look.notes;
+      is_said = rw (c.as_str.ensures.value, c.in-Ok.ensures, c.is_check.ensures ∙ ap is_check c.in-Replace.is) at c.in-Ok-look_at_page.ensures.said;
+      is_given = rw c.as_str-2.ensures.value at c.complain.ensures.given;
     },
     refl,
-    c.in-Ok-replace_with.ensures.replaced,
+    rw c.as_bytes-in-Replace.ensures.value at c.in-Ok-replace_with.ensures.replaced,
     refl,
   ),
 )
 
 pub returns-in-Print : goal.returns-in-Print
 returns-in-Print g c = rw c.in-Print.is (
-  made_text c.args.page.now c.in-Ok.look.made,
-  string_bytes c.in-Ok.look.lines,
+  made_text c.args.page.now c.in-Ok-look_at_page.look.made,
+  string_bytes c.in-Ok-look_at_page.look.lines,
   (
     record {
-      notes = string_bytes c.in-Ok.look.notes;
-      is_said = rw (c.is_check.ensures ∙ ap is_check c.in-Print.is) at c.in-Ok.ensures.said;
-      is_given = rw c.as_str.ensures.value at c.complain.ensures.given;
+      notes = string_bytes c.in-Ok-look_at_page.look.notes;
+      is_said = rw (c.as_str.ensures.value, c.in-Ok.ensures, c.is_check.ensures ∙ ap is_check c.in-Print.is) at c.in-Ok-look_at_page.ensures.said;
+      is_given = rw c.as_str-2.ensures.value at c.complain.ensures.given;
     },
-    rw c.text.ensures at c.write_bytes.ensures.front,
+    rw (c.text.ensures, c.as_bytes.ensures.value) at c.write_bytes.ensures.front,
     refl,
     c.in-Err.ensures.refused,
   ),
@@ -69,13 +69,13 @@ returns-in-Print g c = rw c.in-Print.is (
 
 pub returns-in-Check : goal.returns-in-Check
 returns-in-Check g c = rw c.in-Check.is (
-  made_text c.args.page.now c.in-Ok.look.made,
-  string_bytes c.in-Ok.look.lines,
+  made_text c.args.page.now c.in-Ok-look_at_page.look.made,
+  string_bytes c.in-Ok-look_at_page.look.lines,
   (
     record {
-      notes = string_bytes c.in-Ok.look.notes;
-      is_said = rw (c.is_check.ensures ∙ ap is_check c.in-Check.is) at c.in-Ok.ensures.said;
-      is_given = rw c.as_str.ensures.value at c.complain.ensures.given;
+      notes = string_bytes c.in-Ok-look_at_page.look.notes;
+      is_said = rw (c.as_str.ensures.value, c.in-Ok.ensures, c.is_check.ensures ∙ ap is_check c.in-Check.is) at c.in-Ok-look_at_page.ensures.said;
+      is_given = rw c.as_str-2.ensures.value at c.complain.ensures.given;
     },
     rw c.as_str-in-Check.ensures.value at c.write_whole.ensures.front,
     refl,
@@ -85,15 +85,15 @@ returns-in-Check g c = rw c.in-Check.is (
 
 pub returns : goal.returns
 returns g c = (
-  made_text c.args.page.now c.in-Ok.look.made,
-  string_bytes c.in-Ok.look.lines,
+  made_text c.args.page.now c.in-Ok-look_at_page.look.made,
+  string_bytes c.in-Ok-look_at_page.look.lines,
   (
     record {
-      notes = string_bytes c.in-Ok.look.notes;
-      is_said = rw (c.is_check.ensures ∙ ap is_check c.in-Replace.is) at c.in-Ok.ensures.said;
-      is_given = rw c.as_str.ensures.value at c.complain.ensures.given;
+      notes = string_bytes c.in-Ok-look_at_page.look.notes;
+      is_said = rw (c.as_str.ensures.value, c.in-Ok.ensures, c.is_check.ensures ∙ ap is_check c.in-Replace.is) at c.in-Ok-look_at_page.ensures.said;
+      is_given = rw c.as_str-2.ensures.value at c.complain.ensures.given;
     },
     refl,
-    c.in-Err-replace_with.ensures.refused,
+    rw c.as_bytes-in-Replace.ensures.value at c.in-Err-replace_with.ensures.refused,
   ),
 )

@@ -1,5 +1,0 @@
-use Rattle.page_programs.specs.Runs.{no_memory}
-use Rattle.page_programs.proofs.program.print_operands.Goals as goal
-
-pub returns-in-Err-clause-stopped : goal.returns-in-Err-clause-stopped
-returns-in-Err-clause-stopped g c = no_memory _ _ c.args.input.now c.args.files.now (g.W.Write.contents c.args.output.now)
