@@ -10,7 +10,7 @@ use Rattle.program_faults.specs.Steps.{AreReads, HasEnded, HasFailed}
 use Rattle.program_faults.specs.declared.reasons.Reason.{Reason}
 use Rattle.page_programs.proofs.CutLemmas.{front-part}
 use Rattle.page_programs.proofs.EndLemmas.{Ends, ends_all, ends_at}
-use Rattle.page_programs.specs.Came.{came_of}
+use Rattle.page_programs.specs.Came.{came_of, is_reported}
 use Rattle.page_programs.specs.Cuts.{IsAllOf, RefusesAllOf}
 use Rattle.page_programs.specs.Runs.{Prints}
 use Rattle.page_programs.specs.Stops.{IsWrite}
@@ -20,7 +20,7 @@ use Rattle.page_programs.specs.Worlds.{World}
 use Rattle.page_programs.specs.declared.came.Came.{Came}
 use Rattle.page_programs.specs.declared.stops.Stop.{Stop}
 use Rattle.page_programs.specs.declared.stops.Stop.TheVariants.{Read, NotText, Write, Memory}
-use Rattle.page_links.specs.checking.Checking.{ChecksAll, IsTried, is_done, is_reported, not_done}
+use Rattle.page_links.specs.checking.Checking.{ChecksAll, IsTried, is_done, not_done}
 use Rattle.page_links.specs.declared.checks.FileState.{FileState}
 use Rattle.page_links.specs.declared.printing.LinkForm.{LinkForm}
 use Rattle.page_links.specs.page.Printed.{IsChecked, IsCheckedTo, by_name}

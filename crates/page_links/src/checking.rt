@@ -4,17 +4,18 @@ ghost use Rattle.std.specs.Io.KnownBytes.{Appends, IsAtEnd};
 ghost use Rattle.program_faults.specs.Faults.{AppendsPrefix};
 ghost use Rattle.program_faults.specs.Steps.{AreReads, CantWrite, HasEnded, HasFailed};
 ghost use Rattle.program_faults.specs.declared.reasons.Reason.{Reason};
+ghost use Rattle.page_programs.specs.Came.{is_reported};
 ghost use Rattle.page_programs.specs.Cuts.{IsAllOf, RefusesAllOf};
 ghost use Rattle.page_programs.specs.Stops.{IfWrite, IsWrite};
 ghost use Rattle.page_programs.specs.Texts.{IsRefused};
 ghost use Rattle.page_programs.specs.declared.stops.Stop.{Stop};
-ghost use Rattle.page_links.specs.checking.Checking.{ChecksNamed, IsTried, is_reported};
+ghost use Rattle.page_links.specs.checking.Checking.{ChecksNamed, IsTried};
 ghost use Rattle.page_links.specs.page.Printed.{IsChecked};
 
 use crate::checks::FindsFiles;
 use crate::page::{LinkForm, check_of_page};
 use markdown_events::event_reader::PageSetting;
-use page_programs::came::{Came, came_at, came_of};
+use page_programs::came::{Came, came_at, came_of, is_reported};
 use page_programs::files::OpensFiles;
 use page_programs::names::shown_name;
 use page_programs::stops::{Stop, report_stop};
@@ -146,11 +147,4 @@ fn check_page<L: FindsFiles, R: StepReader, W: StepWriter>(
     )?;
     write_text(output, text.as_str())?;
     Ok(is_reported(text.as_str()))
-}
-
-// Whether anything is printed.
-fn is_reported(text: &str) -> bool
-    ensures { result ≡ is_reported text.now }
-{
-    !text.is_empty()
 }

@@ -1,5 +1,5 @@
 -- What came of pages, and the status of a run.
-use Rattle.std.specs.Prelude.{ℕ, Bool, true, false}
+use Rattle.std.specs.Prelude.{ℕ, Bool, true, false, List, [], ◌∷◌}
 use Rattle.page_programs.specs.declared.came.Came.{Came}
 use Rattle.page_programs.specs.declared.came.Came.TheVariants.{Done, Found, IsNotDone, HasNoOutput}
 use Rattle.page_programs.specs.declared.stops.Stop.{Stop}
@@ -9,6 +9,11 @@ use Rattle.page_programs.specs.declared.stops.Stop.TheVariants.{Read, NotText, W
 abbrev pub came_of : Bool → Came
 came_of true = Found
 came_of false = Done
+
+-- a check finds something, if it prints anything
+abbrev pub is_reported : List ℕ → Bool
+is_reported [] = false
+is_reported (b ∷ text) = true
 
 -- what came of one at which the program stops
 abbrev pub came_at : Stop → Came

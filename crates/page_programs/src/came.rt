@@ -1,6 +1,6 @@
 //! What came of pages.
 ghost use Rattle.std.specs.Prelude.{◌≡◌, ◌↔◌, IsTrue};
-ghost use Rattle.page_programs.specs.Came.{came_at, came_of, status_of, worse};
+ghost use Rattle.page_programs.specs.Came.{came_at, came_of, is_reported, status_of, worse};
 ghost use Rattle.page_programs.specs.declared.came.Came.TheVariants.{HasNoOutput};
 
 use crate::stops::Stop;
@@ -26,6 +26,13 @@ pub fn came_of(found: bool) -> Came
         return Came::Found;
     }
     Came::Done
+}
+
+/// Whether a check that prints this text finds something.
+pub fn is_reported(text: &str) -> bool
+    ensures { result ≡ is_reported text.now }
+{
+    !text.is_empty()
 }
 
 /// What came of a page at which the program stops.

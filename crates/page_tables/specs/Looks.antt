@@ -34,13 +34,14 @@ module _ (width : List ℕ → ℕ) where
       (IsSettled width page (laid_out width page marks) × (text ≡ laid_out width page marks) × (left ≡ false))
       ⊎ ((¬ IsSettled width page (laid_out width page marks)) × (text ≡ page) × (left ≡ true))
 
--- What becomes of the page of this name, with what is said of tables that are left as they are, and if that is asked for of those that
--- change.
+-- What becomes of the page of this name, with what is said of what is left as it is; if it is checked the lines name the rows for which tables
+-- are, and then the tables that change.
 pub record IsLook (checks : Bool) (name page text notes lines : List ℕ) : Type 0 where
   pub is_text : IsUtf8 page
   pub marks : List MarkView
   pub are_marks : AreMarksOf page marks
   pub left : Bool
   pub is_made : IsMade display_width page marks text left
-  pub are_notes : notes ≡ misfit_lines name page (misfits page marks) ++ (if left then left_line name else [])
-  pub are_lines : lines ≡ (if checks then change_lines name page (changes_of display_width page marks text) else [])
+  pub are_notes : notes ≡ (if checks then [] else misfit_lines name page (misfits page marks)) ++ (if left then left_line name else [])
+  pub are_lines : lines ≡
+      (if checks then misfit_lines name page (misfits page marks) ++ change_lines name page (changes_of display_width page marks text) else [])

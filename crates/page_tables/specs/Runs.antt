@@ -1,11 +1,11 @@
 -- What becomes of the pages that the words name.
-use Rattle.std.specs.Prelude.{ℕ, Bool, true, false, not, ◌≡◌, ◌⊎◌, ⊤, List, Option, Result, Ok, Err, IfSome, codes, if◌then◌else◌}
+use Rattle.std.specs.Prelude.{ℕ, Bool, true, false, ◌≡◌, ◌⊎◌, ⊤, List, Option, Result, Ok, Err, IfSome, codes, if◌then◌else◌}
 use Rattle.std.specs.Io.KnownBytes.{Appends, IsAtEnd}
 use Rattle.std.specs.Str.{bytes_eq}
 use Rattle.program_faults.specs.Faults.{AppendsPrefix}
 use Rattle.program_faults.specs.Steps.{AreReads, CantWrite, HasEnded, HasFailed, IsGiven}
 use Rattle.program_faults.specs.declared.reasons.Reason.{Reason}
-use Rattle.page_programs.specs.Came.{came_of}
+use Rattle.page_programs.specs.Came.{came_of, is_reported}
 use Rattle.page_programs.specs.Cuts.{RefusesAllOf}
 use Rattle.page_programs.specs.Names.{shown}
 use Rattle.page_programs.specs.Texts.{IsRefused}
@@ -43,7 +43,7 @@ module _ {R : Type 0} (remaining : R → Option (List ℕ)) (reads : R → Resul
   abbrev pub IsUnread : R → R → Stop → Type 0
   IsUnread old new stop = CantRead old new stop × (count : ℕ) × AreReads reads count old new
 
--- what is printed of a page: its text, or where its tables change
+-- what is printed of a page: its text, or where its tables change or are left as they are
 abbrev pub printed : Task → List ℕ → List ℕ → List ℕ
 printed task text lines = if is_check task then lines else text
 
@@ -51,23 +51,24 @@ module _ {F O N W V : Type 0} (contents : W → Option (List ℕ)) (writes : W �
     (fault_writes : V → List ℕ → Result ℕ Reason → V → Type 0) (refuses : F → Reason → F → Type 0)
     (file_reads : O → Result (List ℕ) Reason → O → Type 0) (copy_writes : N → List ℕ → Result ℕ Reason → N → Type 0)
     (holds : F → List ℕ → Option (List ℕ)) (is_beside : F → List ℕ → List ℕ → Type 0) where
-  -- This is made and said of a page, and what is said of tables that are left as they are is given to the faults.
+  -- This is made and said of a page, and what is said of what is left as it is is given to the faults.
   pub record IsNoted (checks : Bool) (name page text lines : List ℕ) (old new : Outside F W V) : Type 0 where
     pub notes : List ℕ
     pub is_said : IsLook checks (shown name) page text notes lines
     pub is_given : IsGiven fault_writes old.faults notes new.faults
 
-  -- What is done with a page of this name: its text is printed; or the lines of tables that change are; or its file is replaced.
+  -- What is done with a page of this name: its text is printed; or the lines of its tables are, and something is found if there is one; or its
+  -- file is replaced.
   abbrev pub IsDone : Task → List ℕ → List ℕ → List ℕ → List ℕ → Outside F W V → Outside F W V → Bool → Type 0
-  IsDone Print name page text lines old new changed =
+  IsDone Print name page text lines old new found =
       IsNoted false name page text lines old new × Appends (contents old.output) (contents new.output) text
-      × (new.files ≡ old.files) × (changed ≡ false)
-  IsDone Check name page text lines old new changed =
+      × (new.files ≡ old.files) × (found ≡ false)
+  IsDone Check name page text lines old new found =
       IsNoted true name page text lines old new × Appends (contents old.output) (contents new.output) lines
-      × (new.files ≡ old.files) × (changed ≡ not (bytes_eq text page))
-  IsDone Replace name page text lines old new changed =
+      × (new.files ≡ old.files) × (found ≡ is_reported lines)
+  IsDone Replace name page text lines old new found =
       IsNoted false name page text lines old new × (new.output ≡ old.output)
-      × IsReplaced holds name page text old.files new.files × (changed ≡ false)
+      × IsReplaced holds name page text old.files new.files × (found ≡ false)
 
   -- Why a page is not done: memory is refused, and nothing is changed; or only a part at the front can be written of what is printed, and no
   -- file is changed; or the file is not replaced.
@@ -84,8 +85,8 @@ module _ {F O N W V : Type 0} (contents : W → Option (List ℕ)) (writes : W �
       × IsUnreplaced refuses file_reads copy_writes holds is_beside name page old.files new.files refusal
 
   abbrev pub IsUsed : Task → List ℕ → List ℕ → Outside F W V → Outside F W V → Result Bool Halt → Type 0
-  IsUsed task name page old new (Ok changed) =
-      (text : List ℕ) × (lines : List ℕ) × IsDone task name page text lines old new changed
+  IsUsed task name page old new (Ok found) =
+      (text : List ℕ) × (lines : List ℕ) × IsDone task name page text lines old new found
   IsUsed task name page old new (Err why) =
       (text : List ℕ) × (lines : List ℕ) × IsHalted task name page text lines old new why
 
@@ -139,7 +140,7 @@ module _ {R F O N W V : Type 0} (remaining : R → Option (List ℕ)) (reads : R
 
   -- What came of the page of a name. Where it is not done the faults are given why.
   pub data IsTried (task : Task) (name : List ℕ) (old new : World R F W V) : Came → Type 0 where
-    is_done : (changes : Bool) → IsHandled task name old new (Ok changes) → IsTried task name old new (came_of changes)
+    is_done : (found : Bool) → IsHandled task name old new (Ok found) → IsTried task name old new (came_of found)
     not_done : (halt : Halt) (middle : World R F W V) → IsHandled task name old middle (Err halt) → IsReported fault_writes (halt_parts name halt) middle new
         → IsTried task name old new (halt_came halt)
 

@@ -11,7 +11,7 @@ use crate::halts::{Halt, halt_came, report_halt};
 use crate::looks::{Look, look_at_page};
 use crate::replacing::{Refusal, replace_file};
 use crate::words::{Task, is_check, task_for};
-use page_programs::came::{Came, came_of};
+use page_programs::came::{Came, came_of, is_reported};
 use page_programs::names::{shown, shown_name};
 use page_programs::stops::Stop;
 use page_programs::texts::read_text;
@@ -49,7 +49,7 @@ where
             return Came::IsNotDone;
         };
         match handle_named(alloc, self.task, name, input, files, output, faults) {
-            Ok(changes) => came_of(changes),
+            Ok(found) => came_of(found),
             Err(halt) => {
                 report_halt(faults, called.as_str(), halt);
                 halt_came(halt)
@@ -58,7 +58,7 @@ where
     }
 }
 
-// Does this with the page of this name, and answers whether it would change.
+// Does this with the page of this name, and answers whether a check finds something.
 fn handle_named<R: StepReader, F: ReplacesFiles, W: StepWriter, V: StepWriter>(
     alloc: Global,
     task: Task,
@@ -90,7 +90,7 @@ fn handle_named<R: StepReader, F: ReplacesFiles, W: StepWriter, V: StepWriter>(
     }
 }
 
-// Does this with a page of this name, and answers whether it would change.
+// Does this with a page of this name, and answers whether a check finds something.
 fn use_page<F: ReplacesFiles, W: StepWriter, V: StepWriter>(
     alloc: Global,
     task: Task,
@@ -117,7 +117,7 @@ fn use_page<F: ReplacesFiles, W: StepWriter, V: StepWriter>(
             Err(reason) => Err(Halt::OfPage(Stop::Write(reason))),
         },
         Task::Check => match write_whole(output, look.lines.as_str()) {
-            Ok(()) => Ok(look.changes()),
+            Ok(()) => Ok(is_reported(look.lines.as_str())),
             Err(reason) => Err(Halt::OfPage(Stop::Write(reason))),
         },
         Task::Replace => match replace_with(alloc, &look, name, page.as_bytes(), files) {

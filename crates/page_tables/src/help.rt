@@ -18,7 +18,8 @@ Prints a page of Markdown with its tables laid out: columns as wide as their wid
 contents aligned as the delimiter row says, with a pipe on each side; short rows are filled. Nothing
 else of the page is changed.
 
-With --check nothing is printed but FILE:LINE:COLUMN of the head of each table that is not laid out.
+With --check nothing is printed but FILE:LINE:COLUMN of the head of each table that is not laid out,
+and of each row of more cells than its table has columns, or of none.
 With --write each file whose page changes is written over, and nothing is printed: its owner, its
 permissions and all else of it stay. While it is written a copy of what it held is beside it, in a
 file of the name .FILE.N.old, which is on the disk before and removed after: where the program is
@@ -27,11 +28,11 @@ that has changed since it was read is left as it is, and so is one whose copy ca
 can't be written the old text is written back. Standard input is printed then. With both options
 nothing is written.
 
-A table with a row of more cells than columns, or of none, is left as it is, and standard error has
-FILE:LINE:COLUMN of the row. The tables of the page printed have the same cells in the same rows and
-columns, aligned alike, and are laid out: a page of which that would not be so is left as it is, and
-standard error says so. Of a page that is not UTF-8 nothing is printed or written, and standard error
-has its name and how many bytes stand before the first that is wrong.
+A table with such a row is left as it is; without --check standard error has FILE:LINE:COLUMN of the
+row. The tables of the page printed have the same cells in the same rows and columns, aligned alike,
+and are laid out: a page of which that would not be so is left as it is, and standard error says so.
+Of a page that is not UTF-8 nothing is printed or written, and standard error has its name and how
+many bytes stand before the first that is wrong.
 
 FILE is a page; - is standard input, and so is no FILE. What is printed of the pages follows one
 another. After the word -- all words are files.
@@ -44,6 +45,6 @@ output has left.
 In a name that is printed a tab, a line feed and a carriage return are \\t, \\n and \\r, and another
 control character is \\u{CODE} with its code in hexadecimal digits.
 
-The status is 0 where all is done, 1 where --check found a table that is not laid out, 2 for an
-option that is not known, and 3 where a page is not done.
+The status is 0 where all is done, 1 where --check has printed anything, 2 for an option that is not
+known, and 3 where a page is not done.
 ";

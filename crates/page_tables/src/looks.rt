@@ -12,7 +12,7 @@ ghost use Rattle.page_tables.specs.Widths.{display_width};
 use crate::changes::changes_of;
 use crate::formatted::{Made, becomes_other, is_left, made_of};
 use crate::marks::{Mark, marks_of_page};
-use crate::misfits::misfits;
+use crate::misfits::{Misfit, misfits};
 use crate::reports::{push_changes, push_left, push_misfits};
 use crate::widths::DisplayWidths;
 use std::alloc::{AllocError, Global};
@@ -24,7 +24,8 @@ pub struct Look {
     pub made: Made,
     /// The lines that name what is left as it is.
     pub notes: String,
-    /// The lines that name the tables that change, if they are asked for.
+    /// The lines that name the rows for which tables are left as they are, and the tables that
+    /// change, if the page is checked.
     pub lines: String,
 }
 
@@ -47,8 +48,8 @@ impl Look {
     }
 }
 
-/// What is made and said of the page of this name. Where its tables change is said where that is
-/// asked for.
+/// What is made and said of the page of this name, with the lines of its tables where it is
+/// checked.
 ///
 /// # Errors
 ///
@@ -74,44 +75,50 @@ fn look_at_text(alloc: Global, name: &str, page: &str, checks: bool) -> Result<L
 {
     let marks = marks_of_page(alloc, page)?;
     let made = made_of(alloc, page, &DisplayWidths, &marks)?;
-    let notes = notes_of(alloc, name, page.as_bytes(), &marks, is_left(&made))?;
-    let lines = lines_of(alloc, name, page, &marks, &made, checks)?;
+    let rows = misfits(alloc, page.as_bytes(), &marks)?;
+    let notes = notes_of(alloc, name, page.as_bytes(), &rows, is_left(&made), checks)?;
+    let lines = lines_of(alloc, name, page, &marks, &rows, &made, checks)?;
     Ok(Look { made, notes, lines })
 }
 
-// What is said of a page with these tables that is left as it is, or of which tables are.
+// What is said of a page with these rows that don't fit their tables: of the rows, unless it is
+// checked, and of a page that is left as it is.
 fn notes_of(
     alloc: Global,
     name: &str,
     page: &[u8],
-    marks: &[Mark],
+    rows: &[Misfit],
     left: bool,
+    checks: bool,
 ) -> Result<String, AllocError>
     ensures { IfOk result (λ notes. string_bytes notes
-        ≡ misfit_lines name.now page.now (misfits page.now (map mark_view marks.now))
+        ≡ (if checks then [] else misfit_lines name.now page.now rows.now)
         ++ (if left then left_line name.now else [])) }
 {
-    let rows = misfits(alloc, page, marks)?;
     let mut notes = String::new(alloc);
-    push_misfits(&mut notes, name, page, &rows)?;
+    if !checks {
+        push_misfits(&mut notes, name, page, rows)?;
+    }
     if left {
         push_left(&mut notes, name)?;
     }
     Ok(notes)
 }
 
-// Where a page with these tables changes of which this is made, if that is asked for.
+// The lines of a page with these tables that is checked, and with these rows that don't fit them, of
+// which this is made: the rows, and where the page changes.
 fn lines_of(
     alloc: Global,
     name: &str,
     page: &str,
     marks: &[Mark],
+    rows: &[Misfit],
     made: &Made,
     checks: bool,
 ) -> Result<String, AllocError>
     requires { becomes_other made.now ≡ not (bytes_eq (made_text page.now made.now) page.now) }
     ensures { IfOk result (λ lines. string_bytes lines
-        ≡ (if checks then change_lines name.now page.now
+        ≡ (if checks then misfit_lines name.now page.now rows.now ++ change_lines name.now page.now
         (changes_of display_width page.now (map mark_view marks.now) (made_text page.now made.now))
         else [])) }
 {
@@ -119,6 +126,7 @@ fn lines_of(
     if !checks {
         return Ok(lines);
     }
+    push_misfits(&mut lines, name, page.as_bytes(), rows)?;
     let heads = changes_of(alloc, page, &DisplayWidths, marks, made)?;
     push_changes(&mut lines, name, page.as_bytes(), &heads)?;
     Ok(lines)

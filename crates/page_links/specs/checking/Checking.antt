@@ -1,10 +1,10 @@
 -- What checking pages comes to.
-use Rattle.std.specs.Prelude.{ℕ, Bool, true, false, ◌≡◌, List, [], ◌∷◌, Option, Some, None, Result, codes}
+use Rattle.std.specs.Prelude.{ℕ, ◌≡◌, List, [], Option, Some, None, Result, codes}
 use Rattle.std.specs.Io.KnownBytes.{Appends}
 use Rattle.markdown_events.specs.declared.settings.PageSetting.{PageSetting}
 use Rattle.program_faults.specs.Steps.{AreGiven, CantWrite}
 use Rattle.program_faults.specs.declared.reasons.Reason.{Reason}
-use Rattle.page_programs.specs.Came.{came_at, came_of}
+use Rattle.page_programs.specs.Came.{came_at, came_of, is_reported}
 use Rattle.page_programs.specs.Runs.{PrintsNamed}
 use Rattle.page_programs.specs.Stops.{IfWrite, stop_parts}
 use Rattle.page_programs.specs.Texts.{IsRefused, is_unwritten}
@@ -15,11 +15,6 @@ use Rattle.page_programs.specs.declared.stops.Stop.{Stop}
 use Rattle.page_links.specs.declared.checks.FileState.{FileState}
 use Rattle.page_links.specs.declared.printing.LinkForm.{LinkForm}
 use Rattle.page_links.specs.page.Printed.{IsCheckedTo, by_name}
-
--- whether anything is printed
-abbrev pub is_reported : List ℕ → Bool
-is_reported [] = false
-is_reported (b ∷ text) = true
 
 module _ {R O F : Type 0} (finds : List ℕ → FileState → Type 0) (form : LinkForm) (setting : PageSetting)
     (remaining : R → Option (List ℕ)) (reads : R → Result (List ℕ) Reason → R → Type 0)

@@ -31,7 +31,7 @@ returns-in-Ok-write_whole g c = rw c.in-Check.is (
     },
     rw c.as_str-in-Check.ensures.value at c.in-Ok-write_whole.ensures.written,
     refl,
-    c.changes.ensures ∙ c.in-Ok-look_at_page.ensures.changes,
+    rw c.as_str-in-Ok-2.ensures.value at c.is_reported.ensures,
   ),
 )
 
