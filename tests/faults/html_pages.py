@@ -12,29 +12,25 @@ class Html(Page):
 
 
 FORMS = (
-    b"usage: fillaqut html [--safe] [--to html|events|json] [-e NAME].. [--gfm] [--] [FILE ..]\n"
+    b"usage: fillaqut html [--unsafe] [--strict] [--to html|events|json] [-e NAME].. [--gfm] [--] [FILE ..]\n"
     b"       fillaqut html -h | --help | --version\n"
 )
 USAGE, COMPLAINTS = usage_of(FORMS), complaints_of(FORMS)
 UNREAD, NAMED = unread_of(Html), named_of(Html, b"<p>a</p>\n")
 
 A_PAGE = Html("a page", "", b"# a\n\nb\n===\n", b"<h1>a</h1>\n<h1>b</h1>\n")
-SAFE = Html(
-    "safe HTML",
-    "--safe",
-    b"<b>[a](x:b)</b>\n",
-    b'<p>&lt;b&gt;<a href="" rel="nofollow noopener">a</a>&lt;/b&gt;</p>\n',
-)
+SAFE = Html("safe HTML", "", b"<b>[a](x:b)</b>\n", b'<p>&lt;b&gt;<a href="" rel="nofollow noopener">a</a>&lt;/b&gt;</p>\n')
+UNSAFE = Html("HTML that is not safe", "--unsafe", b"<b>[a](x:b)</b>\n", b'<p><b><a href="x:b">a</a></b></p>\n')
 EVENTS = Html("events", "--to events", b"***\n", b"0 4 rule\n")
 
 # One of each form.
-PLAIN = [A_PAGE, SAFE, EVENTS]
+PLAIN = [A_PAGE, SAFE, UNSAFE, EVENTS]
 
 SMALL = [
     *PLAIN,
     Html("a reference", "", b"&amp;\n", b"<p>&amp;</p>\n"),
     Html("text that is struck through", "-e strikethrough --to html", b"~~a~~\n", b"<p><del>a</del></p>\n"),
-    Html("a wikilink", "-e wikilinks", b"[[a]]\n", b'<p><a href="a">a</a></p>\n'),
+    Html("a wikilink", "--unsafe -e wikilinks", b"[[a]]\n", b'<p><a href="a">a</a></p>\n'),
     Html("an image that is defined", "", b"![a]\n\n[a]: b 'c'\n", b'<p><img src="b" alt="a" title="c" /></p>\n'),
     Html("code", "", b"~~~ x\na\n~~~\n", b'<pre><code class="language-x">a\n</code></pre>\n'),
     Html("a list", "", b"2) a\n", b'<ol start="2">\n<li>a</li>\n</ol>\n'),

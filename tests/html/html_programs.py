@@ -13,10 +13,10 @@ CMARK_GFM = os.environ.get("CMARK_GFM", "cmark-gfm")
 EXTENSIONS = ("table", "strikethrough", "tasklist")
 SECONDS = 60
 
-PLAIN = OURS
-SAFE = [*OURS, "--safe"]
-EXTENDED = [*OURS, "--gfm"]
-SAFE_EXTENDED = [*OURS, "--safe", "--gfm"]
+PLAIN = [*OURS, "--unsafe"]
+SAFE = OURS
+EXTENDED = [*PLAIN, "--gfm"]
+SAFE_EXTENDED = [*OURS, "--gfm"]
 THEIRS = [CMARK, "--unsafe"]
 THEIRS_EXTENDED = [CMARK_GFM, "--unsafe", *(word for extension in EXTENSIONS for word in ("-e", extension))]
 

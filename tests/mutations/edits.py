@@ -52,6 +52,8 @@ class BadEdit(Exception):
 
 
 def replaced(text, path, old, new):
+    if old == new:
+        raise BadEdit(f"it changes nothing: {old}")
     found = text.count(old)
     if found != 1:
         raise BadEdit(f"its old text stands {found} times in {path}, and not once: {old}")

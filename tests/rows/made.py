@@ -65,7 +65,7 @@ def large():
 def of_specification():
     """The HTML of the examples of CommonMark 0.31.2."""
     for example in examples(COMMONMARK):
-        yield row(f"example_{example.number}", "fillaqut html", example.page, example.html)
+        yield row(f"example_{example.number}", "fillaqut html --unsafe", example.page, example.html)
 
 
 # A name with characters that break a line or drive a terminal, and how it is printed: as Rust's `escape_default` writes those of them.

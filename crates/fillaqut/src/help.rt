@@ -17,7 +17,7 @@ usage: fillaqut COMMAND [OPTION ..] [--] [FILE ..]
 
 Reads pages of Markdown, and does with them what the command says:
 
-  html      prints their HTML; with --safe that of pages by people who are not trusted
+  html      prints their HTML, safe for pages by people who are not trusted; with --unsafe all of it
   events    prints the events of pages, one per line, each with its range
   json      prints the events as JSON, one object per line
   blocks    prints the blocks of pages

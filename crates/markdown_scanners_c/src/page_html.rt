@@ -26,7 +26,12 @@ const NOT_BUILT: u32 = 0xffff_7fe5;
 /// Writes the HTML of a page, with the raw HTML and the addresses that stand in it.
 #[tactic(auto, unfolding(crate::specs::PageHtml::IsPlainAnswer))]
 #[unsafe(no_mangle)]
-pub extern "C" fn mds_html(alloc: Global, text: &[u8], options: u32, buffer: &mut [u8]) -> Text
+pub extern "C" fn mds_html_unsafe(
+    alloc: Global,
+    text: &[u8],
+    options: u32,
+    buffer: &mut [u8],
+) -> Text
     ensures html { IsPlainAnswer text.now options buffer.old buffer.new result }
     ensures utf8 { result.status ≡ ok → IsUtf8 (take result.length buffer.new) }
 {
@@ -43,7 +48,7 @@ pub extern "C" fn mds_html(alloc: Global, text: &[u8], options: u32, buffer: &mu
 /// only addresses of these schemes.
 #[tactic(auto, unfolding(crate::specs::PageHtml::IsSafeAnswer))]
 #[unsafe(no_mangle)]
-pub extern "C" fn mds_safe_html(
+pub extern "C" fn mds_html(
     alloc: Global,
     text: &[u8],
     options: u32,

@@ -22,7 +22,8 @@ pub enum Form {
 pub struct Asked {
     /// What is printed of the page.
     pub form: Form,
-    /// Whether its HTML is that of `safe_setting` of `markdown_html`, with http, https, mailto and tel.
+    /// Whether its HTML is that of `safe_setting` of `markdown_html`, with http, https, mailto and tel,
+    /// as it is unless another is asked for.
     pub safe: bool,
     /// Whether a page that is not UTF-8 is refused in this form too.
     pub strict: bool,
@@ -36,7 +37,7 @@ pub(crate) fn asked_of(words: &[&str]) -> Asked
 {
     Asked {
         form: form_of(words),
-        safe: has_option(words, "--safe"),
+        safe: !has_option(words, "--unsafe"),
         strict: has_option(words, "--strict"),
         setting: setting_of(words),
     }

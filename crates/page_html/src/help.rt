@@ -2,7 +2,7 @@
 
 /// What is written on standard error after the name of an option that is not known.
 pub const USAGE: &str = "
-usage: fillaqut html [--safe] [--strict] [--to html|events|json] [-e NAME].. [--gfm] [--] [FILE ..]
+usage: fillaqut html [--unsafe] [--strict] [--to html|events|json] [-e NAME].. [--gfm] [--] [FILE ..]
        fillaqut html -h | --help | --version
 ";
 
@@ -11,14 +11,16 @@ pub const VERSION: &str = "fillaqut 0.1.0\n";
 
 /// What `--help` prints.
 pub const HELP: &str = "\
-usage: fillaqut html [--safe] [--strict] [--to html|events|json] [-e NAME].. [--gfm] [--] [FILE ..]
+usage: fillaqut html [--unsafe] [--strict] [--to html|events|json] [-e NAME].. [--gfm] [--] [FILE ..]
        fillaqut html -h | --help | --version
 
-Prints the HTML of a page of Markdown, by CommonMark 0.31.2 and as its examples write it.
+Prints the HTML of a page of Markdown, by CommonMark 0.31.2 and as its examples write it, but safe
+for pages by people who are not trusted: raw HTML is written as text, links and images lead to
+addresses of http, https, mailto and tel, and to relative ones, and any other address is left out;
+links say rel=\"nofollow noopener\".
 
-  --safe           for text by people who are not trusted: raw HTML is written as text, links and
-                   images lead to addresses of http, https, mailto and tel, and to relative ones,
-                   and any other address is left out; links say rel=\"nofollow noopener\"
+  --unsafe         for text of one's own: raw HTML is written as it stands, and links and images lead
+                   anywhere
   --strict         prints nothing of a page that is not UTF-8; its HTML has U+FFFD otherwise in place
                    of each part of the page that is wrong, as the decoder of the Encoding standard
   --to html        prints HTML, as where nothing is asked for

@@ -30,7 +30,7 @@ pub fn output_of_page(alloc: Global, page: &str, asked: Asked) -> Result<String,
     }
 }
 
-// The HTML of a page, safe where that is asked for.
+// The HTML of a page, safe unless other HTML is asked for.
 fn html_of_page(alloc: Global, page: &str, asked: Asked) -> Result<String, AllocError>
     ensures html { IfOk result (λ html.
         IsHtmlOf page.now asked.setting (html_setting asked.safe) (string_bytes html)) }

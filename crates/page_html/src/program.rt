@@ -80,7 +80,7 @@ pub fn run_program<R: StepReader, F: OpensFiles, W: StepWriter, V: StepWriter>(
         (world input.old files.old output.old faults.old)
         (world input.new files.new output.new faults.new) came }
 
-    // Where safe HTML is asked for nothing else is written, at any status.
+    // Nothing but safe HTML is written, at any status, unless other HTML is asked for.
     ensures safe { request_of words.now ≡ Pages → (asked_of words.now).form ≡ Html →
         (asked_of words.now).safe ≡ true →
         PrintsSafely (W.contents output.old) (W.contents output.new) }
@@ -103,7 +103,7 @@ pub fn run_program<R: StepReader, F: OpensFiles, W: StepWriter, V: StepWriter>(
         alloc,
         &says,
         &[
-            "--safe",
+            "--unsafe",
             "--strict",
             "--to html",
             "--to events",

@@ -1,5 +1,5 @@
-/* Prints the HTML of the page that it reads from the standard input, with tables, strikethrough and task lists; with `--safe` that of a
- * page by someone who is not trusted.
+/* Prints the HTML of the page that it reads from the standard input, with tables, strikethrough and task lists: safe for
+ * pages by others, or with `--unsafe` with all that a page of one's own says.
  * cc -Ipackages/c/include packages/c/examples/html.c out/libfillaqut.a -o html */
 #include "fillaqut.h"
 
@@ -35,20 +35,20 @@ static uint8_t *read_page(size_t *length) {
     return page;
 }
 
-static struct mds_text html_of(const uint8_t *page, size_t length, bool is_safe, uint8_t *html, size_t capacity) {
-    return is_safe ? mds_safe_html(page, length, OPTIONS, NULL, 0, html, capacity) : mds_html(page, length, OPTIONS, html, capacity);
+static struct mds_text html_of(const uint8_t *page, size_t length, bool is_unsafe, uint8_t *html, size_t capacity) {
+    return is_unsafe ? mds_html_unsafe(page, length, OPTIONS, html, capacity) : mds_html(page, length, OPTIONS, NULL, 0, html, capacity);
 }
 
 int main(int count, char **words) {
-    bool is_safe = count == 2 && strcmp(words[1], "--safe") == 0;
-    if (count > 1 && !is_safe)
-        stop("usage: html [--safe] <page.md");
+    bool is_unsafe = count == 2 && strcmp(words[1], "--unsafe") == 0;
+    if (count > 1 && !is_unsafe)
+        stop("usage: html [--unsafe] <page.md");
     size_t length = 0;
     uint8_t *page = read_page(&length), *html = grown(NULL, 2 * length + 64);
-    struct mds_text found = html_of(page, length, is_safe, html, 2 * length + 64);
+    struct mds_text found = html_of(page, length, is_unsafe, html, 2 * length + 64);
     if (found.status == MDS_TOO_SHORT) {
         html = grown(html, found.length);
-        found = html_of(page, length, is_safe, html, found.length);
+        found = html_of(page, length, is_unsafe, html, found.length);
     }
     if (found.status != MDS_OK)
         stop(mds_status_name(found.status));

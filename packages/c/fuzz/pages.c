@@ -83,12 +83,12 @@ static struct answer of_text(struct mds_text found) {
     return (struct answer){found.status, 0, found.length};
 }
 
-static struct answer call_html(const struct buffers *into) {
-    return of_text(mds_html(text, length, options, into->bytes, into->byte_count));
+static struct answer call_html_unsafe(const struct buffers *into) {
+    return of_text(mds_html_unsafe(text, length, options, into->bytes, into->byte_count));
 }
 
-static struct answer call_safe_html(const struct buffers *into) {
-    return of_text(mds_safe_html(text, length, options, NULL, 0, into->bytes, into->byte_count));
+static struct answer call_html(const struct buffers *into) {
+    return of_text(mds_html(text, length, options, NULL, 0, into->bytes, into->byte_count));
 }
 
 static struct answer call_events(const struct buffers *into) {
@@ -217,8 +217,8 @@ static void check_inlines(const struct buffers *found) {
 }
 
 static const struct function functions[] = {
-    {"mds_html", 0, false, call_html, check_html},
-    {"mds_safe_html", 0, false, call_safe_html, check_safe_html},
+    {"mds_html_unsafe", 0, false, call_html_unsafe, check_html},
+    {"mds_html", 0, false, call_html, check_safe_html},
     {"mds_events", sizeof(struct mds_event), false, call_events, check_events},
     {"mds_scan_blocks", sizeof(struct mds_block), true, call_blocks, check_blocks},
     {"mds_scan_lists", sizeof(struct mds_list), true, call_lists, check_lists},

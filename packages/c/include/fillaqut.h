@@ -4,7 +4,7 @@
  * `markdown_scanners_tree`, and each is proved to answer what their definitions say, after CommonMark 0.31.2
  * (https://spec.commonmark.org/0.31.2/), whose sections stand in brackets below.
  *
- * mds_html and mds_safe_html write the HTML of a page, and mds_events its events. mds_scan_blocks returns the blocks of a page,
+ * mds_html and mds_html_unsafe write the HTML of a page, and mds_events its events. mds_scan_blocks returns the blocks of a page,
  * mds_scan_inlines the inlines of the text of a block. mds_block_line reads a page that comes piece by piece. The others are
  * scanners: each reads from the front of the bytes that it is given, or from an offset in them, and says what begins there. None
  * looks for the next construct, so a caller goes through its document and asks.
@@ -860,42 +860,42 @@ enum mds_option {
     MDS_OPTION_WIKILINKS = 32768  /* as MDS_WIKILINKS */
 };
 
-/* The HTML of a page, as the examples of CommonMark and of GitHub Flavored Markdown write it. Raw HTML stands in it as it is, and
- * links lead anywhere: it is for text by people who are trusted, and mds_safe_html for text by others. `options` are bits of enum
- * mds_option; 0 is CommonMark alone.
+/* The HTML of a page, safe for pages by people who are not trusted: raw HTML is written as text; of links and images an address is
+ * written where it is relative or has one of the `schemes`, without regard to case, and else an empty one; and links say
+ * `rel="nofollow noopener"`. All else is written as in the examples of CommonMark and of GitHub Flavored Markdown. `options` are
+ * bits of enum mds_option; 0 is CommonMark alone.
+ *
+ * Schemes are texts without a colon. Null and 0 are for http, https, mailto and tel. One that no address has, as an empty text,
+ * allows relative addresses alone.
  *
  * `taken` is the length of the text. How long its HTML is at most is not known: an address is written as often as its definition is
  * referred to. Twice the text and 64 bytes are enough for most; where the status is MDS_TOO_SHORT, the same call with a buffer of
  * `length` bytes makes all of it anew, and is MDS_OK (examples/html.c).
  *
- * MDS_BAD_KIND where another bit is set, and else MDS_NOT_UTF8 where the text is not UTF-8. Memory is asked for, for the blocks of
- * the page, the inlines of one block after another, and the HTML: MDS_NO_MEMORY. (3 to 6)
- *
- *     uint8_t html[18];
- *     struct mds_text found = mds_html("*a*", 3, 0, html, 18);
- *     found.status == MDS_OK && found.taken == 3 && found.length == 18 && memcmp(html, "<p><em>a</em></p>\n", 18) == 0
- *     mds_html("|a|\n|-|", 7, MDS_OPTION_TABLES, NULL, 0).status == MDS_TOO_SHORT
- *     mds_html("a", 1, 1, html, 18).status == MDS_BAD_KIND
- */
-struct mds_text mds_html(const void *text, size_t length, uint32_t options, uint8_t *buffer, size_t capacity);
-
-/* The HTML of a page by people who are not trusted: raw HTML is written as text; of links and images an address is written where it
- * is relative or has one of the `schemes`, without regard to case, and else an empty one; and links say `rel="nofollow noopener"`.
- * All else is as of mds_html.
- *
- * Schemes are texts without a colon. Null and 0 are for http, https, mailto and tel. One that no address has, as an empty text,
- * allows relative addresses alone. MDS_NOT_UTF8 of a scheme too. Memory is asked for the list of schemes too: MDS_NO_MEMORY.
+ * MDS_BAD_KIND where another bit is set, and else MDS_NOT_UTF8 where the text or a scheme is not UTF-8. Memory is asked for, for the
+ * list of schemes, the blocks of the page, the inlines of one block after another, and the HTML: MDS_NO_MEMORY. (3 to 6)
  *
  *     uint8_t html[72];
- *     mds_safe_html("[a](javascript:b)", 17, 0, NULL, 0, html, 72).length == 48
+ *     mds_html("[a](javascript:b)", 17, 0, NULL, 0, html, 72).length == 48
  *     memcmp(html, "<p><a href=\"\" rel=\"nofollow noopener\">a</a></p>\n", 48) == 0
- *     mds_safe_html("<b>", 3, 0, NULL, 0, html, 72).length == 10 && memcmp(html, "&lt;b&gt;\n", 10) == 0
+ *     mds_html("<b>", 3, 0, NULL, 0, html, 72).length == 10 && memcmp(html, "&lt;b&gt;\n", 10) == 0
  *     struct mds_view schemes[] = {{"ftp", 3}};
- *     mds_safe_html("<https://a>", 11, 0, schemes, 1, html, 72).length == 56
+ *     mds_html("<https://a>", 11, 0, schemes, 1, html, 72).length == 56
  */
-struct mds_text mds_safe_html(
+struct mds_text mds_html(
     const void *text, size_t length, uint32_t options, const struct mds_view *schemes, size_t scheme_count, uint8_t *buffer,
     size_t capacity);
+
+/* The same, as the examples write it: raw HTML stands in it as it is, and links lead anywhere. It is for text of one's own, and mds_html
+ * for text by others. MDS_BAD_KIND, MDS_NOT_UTF8 and MDS_NO_MEMORY as of mds_html.
+ *
+ *     uint8_t html[18];
+ *     struct mds_text found = mds_html_unsafe("*a*", 3, 0, html, 18);
+ *     found.status == MDS_OK && found.taken == 3 && found.length == 18 && memcmp(html, "<p><em>a</em></p>\n", 18) == 0
+ *     mds_html_unsafe("|a|\n|-|", 7, MDS_OPTION_TABLES, NULL, 0).status == MDS_TOO_SHORT
+ *     mds_html_unsafe("a", 1, 1, html, 18).status == MDS_BAD_KIND
+ */
+struct mds_text mds_html_unsafe(const void *text, size_t length, uint32_t options, uint8_t *buffer, size_t capacity);
 
 /* ---- The events of a page ---- */
 

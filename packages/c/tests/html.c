@@ -16,12 +16,12 @@ struct asked {
 static struct mds_text html_of(const char *page, size_t length, const struct asked *asked, uint8_t *buffer, size_t capacity) {
     const void *text = given(BYTES, page, length);
     if (!asked->is_safe)
-        return mds_html(text, length, asked->options, buffer, capacity);
+        return mds_html_unsafe(text, length, asked->options, buffer, capacity);
     if (!asked->scheme)
-        return mds_safe_html(text, length, asked->options, NULL, 0, buffer, capacity);
+        return mds_html(text, length, asked->options, NULL, 0, buffer, capacity);
     size_t size = strlen(asked->scheme);
     const struct mds_view scheme = {given(OTHER_BYTES, asked->scheme, size), size};
-    return mds_safe_html(text, length, asked->options, given(LIST, &scheme, sizeof(scheme)), 1, buffer, capacity);
+    return mds_html(text, length, asked->options, given(LIST, &scheme, sizeof(scheme)), 1, buffer, capacity);
 }
 
 /* It is written where there is room for it, and nowhere else. */
@@ -42,12 +42,12 @@ static void is_html(const struct row *row, const struct asked *asked) {
     }
 }
 
-static void check_html(const struct row *row) {
+static void check_html_unsafe(const struct row *row) {
     is_html(row, &(struct asked){false, options_of(row->columns[2]), NULL});
 }
 
 /* With the one scheme that the row names, if it does. */
-static void check_safe_html(const struct row *row) {
+static void check_html(const struct row *row) {
     static struct text scheme;
     const char *words = row->columns[2];
     bool is_named = strstr(words, "scheme=") != NULL;
@@ -67,15 +67,15 @@ static void refusals(void) {
     const struct mds_view other[] = {{"http", 4}, {"\xff", 1}};
     for (uint32_t bit = 1; bit != 0; bit <<= 1) {
         bool is_built = (bit & EVERY_OPTION) != 0;
-        SAME(mds_html(OF(""), bit, NULL, 0).status, is_built ? MDS_OK : MDS_BAD_KIND);
-        SAME(mds_safe_html(OF(""), bit | EVERY_OPTION, NULL, 0, NULL, 0).status, is_built ? MDS_OK : MDS_BAD_KIND);
-        is_refused(__LINE__, mds_html(OF("\xff"), bit, buffer, MOST), is_built ? MDS_NOT_UTF8 : MDS_BAD_KIND);
-        is_refused(__LINE__, mds_safe_html(OF("\xff"), bit, NULL, 0, buffer, MOST), is_built ? MDS_NOT_UTF8 : MDS_BAD_KIND);
-        is_refused(__LINE__, mds_safe_html(OF("a"), bit, other, 2, buffer, MOST), is_built ? MDS_NOT_UTF8 : MDS_BAD_KIND);
+        SAME(mds_html_unsafe(OF(""), bit, NULL, 0).status, is_built ? MDS_OK : MDS_BAD_KIND);
+        SAME(mds_html(OF(""), bit | EVERY_OPTION, NULL, 0, NULL, 0).status, is_built ? MDS_OK : MDS_BAD_KIND);
+        is_refused(__LINE__, mds_html_unsafe(OF("\xff"), bit, buffer, MOST), is_built ? MDS_NOT_UTF8 : MDS_BAD_KIND);
+        is_refused(__LINE__, mds_html(OF("\xff"), bit, NULL, 0, buffer, MOST), is_built ? MDS_NOT_UTF8 : MDS_BAD_KIND);
+        is_refused(__LINE__, mds_html(OF("a"), bit, other, 2, buffer, MOST), is_built ? MDS_NOT_UTF8 : MDS_BAD_KIND);
     }
-    is_refused(__LINE__, mds_html(OF("a\xc3"), 0, buffer, MOST), MDS_NOT_UTF8);
-    SAME(mds_html(NULL, 0, 0, NULL, 0).status, MDS_OK), SAME(mds_safe_html(NULL, 0, 0, NULL, 0, NULL, 0).status, MDS_OK);
-    SAME(mds_html(OF("a"), 0, NULL, 0).length, 9), SAME(mds_safe_html(OF("a"), 0, other, 1, NULL, 0).length, 9);
+    is_refused(__LINE__, mds_html_unsafe(OF("a\xc3"), 0, buffer, MOST), MDS_NOT_UTF8);
+    SAME(mds_html_unsafe(NULL, 0, 0, NULL, 0).status, MDS_OK), SAME(mds_html(NULL, 0, 0, NULL, 0, NULL, 0).status, MDS_OK);
+    SAME(mds_html_unsafe(OF("a"), 0, NULL, 0).length, 9), SAME(mds_html(OF("a"), 0, other, 1, NULL, 0).length, 9);
 }
 
 static uint64_t seed = 7;
@@ -129,8 +129,8 @@ static void made_pages(void) {
 }
 
 int main(void) {
+    each_row("pages.tsv", 5, "html_unsafe", check_html_unsafe);
     each_row("pages.tsv", 5, "html", check_html);
-    each_row("pages.tsv", 5, "safe_html", check_safe_html);
     refusals();
     at_front = true;
     refusals();

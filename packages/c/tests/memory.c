@@ -274,20 +274,20 @@ static struct returned inlines_with_many_labels(size_t capacity) {
 /* Headings, tables, tasks, lists, quotes, definitions and inlines: all that a page keeps while it is read. */
 static const char whole_page[] = "# a\n> - [x] *b* [c]\n\n|a|`b`|\n|-|-|\n|c|![d](e)|\n\n[c]: /f \"g\"\n";
 
-static struct returned html(size_t capacity) {
-    return of_text(mds_html(OF(whole_page), MDS_OPTION_TABLES | MDS_OPTION_TASKS, writable(BUFFER, capacity), capacity));
+static struct returned html_unsafe(size_t capacity) {
+    return of_text(mds_html_unsafe(OF(whole_page), MDS_OPTION_TABLES | MDS_OPTION_TASKS, writable(BUFFER, capacity), capacity));
 }
 
-static struct returned long_html(size_t capacity) {
+static struct returned long_html_unsafe(size_t capacity) {
     static char page[10 * MANY];
     for (size_t i = 0; i < sizeof(page); i++)
         page[i] = "*a*\n\n"[i % 5];
-    return of_text(mds_html(given(BYTES, page, sizeof(page)), sizeof(page), 0, writable(BUFFER, capacity), capacity));
+    return of_text(mds_html_unsafe(given(BYTES, page, sizeof(page)), sizeof(page), 0, writable(BUFFER, capacity), capacity));
 }
 
-static struct returned safe_html(size_t capacity) {
+static struct returned html(size_t capacity) {
     static const struct mds_view schemes[] = {{"https", 5}, {"mailto", 6}};
-    return of_text(mds_safe_html(OF("<a@b> [c](d:e) <f>"), 0, schemes, 2, writable(BUFFER, capacity), capacity));
+    return of_text(mds_html(OF("<a@b> [c](d:e) <f>"), 0, schemes, 2, writable(BUFFER, capacity), capacity));
 }
 
 /* The events stand in front of their texts. */
@@ -337,8 +337,8 @@ static void handles(void) {
     }
 }
 
-static struct returned safe_html_by_usual_schemes(size_t capacity) {
-    return of_text(mds_safe_html(OF("[c](https://d)"), 0, NULL, 0, writable(BUFFER, capacity), capacity));
+static struct returned html_by_usual_schemes(size_t capacity) {
+    return of_text(mds_html(OF("[c](https://d)"), 0, NULL, 0, writable(BUFFER, capacity), capacity));
 }
 
 static struct returned made(call_with *call, size_t capacity, size_t which) {
@@ -409,7 +409,7 @@ static void asking(void) {
     ASKS(line), ASKS(line_of_table), ASKS(deep_line);
     ASKS(content_in_many), ASKS(long_content);
     ASKS(inlines), ASKS(inlines_with_labels), ASKS(inlines_with_many_labels);
-    ASKS(html), ASKS(long_html), ASKS(safe_html), ASKS(safe_html_by_usual_schemes);
+    ASKS(html_unsafe), ASKS(long_html_unsafe), ASKS(html), ASKS(html_by_usual_schemes);
     ASKS(events), ASKS(events_of_table), ASKS(long_events);
 }
 

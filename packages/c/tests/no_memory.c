@@ -33,12 +33,12 @@ static void sparing(void) {
     ASKS_NOT(mds_scan_inlines(OF("\xff"), NULL, 0, 0, NULL, 0).status, MDS_NOT_UTF8);
     ASKS_NOT(mds_scan_inlines(OF("a"), NULL, 0, 4, NULL, 0).status, MDS_BAD_KIND);
     ASKS_NOT(mds_scan_inlines(OF("a"), (const struct mds_view[]){{"b", 1}, {"\xff", 1}}, 2, 0, NULL, 0).status, MDS_NOT_UTF8);
-    ASKS_NOT(mds_html(OF("\xff"), 0, NULL, 0).status, MDS_NOT_UTF8), ASKS_NOT(mds_html(OF("a"), 1, NULL, 0).status, MDS_BAD_KIND);
+    ASKS_NOT(mds_html_unsafe(OF("\xff"), 0, NULL, 0).status, MDS_NOT_UTF8), ASKS_NOT(mds_html_unsafe(OF("a"), 1, NULL, 0).status, MDS_BAD_KIND);
     ASKS_NOT(mds_events(OF("\xff"), 0, NULL, 0, NULL, 0).status, MDS_NOT_UTF8);
     ASKS_NOT(mds_events(OF("a"), 1, NULL, 0, NULL, 0).status, MDS_BAD_KIND);
-    ASKS_NOT(mds_safe_html(OF("\xff"), 0, NULL, 0, NULL, 0).status, MDS_NOT_UTF8);
-    ASKS_NOT(mds_safe_html(OF("a"), 1, (const struct mds_view[]){{"b", 1}}, 1, NULL, 0).status, MDS_BAD_KIND);
-    ASKS_NOT(mds_safe_html(OF("a"), 0, (const struct mds_view[]){{"b", 1}, {"\xff", 1}}, 2, NULL, 0).status, MDS_NOT_UTF8);
+    ASKS_NOT(mds_html(OF("\xff"), 0, NULL, 0, NULL, 0).status, MDS_NOT_UTF8);
+    ASKS_NOT(mds_html(OF("a"), 1, (const struct mds_view[]){{"b", 1}}, 1, NULL, 0).status, MDS_BAD_KIND);
+    ASKS_NOT(mds_html(OF("a"), 0, (const struct mds_view[]){{"b", 1}, {"\xff", 1}}, 2, NULL, 0).status, MDS_NOT_UTF8);
     const struct mds_block leaf = {.kind = MDS_BLOCK_PARAGRAPH, .start = 1, .bytes = 2}, end = {.kind = MDS_BLOCK_END};
     ASKS_NOT(mds_scan_blocks(OF(""), NULL, 0).status, MDS_OK);
     struct mds_open_blocks open = {0, 0, 0};

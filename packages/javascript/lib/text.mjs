@@ -261,7 +261,7 @@ export class Text extends Inlines {
     html(options = {}) {
         const { safe = true, extensions } = optionsOf(options, "safe", "extensions");
         const asked = bitsOf(extensions);
-        const [name, ...schemes] = flagOf("safe", safe) ? ["safeHtml", 0, 0] : ["html"];
+        const [name, ...schemes] = flagOf("safe", safe) ? ["html", 0, 0] : ["htmlUnsafe"];
         for (let capacity = 2 * this.bytes.length + HTML_ROOM; ; ) {
             const [found, html] = this.written(String(name), 0, this.length, capacity, asked, ...schemes);
             if (found.status !== c.TOO_SHORT) {

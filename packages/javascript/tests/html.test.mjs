@@ -18,19 +18,19 @@ function areRows(rows, asked) {
     }
 }
 
-test("each row of html", () => {
-    const rows = pages("html");
+test("each row of html_unsafe", () => {
+    const rows = pages("html_unsafe");
     areRows(rows, { safe: false });
-    hold("html", rows.length);
+    hold("html_unsafe", rows.length);
 });
 
-test("each row of safe_html, but for those that name a scheme, as no call of the package does", () => {
+test("each row of html, but for those that name a scheme, as no call of the package does", () => {
     const [ofSchemes, others] = [[], []];
-    for (const row of pages("safe_html")) (row.words.some((word) => word.startsWith("scheme=")) ? ofSchemes : others).push(row);
+    for (const row of pages("html")) (row.words.some((word) => word.startsWith("scheme=")) ? ofSchemes : others).push(row);
     areRows(others, {});
     areRows(others, { safe: true });
-    hold("safe_html", others.length);
-    hold("safe_html_left_out", ofSchemes.length);
+    hold("html", others.length);
+    hold("html_left_out", ofSchemes.length);
 });
 
 test("safe is the default", () => {

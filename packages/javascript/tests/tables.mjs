@@ -16,7 +16,7 @@ const STATUSES = [
     "BAD_KIND",
 ];
 const RUN_CALLS = ["space", "space_up_to", "is_at_end", "quote", "list", "definition"];
-const PAGE_CALLS = ["scan_blocks", "block_content", "scan_lists", "scan_inlines", "html", "safe_html", "events"];
+const PAGE_CALLS = ["scan_blocks", "block_content", "scan_lists", "scan_inlines", "html_unsafe", "html", "events"];
 /** The names of the statuses, by their numbers. */
 export const NAMES = Object.fromEntries(STATUSES.map((name) => [c[name], `MDS_${name}`]));
 

@@ -9,7 +9,7 @@ from ._pages import Buffer, Page, flag, front, text_for
 from .errors import stated
 
 _html: Callable[..., tuple[Any, bytes]] = writer("html")
-_safe_html: Callable[..., tuple[Any, bytes]] = writer("safe_html")
+_html_unsafe: Callable[..., tuple[Any, bytes]] = writer("html_unsafe")
 
 _OPTIONS = {
     "strikethrough": _c.OPTION_STRIKETHROUGH,
@@ -44,9 +44,9 @@ def html(data: Page, at: int = 0, end: Optional[int] = None, *, safe: bool = Tru
     address, length, _held = front(data, at, end)
     capacity = 2 * length + 64
     if flag("safe", safe):
-        found, made = _safe_html(address, length, options, 0, 0, capacity)
+        found, made = _html(address, length, options, 0, 0, capacity)
     else:
-        found, made = _html(address, length, options, capacity)
+        found, made = _html_unsafe(address, length, options, capacity)
     stated(found.status)
     return text_for(data, made)
 

@@ -12,7 +12,7 @@ TAKE_TEXTS = ("scan_while", "scan_rev_while", "labels_match")
 # The calls whose answer is a status.
 STATUSES = ("ends_html_block", "labels_match")
 RUN_CALLS = ("space", "space_up_to", "is_at_end", "quote", "list", "definition")
-PAGE_CALLS = ("scan_blocks", "block_content", "scan_lists", "scan_inlines", "html", "safe_html", "events")
+PAGE_CALLS = ("scan_blocks", "block_content", "scan_lists", "scan_inlines", "html_unsafe", "html", "events")
 
 # A row of rows.tsv, of lines.tsv, of runs.tsv, of skips.tsv and of pages.tsv; `where` is its place in the file. A text of a line is None
 # where the call goes on with the line before.

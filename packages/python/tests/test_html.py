@@ -28,19 +28,19 @@ class Html(unittest.TestCase):
             self.assertEqual(mds.html(bytearray(row.text), **asked), html, row.where)
 
     def test_rows(self):
-        rows = tables.pages("html")
+        rows = tables.pages("html_unsafe")
         self.are_rows(rows, safe=False)
-        hold(self, "html", len(rows))
+        hold(self, "html_unsafe", len(rows))
 
     def test_rows_of_safe_html(self):
         """But for those that name a scheme, as no call of the package does."""
-        rows = tables.pages("safe_html")
+        rows = tables.pages("html")
         of_schemes = [row for row in rows if any(word.startswith("scheme=") for word in row.words)]
         others = [row for row in rows if row not in of_schemes]
         self.are_rows(others)
         self.are_rows(others, safe=True)
-        hold(self, "safe_html", len(others))
-        hold(self, "safe_html_left_out", len(of_schemes))
+        hold(self, "html", len(others))
+        hold(self, "html_left_out", len(of_schemes))
 
     def test_numbers_of_rows(self):
         """A row with a number is of that example of CommonMark 0.31.2, and its HTML the one that stands there."""
@@ -51,7 +51,7 @@ class Html(unittest.TestCase):
             self.assertIn(row.text, example.page, row.where)
             if row.call != "scan_inlines":
                 self.assertEqual(row.text, example.page, row.where)
-            if row.call == "html":
+            if row.call == "html_unsafe":
                 self.assertEqual(row.answer, example.html, row.where)
         hold(self, "numbered_rows", len(rows))
 

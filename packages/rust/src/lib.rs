@@ -27,7 +27,7 @@ pub use inlines::{scan_inlines, Inline, InlineExtensions, InlineKind, Inlines, L
 pub use labels::*;
 pub use line::LineStart;
 pub use page_events::{CodeBlockKind, Event, OffsetIter, Parser, Tag, TagEnd, Target};
-pub use page_html::{html, safe_html, safe_html_with_schemes, Extensions};
+pub use page_html::{html, html_unsafe, html_with_schemes, Extensions};
 pub use pages::{
     scan_blocks, scan_lists, Block, BlockExtensions, BlockKind, BlockReader, Blocks, Container, ListBlock,
 };

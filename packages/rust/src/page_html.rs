@@ -31,49 +31,49 @@ impl Extensions {
     }
 }
 
-/// The HTML of a page, as the examples of CommonMark and of GitHub Flavored Markdown write it. Raw HTML stands in it as it is, and
-/// links lead anywhere: it is for text by people who are trusted, and [`safe_html`] for text by others. (3 to 6)
+/// The HTML of a page, safe for pages by people who are not trusted: raw HTML is written as text; of links and images an address is
+/// written where it is relative or has one of the schemes `http`, `https`, `mailto` and `tel`, and else an empty one; and links say
+/// `rel="nofollow noopener"`. All else is as the examples of CommonMark and of GitHub Flavored Markdown have it. (3 to 6)
 ///
 /// ```
 /// use fillaqut::{html, Extensions};
-/// assert_eq!(html("# A\n<b>", Extensions::default()), "<h1>A</h1>\n<b>\n");
-/// let asked = Extensions { strikethrough: true, ..Extensions::default() };
-/// assert_eq!(html("~~a~~", asked), "<p><del>a</del></p>\n");
+/// assert_eq!(html("<script>", Extensions::default()), "&lt;script&gt;\n");
+/// let expected = "<p><a href=\"\" rel=\"nofollow noopener\">a</a></p>\n";
+/// assert_eq!(html("[a](javascript:b)", Extensions::default()), expected);
 /// ```
 #[must_use]
 pub fn html(text: &str, extensions: Extensions) -> String {
-    written(text.len(), |buffer| raw::html(text, extensions.bits(), buffer))
+    written(text.len(), |buffer| raw::html(text, extensions.bits(), &[], buffer))
 }
 
-/// The HTML of a page by people who are not trusted: raw HTML is written as text; of links and images an address is written where it
-/// is relative or has one of the schemes `http`, `https`, `mailto` and `tel`, and else an empty one; and links say
-/// `rel="nofollow noopener"`. (3 to 6)
-///
-/// ```
-/// use fillaqut::{safe_html, Extensions};
-/// assert_eq!(safe_html("<script>", Extensions::default()), "&lt;script&gt;\n");
-/// let expected = "<p><a href=\"\" rel=\"nofollow noopener\">a</a></p>\n";
-/// assert_eq!(safe_html("[a](javascript:b)", Extensions::default()), expected);
-/// ```
-#[must_use]
-pub fn safe_html(text: &str, extensions: Extensions) -> String {
-    written(text.len(), |buffer| raw::safe_html(text, extensions.bits(), &[], buffer))
-}
-
-/// The same as [`safe_html`], where addresses are written whose scheme is one of these, without regard to case, and relative ones.
+/// The same as [`html`], where addresses are written whose scheme is one of these, without regard to case, and relative ones.
 /// Schemes have no colon; where there are none, relative addresses are written alone.
 ///
 /// ```
-/// use fillaqut::{safe_html_with_schemes, Extensions};
+/// use fillaqut::{html_with_schemes, Extensions};
 /// let expected = "<p><a href=\"ftp://a\" rel=\"nofollow noopener\">ftp://a</a></p>\n";
-/// assert_eq!(safe_html_with_schemes("<ftp://a>", Extensions::default(), &["ftp"]), expected);
+/// assert_eq!(html_with_schemes("<ftp://a>", Extensions::default(), &["ftp"]), expected);
 /// let expected = "<p><a href=\"\" rel=\"nofollow noopener\">ftp://a</a></p>\n";
-/// assert_eq!(safe_html_with_schemes("<ftp://a>", Extensions::default(), &[]), expected);
+/// assert_eq!(html_with_schemes("<ftp://a>", Extensions::default(), &[]), expected);
 /// ```
 #[must_use]
-pub fn safe_html_with_schemes(text: &str, extensions: Extensions, schemes: &[&str]) -> String {
+pub fn html_with_schemes(text: &str, extensions: Extensions, schemes: &[&str]) -> String {
     let schemes = if schemes.is_empty() { &[""] } else { schemes }; // no address has this one
-    written(text.len(), |buffer| raw::safe_html(text, extensions.bits(), schemes, buffer))
+    written(text.len(), |buffer| raw::html(text, extensions.bits(), schemes, buffer))
+}
+
+/// The HTML of a page, as the examples write it. Raw HTML stands in it as it is, and links lead anywhere: it is for text of one's own,
+/// and [`html`] for text by others. (3 to 6)
+///
+/// ```
+/// use fillaqut::{html_unsafe, Extensions};
+/// assert_eq!(html_unsafe("# A\n<b>", Extensions::default()), "<h1>A</h1>\n<b>\n");
+/// let asked = Extensions { strikethrough: true, ..Extensions::default() };
+/// assert_eq!(html_unsafe("~~a~~", asked), "<p><del>a</del></p>\n");
+/// ```
+#[must_use]
+pub fn html_unsafe(text: &str, extensions: Extensions) -> String {
+    written(text.len(), |buffer| raw::html_unsafe(text, extensions.bits(), buffer))
 }
 
 /// What is written where there is room, which is made anew where it is too short.

@@ -358,18 +358,18 @@ fn views_of(texts: &[&str]) -> Vec<ffi::View> {
     texts.iter().map(|it| ffi::View { text: front(it.as_bytes()), length: it.len() }).collect()
 }
 
-pub(crate) fn html(text: &str, options: u32, buffer: &mut [u8]) -> Text {
+pub(crate) fn html_unsafe(text: &str, options: u32, buffer: &mut [u8]) -> Text {
     let bytes = text.as_bytes();
     // SAFETY: each pointer and length are those of one slice, and what is written is a `&mut` of its own.
-    returned(unsafe { ffi::mds_html(front(bytes), bytes.len(), options, buffer.as_mut_ptr(), buffer.len()) })
+    returned(unsafe { ffi::mds_html_unsafe(front(bytes), bytes.len(), options, buffer.as_mut_ptr(), buffer.len()) })
 }
 
-pub(crate) fn safe_html(text: &str, options: u32, schemes: &[&str], buffer: &mut [u8]) -> Text {
+pub(crate) fn html(text: &str, options: u32, schemes: &[&str], buffer: &mut [u8]) -> Text {
     let (bytes, views) = (text.as_bytes(), views_of(schemes));
     let (out, capacity) = (buffer.as_mut_ptr(), buffer.len());
     // SAFETY: each pointer and length are those of one slice, those of the views too, and what is written is a `&mut` of its own.
     returned(unsafe {
-        ffi::mds_safe_html(front(bytes), bytes.len(), options, views.as_ptr(), views.len(), out, capacity)
+        ffi::mds_html(front(bytes), bytes.len(), options, views.as_ptr(), views.len(), out, capacity)
     })
 }
 

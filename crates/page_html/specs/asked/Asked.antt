@@ -1,5 +1,5 @@
 -- What the words of the command line ask for, beside what those of each program ask for. An option and its value are one word.
-use Rattle.std.specs.Prelude.{ℕ, Bool, true, false, ◌||◌, List, [], ◌∷◌, codes, if◌then◌else◌}
+use Rattle.std.specs.Prelude.{ℕ, Bool, true, false, not, ◌||◌, List, [], ◌∷◌, codes, if◌then◌else◌}
 use Rattle.std.specs.Borrow.{Bor}
 use Rattle.markdown_inlines.specs.declared.extensions.InlineExtensions.{InlineExtensions}
 use Rattle.markdown_events.specs.declared.settings.PageSetting.{PageSetting}
@@ -10,8 +10,8 @@ use Rattle.page_html.specs.declared.asked.Form.TheVariants.{Html, Events, Json}
 
 -- ---- the options that the program has of its own
 
-abbrev pub safe : List ℕ
-safe = codes "--safe"
+abbrev pub unsafe : List ℕ
+unsafe = codes "--unsafe"
 
 abbrev pub strict : List ℕ
 strict = codes "--strict"
@@ -41,7 +41,7 @@ abbrev pub gfm : List ℕ
 gfm = codes "--gfm"
 
 abbrev pub own_options : List (List ℕ)
-own_options = safe ∷ strict ∷ to_html ∷ to_events ∷ to_json ∷ table ∷ strikethrough ∷ tasklist ∷ wikilinks ∷ gfm ∷ []
+own_options = unsafe ∷ strict ∷ to_html ∷ to_events ∷ to_json ∷ table ∷ strikethrough ∷ tasklist ∷ wikilinks ∷ gfm ∷ []
 
 -- ---- what they ask for
 
@@ -65,4 +65,4 @@ is_html Json = false
 
 abbrev pub asked_of : List (Bor (List ℕ)) → Asked
 asked_of words =
-    record { form = form_of words; safe = asks safe words; strict = asks strict words; setting = setting_of words }
+    record { form = form_of words; safe = not (asks unsafe words); strict = asks strict words; setting = setting_of words }

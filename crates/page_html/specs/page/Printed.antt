@@ -28,14 +28,14 @@ IsPrintedAs Html asked page text = IsHtmlOf page asked.setting (html_setting ask
 IsPrintedAs Events asked page text = AreEventLines EventForms.Words asked.setting page text
 IsPrintedAs Json asked page text = AreEventLines EventForms.Json asked.setting page text
 
--- Where safe HTML is asked for, no script has a place in the text.
-abbrev pub IsSafeIfAsked : Asked → List ℕ → Type 0
-IsSafeIfAsked asked text = asked.form ≡ Html → asked.safe ≡ true → IsSafeHtml default_schemes text
+-- In safe HTML no script has a place.
+abbrev pub IsSafeUnlessAsked : Asked → List ℕ → Type 0
+IsSafeUnlessAsked asked text = asked.form ≡ Html → asked.safe ≡ true → IsSafeHtml default_schemes text
 
--- The text is what is printed of the page in the form that is asked for, and safe where that is.
+-- The text is what is printed of the page in the form that is asked for, and safe unless other HTML is.
 pub record IsPrinted (asked : Asked) (page text : List ℕ) : Type 0 where
   pub is_printed : IsPrintedAs asked.form asked page text
-  pub is_safe : IsSafeIfAsked asked text
+  pub is_safe : IsSafeUnlessAsked asked text
 
 -- known bytes grow by the title, which is empty, and by what is printed of the page
 abbrev pub IsPrintedTo : Asked → List ℕ → List ℕ → Option (List ℕ) → Option (List ℕ) → Type 0

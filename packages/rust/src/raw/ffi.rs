@@ -534,8 +534,7 @@ extern "C" {
         inlines: *mut Inline,
         capacity: usize,
     ) -> Inlines;
-    pub fn mds_html(text: *const c_void, length: usize, options: u32, buffer: *mut u8, capacity: usize) -> Text;
-    pub fn mds_safe_html(
+    pub fn mds_html(
         text: *const c_void,
         length: usize,
         options: u32,
@@ -544,6 +543,7 @@ extern "C" {
         buffer: *mut u8,
         capacity: usize,
     ) -> Text;
+    pub fn mds_html_unsafe(text: *const c_void, length: usize, options: u32, buffer: *mut u8, capacity: usize) -> Text;
     pub fn mds_events(
         text: *const c_void,
         length: usize,

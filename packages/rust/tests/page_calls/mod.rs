@@ -197,18 +197,18 @@ fn many_inlines() {
 fn html_of_pages() {
     let none = Extensions::default();
     let every = Extensions { tables: true, strikethrough: true, tasks: true, wikilinks: true };
-    assert_eq!(html("", none), "");
-    assert_eq!(html("> # Foo\n> bar\n> baz\n", none), "<blockquote>\n<h1>Foo</h1>\n<p>bar\nbaz</p>\n</blockquote>\n"); // 228
-    assert_eq!(html("</div>\n*foo*\n", none), "</div>\n*foo*\n"); // 151
+    assert_eq!(html_unsafe("", none), "");
+    assert_eq!(html_unsafe("> # Foo\n> bar\n> baz\n", none), "<blockquote>\n<h1>Foo</h1>\n<p>bar\nbaz</p>\n</blockquote>\n"); // 228
+    assert_eq!(html_unsafe("</div>\n*foo*\n", none), "</div>\n*foo*\n"); // 151
     let table = "<table>\n<thead>\n<tr>\n<th>abc</th>\n<th>def</th>\n</tr>\n</thead>\n</table>\n";
-    assert_eq!(html("| abc | def |\n| --- | --- |\n", every), table); // 205
-    assert_eq!(safe_html("| abc | def |\n| --- | --- |\n", every), table);
-    assert_eq!(html("| a |\n| - |\n", none), "<p>| a |\n| - |</p>\n");
+    assert_eq!(html_unsafe("| abc | def |\n| --- | --- |\n", every), table); // 205
+    assert_eq!(html("| abc | def |\n| --- | --- |\n", every), table);
+    assert_eq!(html_unsafe("| a |\n| - |\n", none), "<p>| a |\n| - |</p>\n");
     let struck = "<p><del>Hi</del> Hello, <del>there</del> world!</p>\n";
-    assert_eq!(html("~~Hi~~ Hello, ~there~ world!\n", every), struck); // 491
+    assert_eq!(html_unsafe("~~Hi~~ Hello, ~there~ world!\n", every), struck); // 491
     let tasks = "<ul>\n<li><input disabled=\"\" type=\"checkbox\"> foo</li>\n</ul>\n";
-    assert_eq!(html("- [ ] foo\n", every), tasks); // 279
-    assert_eq!(html("[[a|b]]", every), "<p><a href=\"a\">b</a></p>\n");
+    assert_eq!(html_unsafe("- [ ] foo\n", every), tasks); // 279
+    assert_eq!(html_unsafe("[[a|b]]", every), "<p><a href=\"a\">b</a></p>\n");
 }
 
 /// Each extension is its own.
@@ -220,24 +220,24 @@ fn html_by_one_extension() {
         let (tables, strikethrough, tasks, wikilinks) = (only(0), only(1), only(2), only(3));
         let extensions = Extensions { tables, strikethrough, tasks, wikilinks };
         for (number, page) in pages.iter().enumerate() {
-            let is_read = html(page, extensions) != html(page, Extensions::default());
+            let is_read = html_unsafe(page, extensions) != html_unsafe(page, Extensions::default());
             assert_eq!(is_read, number == asked, "{page} with the extension {asked}");
         }
     }
 }
 
 #[test]
-fn safe_html_of_pages() {
+fn html_of_pages_by_others() {
     let none = Extensions::default();
     let link =
         |address: &str, text: &str| format!("<p><a href=\"{address}\" rel=\"nofollow noopener\">{text}</a></p>\n");
-    assert_eq!(safe_html("a <b c=\"d\">&amp;", none), "<p>a &lt;b c=&quot;d&quot;&gt;&amp;</p>\n");
-    assert_eq!(safe_html("<HTTP://b>", none), link("HTTP://b", "HTTP://b"));
-    assert_eq!(safe_html("[a](java&Tab;script:b)", none), link("", "a"));
-    assert_eq!(safe_html_with_schemes("<https://a>", none, &["ftp", "HTTPS"]), link("https://a", "https://a"));
-    assert_eq!(safe_html_with_schemes("<https://a>", none, &["ftp"]), link("", "https://a"));
-    assert_eq!(safe_html_with_schemes("<https://a>", none, &[]), link("", "https://a"));
-    assert_eq!(safe_html_with_schemes("[a](b)", none, &[]), link("b", "a"));
+    assert_eq!(html("a <b c=\"d\">&amp;", none), "<p>a &lt;b c=&quot;d&quot;&gt;&amp;</p>\n");
+    assert_eq!(html("<HTTP://b>", none), link("HTTP://b", "HTTP://b"));
+    assert_eq!(html("[a](java&Tab;script:b)", none), link("", "a"));
+    assert_eq!(html_with_schemes("<https://a>", none, &["ftp", "HTTPS"]), link("https://a", "https://a"));
+    assert_eq!(html_with_schemes("<https://a>", none, &["ftp"]), link("", "https://a"));
+    assert_eq!(html_with_schemes("<https://a>", none, &[]), link("", "https://a"));
+    assert_eq!(html_with_schemes("[a](b)", none, &[]), link("b", "a"));
 }
 
 /// An address is written as often as it is referred to.
@@ -246,5 +246,5 @@ fn long_html() {
     let address = format!("/{}", "b".repeat(5000));
     let page = format!("{}\n[a]: {address}\n", "[a]\n".repeat(100));
     let links = vec![format!("<a href=\"{address}\">a</a>"); 100];
-    assert_eq!(html(&page, Extensions::default()), format!("<p>{}</p>\n", links.join("\n")));
+    assert_eq!(html_unsafe(&page, Extensions::default()), format!("<p>{}</p>\n", links.join("\n")));
 }

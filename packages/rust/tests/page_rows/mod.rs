@@ -142,12 +142,12 @@ fn extensions(row: &PageRow) -> Extensions {
 
 #[test]
 fn rows_of_html() {
-    each_page("html", |row| assert_eq!(html(&row.text, extensions(row)), row.answer, "{}", row.place));
-    each_page("safe_html", |row| {
+    each_page("html_unsafe", |row| assert_eq!(html_unsafe(&row.text, extensions(row)), row.answer, "{}", row.place));
+    each_page("html", |row| {
         let scheme = row.words.iter().find(|(name, _)| name == "scheme").map(|(_, scheme)| &scheme[..]);
         let found = match scheme {
-            Some(scheme) => safe_html_with_schemes(&row.text, extensions(row), &[scheme]),
-            None => safe_html(&row.text, extensions(row)),
+            Some(scheme) => html_with_schemes(&row.text, extensions(row), &[scheme]),
+            None => html(&row.text, extensions(row)),
         };
         assert_eq!(found, row.answer, "{}", row.place);
     });

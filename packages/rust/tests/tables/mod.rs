@@ -14,7 +14,7 @@ pub const HTML_KINDS: [HtmlBlockKind; 7] = [
 ];
 const FOLDER: &str = concat!(env!("CARGO_MANIFEST_DIR"), "/..");
 const PAGE_CALLS: [&str; 7] =
-    ["scan_blocks", "block_content", "scan_lists", "scan_inlines", "html", "safe_html", "events"];
+    ["scan_blocks", "block_content", "scan_lists", "scan_inlines", "html_unsafe", "html", "events"];
 
 /// The bytes of a text as the file has it.
 pub fn read_text(text: &str) -> Vec<u8> {

@@ -1,5 +1,5 @@
 -- The setting is safe by the schemes of the caller.
-use Rattle.markdown_scanners_c.proofs.page_html.mds_safe_html.Goals as goal
+use Rattle.markdown_scanners_c.proofs.page_html.mds_html.Goals as goal
 
 pub returns-clause-safe : goal.returns-clause-safe
 returns-clause-safe c = λ done.
