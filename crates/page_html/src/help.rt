@@ -35,6 +35,8 @@ links say rel=\"nofollow noopener\".
 
   --gfm            the same as -e table -e strikethrough -e tasklist
 
+An option and its value may be one word, as --to=json and -etable.
+
 As JSON each event is an object on a line of its own. All have three members: kind, which is start,
 end, text, code, html, inline html, soft break, hard break, rule or task; start, how many bytes of
 the page stand before its source; and end, how many before what follows that. After them come

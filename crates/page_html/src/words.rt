@@ -1,11 +1,12 @@
 //! The words of the command line, some of which take the word after them.
 ghost use Rattle.std.specs.Prelude.{◌≡◌, ◌<◌, ◌≤◌, ◌++◌, IfOk, OnOk, codes, drop, length, map, string_bytes};
-ghost use Rattle.page_html.specs.words.Values.{joined, takes_value};
+ghost use Rattle.page_html.specs.words.Values.{joined, spelled, takes_value};
 
 use std::alloc::{AllocError, Global};
 
-/// The words, where up to `--` each option that takes a value, `-e` or `--to`, is one word with it:
-/// of `-e` and `table` becomes `-e table`. This is what `run_program` takes.
+/// The words, where up to `--` each option that takes a value, `-e` or `--to`, is one word with it and
+/// a space between: of `-e` and `table`, and of `-etable`, becomes `-e table`. This is what
+/// `run_program` takes.
 ///
 /// # Errors
 ///
@@ -40,7 +41,7 @@ fn push_next(alloc: Global, made: &mut Vec<String>, words: &[String]) -> Result<
         made.push(with_value(alloc, word, words[1].as_str())?)?;
         return Ok(2);
     }
-    made.push(words[0].clone()?)?;
+    made.push(String::from_str(alloc, spelled(word))?)?;
     Ok(1)
 }
 
@@ -65,6 +66,22 @@ fn with_value(alloc: Global, option: &str, value: &str) -> Result<String, AllocE
     word.push_str(" ")?;
     word.push_str(value)?;
     Ok(word)
+}
+
+// The word; where an option has its value in it, with a space between them.
+fn spelled(word: &str) -> &str
+    ensures { result.now ≡ spelled word.now }
+{
+    match word {
+        "--to=html" => "--to html",
+        "--to=events" => "--to events",
+        "--to=json" => "--to json",
+        "-etable" => "-e table",
+        "-estrikethrough" => "-e strikethrough",
+        "-etasklist" => "-e tasklist",
+        "-ewikilinks" => "-e wikilinks",
+        _ => word,
+    }
 }
 
 // Whether an option takes the word after it.

@@ -6,11 +6,23 @@ use Rattle.page_programs.specs.Words.{is_last}
 abbrev pub takes_value : List ℕ → Bool
 takes_value word = bytes_eq word (codes "-e") || bytes_eq word (codes "--to")
 
--- The words, where up to `--` each that takes a value is one word with it, and a space stands between them.
+-- A word in which an option has its value, as after `--to=` and `-e`, with a space between them.
+abbrev pub spelled : List ℕ → List ℕ
+spelled word =
+    if bytes_eq word (codes "--to=html") then codes "--to html"
+    else if bytes_eq word (codes "--to=events") then codes "--to events"
+    else if bytes_eq word (codes "--to=json") then codes "--to json"
+    else if bytes_eq word (codes "-etable") then codes "-e table"
+    else if bytes_eq word (codes "-estrikethrough") then codes "-e strikethrough"
+    else if bytes_eq word (codes "-etasklist") then codes "-e tasklist"
+    else if bytes_eq word (codes "-ewikilinks") then codes "-e wikilinks"
+    else word
+
+-- The words, where up to `--` each option and its value are one word, and a space stands between them.
 abbrev pub joined : List (List ℕ) → List (List ℕ)
 joined [] = []
-joined (word ∷ []) = word ∷ []
+joined (word ∷ []) = if is_last word then word ∷ [] else spelled word ∷ []
 joined (word ∷ value ∷ words) =
     if is_last word then word ∷ value ∷ words
     else if takes_value word then (word ++ (codes " " ++ value)) ∷ joined words
-    else word ∷ joined (value ∷ words)
+    else spelled word ∷ joined (value ∷ words)
