@@ -61,14 +61,24 @@ export class Scanners {
     }
 
     /**
-     * The HTML of a page, a string of a string, and bytes of bytes. Unless `safe` is false, it is for pages by people who are not
-     * trusted, as `Text.html` says. NotUtf8 and LoneSurrogate as of `text`. (3 to 6)
+     * The HTML of a page, a string of a string, and bytes of bytes, safe for pages by people who are not trusted, as `Text.html` says.
+     * NotUtf8 and LoneSurrogate as of `text`. (3 to 6)
      * @template {string | Uint8Array} Made
      * @param {Made} page
-     * @param {{ safe?: boolean, extensions?: import("./lib/text.mjs").Extension[] }} [options]
+     * @param {{ extensions?: import("./lib/text.mjs").Extension[] }} [options]
      */
     html(page, options = {}) {
         return this.text(page).html(options);
+    }
+
+    /**
+     * The same with its raw HTML and all its addresses, for text of one's own, as `Text.htmlUnsafe` says.
+     * @template {string | Uint8Array} Made
+     * @param {Made} page
+     * @param {{ extensions?: import("./lib/text.mjs").Extension[] }} [options]
+     */
+    htmlUnsafe(page, options = {}) {
+        return this.text(page).htmlUnsafe(options);
     }
 
     /**

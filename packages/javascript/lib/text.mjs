@@ -253,17 +253,33 @@ export class Text extends Inlines {
     }
 
     /**
-     * The HTML of the text, a page, as the examples of CommonMark write it. Unless `safe` is false, it is for pages by people who are not
-     * trusted: raw HTML is written as text, links and images lead to addresses that are relative or have one of the schemes http,
-     * https, mailto and tel, others being written as empty, and links say `rel="nofollow noopener"`. NotUtf8. (3 to 6)
-     * @param {{ safe?: boolean, extensions?: Extension[] }} [options]
+     * The HTML of the text, a page, safe for pages by people who are not trusted: raw HTML is written as text, links and images lead to
+     * addresses that are relative or have one of the schemes http, https, mailto and tel, others being written as empty, and links say
+     * `rel="nofollow noopener"`. All else is as the examples of CommonMark have it. NotUtf8. (3 to 6)
+     * @param {{ extensions?: Extension[] }} [options]
      */
     html(options = {}) {
-        const { safe = true, extensions } = optionsOf(options, "safe", "extensions");
-        const asked = bitsOf(extensions);
-        const [name, ...schemes] = flagOf("safe", safe) ? ["html", 0, 0] : ["htmlUnsafe"];
+        return this.writtenHtml("html", bitsOf(optionsOf(options, "extensions").extensions), 0, 0);
+    }
+
+    /**
+     * The same, as the examples write it: raw HTML stands in it as it is, and links lead anywhere. It is for text of one's own, and `html`
+     * for text by others. NotUtf8. (3 to 6)
+     * @param {{ extensions?: Extension[] }} [options]
+     */
+    htmlUnsafe(options = {}) {
+        return this.writtenHtml("htmlUnsafe", bitsOf(optionsOf(options, "extensions").extensions));
+    }
+
+    /**
+     * The HTML that this call writes with these bits of extensions, and with what it takes besides.
+     * @param {string} call
+     * @param {number} asked
+     * @param {number[]} schemes
+     */
+    writtenHtml(call, asked, ...schemes) {
         for (let capacity = 2 * this.bytes.length + HTML_ROOM; ; ) {
-            const [found, html] = this.written(String(name), 0, this.length, capacity, asked, ...schemes);
+            const [found, html] = this.written(call, 0, this.length, capacity, asked, ...schemes);
             if (found.status !== c.TOO_SHORT) {
                 isAnswer(found.status);
                 return this.made(html);

@@ -8,41 +8,39 @@ import { hold } from "./totals.mjs";
 
 const scanners = await mds.load(MODULE);
 
-function areRows(rows, asked) {
+function areRows(rows, call) {
     for (const row of rows) {
         const { page, answer, where } = row;
-        const options = { ...asked, extensions: extensionsOf(row) };
-        assert.equal(scanners.html(page, options), answer, where);
-        assert.equal(scanners.text(page, { units: "utf-16" }).html(options), answer, where);
-        assert.equal(Buffer.from(scanners.html(new TextEncoder().encode(page), options)).toString(), answer, where);
+        const options = { extensions: extensionsOf(row) };
+        assert.equal(scanners[call](page, options), answer, where);
+        assert.equal(scanners.text(page, { units: "utf-16" })[call](options), answer, where);
+        assert.equal(Buffer.from(scanners[call](new TextEncoder().encode(page), options)).toString(), answer, where);
     }
 }
 
 test("each row of html_unsafe", () => {
     const rows = pages("html_unsafe");
-    areRows(rows, { safe: false });
+    areRows(rows, "htmlUnsafe");
     hold("html_unsafe", rows.length);
 });
 
 test("each row of html, but for those that name a scheme, as no call of the package does", () => {
     const [ofSchemes, others] = [[], []];
     for (const row of pages("html")) (row.words.some((word) => word.startsWith("scheme=")) ? ofSchemes : others).push(row);
-    areRows(others, {});
-    areRows(others, { safe: true });
+    areRows(others, "html");
     hold("html", others.length);
     hold("html_left_out", ofSchemes.length);
 });
 
-test("safe is the default", () => {
+test("html is safe", () => {
     assert.equal(scanners.html("<script>"), "&lt;script&gt;\n");
-    assert.equal(scanners.html("<script>", { safe: undefined }), "&lt;script&gt;\n");
-    assert.equal(scanners.html("<script>", { safe: false }), "<script>\n");
-    assert.throws(() => scanners.html("a", { safe: 0 }), { name: "TypeError", message: /safe/ });
+    assert.equal(scanners.htmlUnsafe("<script>"), "<script>\n");
+    assert.throws(() => scanners.html("a", { safe: false }), { name: "TypeError", message: /safe/ });
     assert.throws(() => scanners.html("a", { unsafe: true }), { name: "TypeError", message: /unsafe/ });
 });
 
 test("unknown extensions", () => {
-    assert.equal(scanners.html("[[a|b]]", { safe: false, extensions: ["wikilinks"] }), '<p><a href="a">b</a></p>\n');
+    assert.equal(scanners.htmlUnsafe("[[a|b]]", { extensions: ["wikilinks"] }), '<p><a href="a">b</a></p>\n');
     for (const extension of ["footnotes", "Table", "", "toString", 2, null]) {
         assert.throws(() => scanners.html("a", { extensions: ["table", extension] }), { name: "TypeError", message: /there is no extension/ });
     }
@@ -58,6 +56,6 @@ test("pages that are refused", () => {
 test("HTML that is longer than its first room", () => {
     const address = `/${"b".repeat(5000)}`;
     const link = `<a href="${address}">a</a>`;
-    const html = scanners.html(`${"[a]\n".repeat(100)}\n[a]: ${address}\n`, { safe: false });
+    const html = scanners.htmlUnsafe(`${"[a]\n".repeat(100)}\n[a]: ${address}\n`);
     assert.equal(html, `<p>${Array(100).fill(link).join("\n")}</p>\n`);
 });

@@ -38,10 +38,10 @@ async function print(name, making) {
 
 for (const name of ["fillaqut.wasm", "fillaqut64.wasm"]) {
     const extensions = ["table", "strikethrough", "tasklist"];
-    for (const options of [{}, { safe: false }, { extensions }]) {
-        await print(`${name} ${JSON.stringify(options)}`, async () => {
+    for (const [call, options] of [["html", {}], ["htmlUnsafe", {}], ["html", { extensions }]]) {
+        await print(`${name} ${call} ${JSON.stringify(options)}`, async () => {
             const markdown = await load(new URL(name, PACKAGE));
-            return () => markdown.html(page, options);
+            return () => markdown[call](page, options);
         });
     }
 }

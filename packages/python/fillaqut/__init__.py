@@ -1,5 +1,5 @@
-"""A Markdown parser, proved to do what CommonMark 0.31.2 says: `html` and `events` of a page, its blocks and inlines, and the scanners
-below them.
+"""A Markdown parser, each of whose functions is proved to meet its contract, after CommonMark 0.31.2: `html` and `events` of a page, its
+blocks and inlines, and the scanners below them.
 
 Each call reads a page, `bytes`, another buffer or a `str`, from the offset `at` on, up to the offset `end`, and copies none of
 it. Scanners return offsets of the same page: a number alone is the offset after what was scanned. None says that nothing of the
@@ -102,7 +102,7 @@ from .line_scanners import (
     scan_whitespace_in_line,
 )
 from .page_events import Element, Event, EventKind, LinkKind, Target, events
-from .page_html import html
+from .page_html import html, html_unsafe
 from .pages import Block, BlockKind, BlockQuote, Container, FootnoteDefinition, Item, ListBlock, TermDefinition
 from .pages import scan_blocks, scan_lists
 from .readers import BlockReader, read_blocks
@@ -167,6 +167,7 @@ __all__ = [
     "ends_html_block",
     "events",
     "html",
+    "html_unsafe",
     "interrupts_paragraph",
     "is_punctuation",
     "is_unicode_punctuation",

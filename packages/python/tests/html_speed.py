@@ -16,16 +16,16 @@ sys.path.insert(0, os.environ.get("PYTHONPATH") or str(TOP / "packages/python"))
 os.environ.setdefault("FILLAQUT_LIBRARY", str(TOP / "out/libfillaqut.so.0"))
 
 
-def scanners(**asked):
+def scanners(call="html", **asked):
     """This package's call."""
-    made = import_module("fillaqut").html
+    made = getattr(import_module("fillaqut"), call)
     return lambda page: made(page, **asked)
 
 
 # Of each row its name, and what makes the call; ImportError where the package is not installed.
 MAKERS = {
-    "fillaqut, safe": scanners,
-    "fillaqut, safe=False": lambda: scanners(safe=False),
+    "fillaqut": scanners,
+    "fillaqut, html_unsafe": lambda: scanners("html_unsafe"),
     "fillaqut, with tables, strikethrough and tasks": lambda: scanners(extensions=["table", "strikethrough", "tasklist"]),
     "markdown_it": lambda: import_module("markdown_it").MarkdownIt("commonmark").render,
     "mistune": lambda: import_module("mistune").html,

@@ -150,8 +150,8 @@ class Events(unittest.TestCase):
         found = list(spec.examples(spec.COMMONMARK))
         for example in found:
             page, expected = example.page.decode(), example.html.decode()
-            self.assertEqual(mds.html(page, safe=False), expected, example)
-            self.assertEqual(mds.html(example.page, safe=False), example.html, example)
+            self.assertEqual(mds.html_unsafe(page), expected, example)
+            self.assertEqual(mds.html_unsafe(example.page), example.html, example)
             self.assertEqual(without_lines(html_of(page)), without_lines(expected), example)
         hold(self, "examples_of_spec", len(found))
 

@@ -19,26 +19,24 @@ def asked_of(row):
 
 
 class Html(unittest.TestCase):
-    def are_rows(self, rows, **asked):
+    def are_rows(self, rows, call):
         for row in rows:
-            page, html = row.text.decode(), row.answer
-            asked["extensions"] = asked_of(row)
-            self.assertEqual(mds.html(page, **asked), html.decode(), row.where)
-            self.assertEqual(mds.html(row.text, **asked), html, row.where)
-            self.assertEqual(mds.html(bytearray(row.text), **asked), html, row.where)
+            page, html, extensions = row.text.decode(), row.answer, asked_of(row)
+            self.assertEqual(call(page, extensions=extensions), html.decode(), row.where)
+            self.assertEqual(call(row.text, extensions=extensions), html, row.where)
+            self.assertEqual(call(bytearray(row.text), extensions=extensions), html, row.where)
 
-    def test_rows(self):
+    def test_rows_of_html_unsafe(self):
         rows = tables.pages("html_unsafe")
-        self.are_rows(rows, safe=False)
+        self.are_rows(rows, mds.html_unsafe)
         hold(self, "html_unsafe", len(rows))
 
-    def test_rows_of_safe_html(self):
+    def test_rows(self):
         """But for those that name a scheme, as no call of the package does."""
         rows = tables.pages("html")
         of_schemes = [row for row in rows if any(word.startswith("scheme=") for word in row.words)]
         others = [row for row in rows if row not in of_schemes]
-        self.are_rows(others)
-        self.are_rows(others, safe=True)
+        self.are_rows(others, mds.html)
         hold(self, "html", len(others))
         hold(self, "html_left_out", len(of_schemes))
 
@@ -55,13 +53,13 @@ class Html(unittest.TestCase):
                 self.assertEqual(row.answer, example.html, row.where)
         hold(self, "numbered_rows", len(rows))
 
-    def test_safe_is_the_default(self):
+    def test_html_is_safe(self):
         self.assertEqual(mds.html("<script>"), "&lt;script&gt;\n")
-        self.assertEqual(mds.html("<script>", safe=False), "<script>\n")
-        self.assertRaises(TypeError, mds.html, "a", safe=1)
+        self.assertEqual(mds.html_unsafe("<script>"), "<script>\n")
+        self.assertRaises(TypeError, mds.html, "a", safe=False)
 
     def test_extensions(self):
-        self.assertEqual(mds.html("[[a|b]]", extensions=["wikilinks"], safe=False), '<p><a href="a">b</a></p>\n')
+        self.assertEqual(mds.html_unsafe("[[a|b]]", extensions=["wikilinks"]), '<p><a href="a">b</a></p>\n')
         self.assertEqual(mds.html("~a~", extensions=[]), "<p>~a~</p>\n")
         self.assertEqual(mds.html("~a~", extensions=iter(["strikethrough"])), "<p><del>a</del></p>\n")
         for names in (["footnotes"], ["table", "Table"], [""], [1], [None]):
@@ -83,7 +81,7 @@ class Html(unittest.TestCase):
         """More than a first buffer holds: an address is written as often as it is referred to."""
         address = "/" + "b" * 5000
         expected = "\n".join([f'<a href="{address}">a</a>'] * 100)
-        self.assertEqual(mds.html("[a]\n" * 100 + f"\n[a]: {address}\n", safe=False), f"<p>{expected}</p>\n")
+        self.assertEqual(mds.html_unsafe("[a]\n" * 100 + f"\n[a]: {address}\n"), f"<p>{expected}</p>\n")
 
 
 if __name__ == "__main__":
