@@ -1,5 +1,5 @@
 /**
- * A Markdown parser, proved to do what CommonMark 0.31.2 says: HTML and events of a page, its blocks and inlines, and the scanners
+ * A Markdown parser whose every function is proved to meet its contract: HTML and events of a page, its blocks and inlines, and the scanners
  * below them.
  *
  *     import { load } from "./fillaqut.mjs";
