@@ -35,7 +35,7 @@ SMALL = [
     Html("code", "", b"~~~ x\na\n~~~\n", b'<pre><code class="language-x">a\n</code></pre>\n'),
     Html("a list", "", b"2) a\n", b'<ol start="2">\n<li>a</li>\n</ol>\n'),
     Html("a list with a task", "--gfm", b"- [ ] a\n", b'<ul>\n<li><input disabled="" type="checkbox"> a</li>\n</ul>\n'),
-    Html("a table", "-e table", b"|a|\n|:-|\n", b'<table>\n<thead>\n<tr>\n<th align="left">a</th>\n</tr>\n</thead>\n</table>\n'),
+    Html("a table", "-e tables", b"|a|\n|:-|\n", b'<table>\n<thead>\n<tr>\n<th align="left">a</th>\n</tr>\n</thead>\n</table>\n'),
     Html("not UTF-8", "", b"\xff\n", "<p>\ufffd</p>\n".encode()),
     Html("not UTF-8 and refused", "--strict", b"a\xff\n", b"", 3, err=not_text_of(Html.program, 1)),
     Html("no page", "", b"", b""),

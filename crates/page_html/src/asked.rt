@@ -69,8 +69,8 @@ fn setting_of(words: &[&str]) -> PageSetting
 {
     let gfm = has_option(words, "--gfm");
     PageSetting {
-        tables: gfm || has_option(words, "-e table"),
-        tasks: gfm || has_option(words, "-e tasklist"),
+        tables: gfm || has_option(words, "-e tables"),
+        tasks: gfm || has_option(words, "-e tasks"),
         inlines: InlineExtensions {
             strikethrough: gfm || has_option(words, "-e strikethrough"),
             wikilinks: has_option(words, "-e wikilinks"),

@@ -28,14 +28,14 @@ links say rel=\"nofollow noopener\".
   --to json        prints them as JSON, an object a line
   -e NAME          reads the page with an extension, which is one of
 
-    table          tables of GitHub Flavored Markdown
+    tables         tables of GitHub Flavored Markdown
     strikethrough  text between tildes is struck through, as there
-    tasklist       list items that begin with a box, as there
+    tasks          list items that begin with a box, as there
     wikilinks      links in two pairs of brackets
 
-  --gfm            the same as -e table -e strikethrough -e tasklist
+  --gfm            the same as -e tables -e strikethrough -e tasks
 
-An option and its value may be one word, as --to=json and -etable.
+An option and its value may be one word, as --to=json and -etables.
 
 As JSON each event is an object on a line of its own. All have three members: kind, which is start,
 end, text, code, html, inline html, soft break, hard break, rule or task; start, how many bytes of

@@ -5,7 +5,7 @@ ghost use Rattle.page_html.specs.words.Values.{joined, spelled, takes_value};
 use std::alloc::{AllocError, Global};
 
 /// The words, where up to `--` each option that takes a value, `-e` or `--to`, is one word with it and
-/// a space between: of `-e` and `table`, and of `-etable`, becomes `-e table`. This is what
+/// a space between: of `-e` and `tables`, and of `-etables`, becomes `-e tables`. This is what
 /// `run_program` takes.
 ///
 /// # Errors
@@ -76,9 +76,9 @@ fn spelled(word: &str) -> &str
         "--to=html" => "--to html",
         "--to=events" => "--to events",
         "--to=json" => "--to json",
-        "-etable" => "-e table",
+        "-etables" => "-e tables",
         "-estrikethrough" => "-e strikethrough",
-        "-etasklist" => "-e tasklist",
+        "-etasks" => "-e tasks",
         "-ewikilinks" => "-e wikilinks",
         _ => word,
     }

@@ -16,14 +16,14 @@ const HTML_ROOM = 64;
 /** @type {Record<Extension, number>} */
 const OPTIONS = {
     strikethrough: c.OPTION_STRIKETHROUGH,
-    table: c.OPTION_TABLES,
-    tasklist: c.OPTION_TASKS,
+    tables: c.OPTION_TABLES,
+    tasks: c.OPTION_TASKS,
     wikilinks: c.OPTION_WIKILINKS,
 };
 
 /** @typedef {{ end: number, start: number, stop: number }} Part its own bytes are those from `start` to `stop` */
 /** @typedef {1 | 2 | 3 | 4 | 5 | 6 | 7} HtmlBlockKind the number of a start condition */
-/** @typedef {"strikethrough" | "table" | "tasklist" | "wikilinks"} Extension of GitHub Flavored Markdown 0.29, but for the last */
+/** @typedef {"strikethrough" | "tables" | "tasks" | "wikilinks"} Extension of GitHub Flavored Markdown 0.29, but for the last */
 
 /**
  * A text, with the scanners of lines and blocks, and those of inline text.

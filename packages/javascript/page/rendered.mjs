@@ -7,7 +7,7 @@
 /** @typedef {[name: string, start: number, stop: number]} Source an element's name, and where its source stands */
 
 /** What is read beside CommonMark. */
-export const EXTENSIONS = /** @type {("table" | "strikethrough" | "tasklist")[]} */ (["table", "strikethrough", "tasklist"]);
+export const EXTENSIONS = /** @type {("tables" | "strikethrough" | "tasks")[]} */ (["tables", "strikethrough", "tasks"]);
 
 /** The elements of each event that holds others, but for lists, headings and rows. */
 const OF_ELEMENT = {

@@ -41,10 +41,10 @@ test("html is safe", () => {
 
 test("unknown extensions", () => {
     assert.equal(scanners.htmlUnsafe("[[a|b]]", { extensions: ["wikilinks"] }), '<p><a href="a">b</a></p>\n');
-    for (const extension of ["footnotes", "Table", "", "toString", 2, null]) {
-        assert.throws(() => scanners.html("a", { extensions: ["table", extension] }), { name: "TypeError", message: /there is no extension/ });
+    for (const extension of ["footnotes", "table", "Tables", "", "toString", 2, null]) {
+        assert.throws(() => scanners.html("a", { extensions: ["tables", extension] }), { name: "TypeError", message: /there is no extension/ });
     }
-    assert.throws(() => scanners.html("a", { extensions: "table" }), { name: "TypeError", message: /extensions/ });
+    assert.throws(() => scanners.html("a", { extensions: "tables" }), { name: "TypeError", message: /extensions/ });
 });
 
 test("pages that are refused", () => {

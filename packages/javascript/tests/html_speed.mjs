@@ -37,7 +37,7 @@ async function print(name, making) {
 }
 
 for (const name of ["fillaqut.wasm", "fillaqut64.wasm"]) {
-    const extensions = ["table", "strikethrough", "tasklist"];
+    const extensions = ["tables", "strikethrough", "tasks"];
     for (const [call, options] of [["html", {}], ["htmlUnsafe", {}], ["html", { extensions }]]) {
         await print(`${name} ${call} ${JSON.stringify(options)}`, async () => {
             const markdown = await load(new URL(name, PACKAGE));

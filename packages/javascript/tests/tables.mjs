@@ -100,7 +100,7 @@ export function pages(call) {
 }
 
 /** The extensions of a page that a row asks for, by the package's names. */
-export const extensionsOf = ({ words }) => words.map((word) => ({ tables: "table", tasks: "tasklist" })[word] ?? word);
+export const extensionsOf = ({ words }) => words;
 
 /** What a row of pages.tsv asks for: extensions, and definitions, each a label, a destination and a title. */
 export function asked({ words }) {

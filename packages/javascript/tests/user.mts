@@ -17,8 +17,8 @@ const inlines: (string | undefined)[] = Array.from(
     page.scanInlines(0, 3, { labels: ["a", new Uint8Array([98])], strikethrough: true, wikilinks: true }),
     (it) => ("link" in it ? it.link.target : it.kind),
 );
-const html: [string, Uint8Array] = [scanners.html("*a*"), bytes.htmlUnsafe({ extensions: ["table", "tasklist"] })];
-const returned: (string | number | null)[] = scanners.events("# *a*", { extensions: ["table"] }).map((it) => {
+const html: [string, Uint8Array] = [scanners.html("*a*"), bytes.htmlUnsafe({ extensions: ["tables", "tasks"] })];
+const returned: (string | number | null)[] = scanners.events("# *a*", { extensions: ["tables"] }).map((it) => {
     if (it.kind === "start") return it.element === "heading" ? it.level : it.element === "link" ? it.destination : it.start;
     return it.kind === "text" ? it.text : null;
 });

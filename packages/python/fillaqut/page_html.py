@@ -13,8 +13,8 @@ _html_unsafe: Callable[..., tuple[Any, bytes]] = writer("html_unsafe")
 
 _OPTIONS = {
     "strikethrough": _c.OPTION_STRIKETHROUGH,
-    "table": _c.OPTION_TABLES,
-    "tasklist": _c.OPTION_TASKS,
+    "tables": _c.OPTION_TABLES,
+    "tasks": _c.OPTION_TASKS,
     "wikilinks": _c.OPTION_WIKILINKS,
 }
 
@@ -28,7 +28,7 @@ def html(data: Page, at: int = 0, end: Optional[int] = None, *, extensions: Iter
     addresses that are relative or have one of the schemes http, https, mailto and tel, others being written as empty, and links say
     `rel="nofollow noopener"`. All else is as the examples of CommonMark have it.
 
-    `extensions` has names: "table", "strikethrough" and "tasklist", of GitHub Flavored Markdown 0.29, and "wikilinks". ValueError
+    `extensions` has names: "tables", "strikethrough" and "tasks", of GitHub Flavored Markdown 0.29, and "wikilinks". ValueError
     for another name; NotUtf8Error. (3 to 6)
 
     >>> html("# A\n<b> [c](javascript:d)")

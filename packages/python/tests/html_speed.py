@@ -26,7 +26,7 @@ def scanners(call="html", **asked):
 MAKERS = {
     "fillaqut": scanners,
     "fillaqut, html_unsafe": lambda: scanners("html_unsafe"),
-    "fillaqut, with tables, strikethrough and tasks": lambda: scanners(extensions=["table", "strikethrough", "tasklist"]),
+    "fillaqut, with tables, strikethrough and tasks": lambda: scanners(extensions=["tables", "strikethrough", "tasks"]),
     "markdown_it": lambda: import_module("markdown_it").MarkdownIt("commonmark").render,
     "mistune": lambda: import_module("mistune").html,
     "commonmark": lambda: import_module("commonmark").commonmark,

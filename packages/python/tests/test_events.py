@@ -176,7 +176,7 @@ class Events(unittest.TestCase):
         self.assertRaises(mds.NotUtf8Error, mds.events, b"a\xff")
         self.assertRaises(mds.LoneSurrogateError, mds.events, "\ud800")
         self.assertRaises(ValueError, mds.events, "a", extensions=["footnotes"])
-        self.assertRaises(TypeError, mds.events, "a", extensions="table")
+        self.assertRaises(TypeError, mds.events, "a", extensions="tables")
         self.assertRaises(TypeError, mds.events, None)
 
 

@@ -10,12 +10,10 @@ from test_rows import hold
 sys.path.append(str(Path(__file__).resolve().parents[3] / "tests/html"))
 import spec
 
-EXTENSIONS = {"tables": "table", "strikethrough": "strikethrough", "tasks": "tasklist", "wikilinks": "wikilinks"}
-
 
 def asked_of(row):
     """The extensions that a row asks for."""
-    return [EXTENSIONS[word] for word in row.words]
+    return list(row.words)
 
 
 class Html(unittest.TestCase):
@@ -62,11 +60,11 @@ class Html(unittest.TestCase):
         self.assertEqual(mds.html_unsafe("[[a|b]]", extensions=["wikilinks"]), '<p><a href="a">b</a></p>\n')
         self.assertEqual(mds.html("~a~", extensions=[]), "<p>~a~</p>\n")
         self.assertEqual(mds.html("~a~", extensions=iter(["strikethrough"])), "<p><del>a</del></p>\n")
-        for names in (["footnotes"], ["table", "Table"], [""], [1], [None]):
+        for names in (["footnotes"], ["tables", "Tables"], ["table"], [""], [1], [None]):
             with self.assertRaises(ValueError) as why:
                 mds.html("a", extensions=names)
             self.assertIn(repr(names[-1]), str(why.exception))
-        self.assertRaises(TypeError, mds.html, "a", extensions="table")
+        self.assertRaises(TypeError, mds.html, "a", extensions="tables")
         self.assertRaises(TypeError, mds.html, "a", extensions=None)
 
     def test_pages(self):

@@ -14,7 +14,7 @@ def of_str(page: str) -> None:
     assert_type(mds.scan_blocks(page), Iterator[mds.Block[str]])
     assert_type([block.content() for block in mds.scan_blocks(page)], list[str])
     assert_type(mds.scan_inlines(page, labels=[page], strikethrough=True, wikilinks=True), Iterator[mds.Inline])
-    assert_type(mds.events(page, extensions=["table"]), Iterator[mds.Event[str]])
+    assert_type(mds.events(page, extensions=["tables"]), Iterator[mds.Event[str]])
     assert_type([event.target.title for event in mds.events(page) if event.target], list[str])
 
 

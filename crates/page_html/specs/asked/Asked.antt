@@ -25,14 +25,14 @@ to_events = codes "--to events"
 abbrev pub to_json : List ℕ
 to_json = codes "--to json"
 
-abbrev pub table : List ℕ
-table = codes "-e table"
+abbrev pub tables : List ℕ
+tables = codes "-e tables"
 
 abbrev pub strikethrough : List ℕ
 strikethrough = codes "-e strikethrough"
 
-abbrev pub tasklist : List ℕ
-tasklist = codes "-e tasklist"
+abbrev pub tasks : List ℕ
+tasks = codes "-e tasks"
 
 abbrev pub wikilinks : List ℕ
 wikilinks = codes "-e wikilinks"
@@ -41,7 +41,7 @@ abbrev pub gfm : List ℕ
 gfm = codes "--gfm"
 
 abbrev pub own_options : List (List ℕ)
-own_options = unsafe ∷ strict ∷ to_html ∷ to_events ∷ to_json ∷ table ∷ strikethrough ∷ tasklist ∷ wikilinks ∷ gfm ∷ []
+own_options = unsafe ∷ strict ∷ to_html ∷ to_events ∷ to_json ∷ tables ∷ strikethrough ∷ tasks ∷ wikilinks ∷ gfm ∷ []
 
 -- ---- what they ask for
 
@@ -53,7 +53,7 @@ abbrev pub inlines_of : List (Bor (List ℕ)) → InlineExtensions
 inlines_of words = record { strikethrough = is_on strikethrough words; wikilinks = asks wikilinks words }
 
 abbrev pub setting_of : List (Bor (List ℕ)) → PageSetting
-setting_of words = record { tables = is_on table words; tasks = is_on tasklist words; inlines = inlines_of words }
+setting_of words = record { tables = is_on tables words; tasks = is_on tasks words; inlines = inlines_of words }
 
 abbrev pub form_of : List (Bor (List ℕ)) → Form
 form_of words = if asks to_events words then Events else if asks to_json words then Json else Html

@@ -12,9 +12,9 @@ spelled word =
     if bytes_eq word (codes "--to=html") then codes "--to html"
     else if bytes_eq word (codes "--to=events") then codes "--to events"
     else if bytes_eq word (codes "--to=json") then codes "--to json"
-    else if bytes_eq word (codes "-etable") then codes "-e table"
+    else if bytes_eq word (codes "-etables") then codes "-e tables"
     else if bytes_eq word (codes "-estrikethrough") then codes "-e strikethrough"
-    else if bytes_eq word (codes "-etasklist") then codes "-e tasklist"
+    else if bytes_eq word (codes "-etasks") then codes "-e tasks"
     else if bytes_eq word (codes "-ewikilinks") then codes "-e wikilinks"
     else word
 
