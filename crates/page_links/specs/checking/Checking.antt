@@ -1,5 +1,5 @@
 -- What checking pages comes to.
-use Rattle.std.specs.Prelude.{ℕ, ◌≡◌, List, [], Option, Some, None, Result, codes}
+use Rattle.std.specs.Prelude.{ℕ, false, ◌≡◌, List, [], Option, Some, None, Result, codes}
 use Rattle.std.specs.Io.KnownBytes.{Appends}
 use Rattle.markdown_events.specs.declared.settings.PageSetting.{PageSetting}
 use Rattle.program_faults.specs.Steps.{AreGiven, CantWrite}
