@@ -31,7 +31,7 @@ returns-in-Ok-write_whole g c = rw c.in-Check.is (
     },
     rw c.as_str-in-Check.ensures.value at c.in-Ok-write_whole.ensures.written,
     refl,
-    rw c.as_str-in-Ok-2.ensures.value at c.is_reported.ensures,
+    rw c.as_str-in-Ok-write_whole.ensures.value at c.is_reported.ensures,
   ),
 )
 

@@ -16,7 +16,7 @@ returns-in_default g c =
     }
 
 pub returns-in-Ok-handle_named : goal.returns-in-Ok-handle_named
-returns-in-Ok-handle_named g c = rw c.came_of.ensures (is_done c.in-Ok-handle_named.changes c.in-Ok-handle_named.ensures)
+returns-in-Ok-handle_named g c = rw c.came_of.ensures (is_done c.in-Ok-handle_named.found c.in-Ok-handle_named.ensures)
 
 pub returns : goal.returns
 returns g c =
