@@ -69,7 +69,8 @@ def said(program, page):
 
 
 def our_events(page, options=()):
-    events = said([*OURS, *options], page)
+    """The events that ours prints, with the extensions of these options of the other program."""
+    events = said([*OURS, *(word for option in options for word in ("-e", option.removeprefix("--")))], page)
     return events and joined([item for item in map(renamed, events) if item])
 
 

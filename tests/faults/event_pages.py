@@ -12,7 +12,7 @@ class Events(Page):
 
 
 FORMS = (
-    b"usage: fillaqut events [--tables] [--strikethrough] [--wikilinks] [--tasks] [--] [FILE ..]\n"
+    b"usage: fillaqut events [-e NAME].. [--gfm] [--] [FILE ..]\n"
     b"       fillaqut events -h | --help | --version\n"
 )
 USAGE, COMPLAINTS = usage_of(FORMS), complaints_of(FORMS)
@@ -47,7 +47,7 @@ A_PAGE = Events(
 )
 STRUCK = Events(
     "text that is struck through",
-    "--strikethrough",
+    "-e strikethrough",
     b"~~a~~\n",
     element(0, 6, b"paragraph", element(0, 5, b"strikethrough", leaf(2, 3, b'text "a"'))),
 )
@@ -74,13 +74,13 @@ SMALL = [
     ),
     Events(
         "a list with a task",
-        "--tasks",
+        "-e tasks",
         b"- [ ] a\n",
         b'0 8 start list\n0 8 start item\n2 5 unchecked task\n6 7 text "a"\n0 8 end item\n0 8 end list\n',
     ),
     Events(
         "a table",
-        "--tables",
+        "-e tables",
         b"a|b\n-|-\n",
         element(0, 8, b"table", element(0, 3, b"table head", cell(0, b"a"), cell(2, b"b")), more=b" none none"),
     ),

@@ -18,13 +18,13 @@ def under(name, shown):
     return re.sub(rb"(?m)^-:", lambda _: name.encode() + b":", shown)
 
 
-FORMS = b"usage: fillaqut links [--json] [--check] [--gfm] [--wikilinks] [--] [FILE ..]\n       fillaqut links -h | --help | --version\n"
+FORMS = b"usage: fillaqut links [--json] [--check] [-e NAME].. [--gfm] [--] [FILE ..]\n       fillaqut links -h | --help | --version\n"
 USAGE, COMPLAINTS = usage_of(FORMS), complaints_of(FORMS)
 UNREAD, NAMED = unread_of(Links), named_of(Links, b"", under)
 
 A_PAGE = Links("a page", "", b"# [a](b)\n\nc <de:f>\n", b'-:1:3: link inline "b" ""\n-:3:3: link autolink "de:f" ""\n')
 A_TABLE = Links("a table", "--gfm", b"|[a](b)|\n|-|\n", b'-:1:2: link inline "b" ""\n')
-A_WIKILINK = Links("a wikilink", "--wikilinks", b"[[a]]\n", b'-:1:1: link wikilink "a" ""\n')
+A_WIKILINK = Links("a wikilink", "-e wikilinks", b"[[a]]\n", b'-:1:1: link wikilink "a" ""\n')
 
 AN_OBJECT = Links(
     "an object",

@@ -9,8 +9,8 @@ mod replaced_files;
 use commands::{Command, command_named};
 use help::{HELP, USAGE, VERSION};
 use page_files::PageFiles;
-use page_html::words::join_values;
 use page_programs::stops::report_stop;
+use page_programs::values::join_values;
 use page_programs::writing::write_text;
 use program_faults::{StepWriter, complain};
 use replaced_files::ReplacedFiles;
@@ -69,11 +69,10 @@ fn run_html<V: StepWriter>(
     is_json: bool,
     faults: &mut V,
 ) -> Result<u8, AllocError> {
-    let joined = join_values(rt.alloc(), texts)?;
     let words = if is_json {
-        words_after(rt.alloc(), "--to json", &joined)?
+        words_after(rt.alloc(), "--to json", texts)?
     } else {
-        words_of(rt.alloc(), &joined)?
+        words_of(rt.alloc(), texts)?
     };
     Ok(page_html::program::run_program(
         rt.alloc(),
@@ -92,11 +91,12 @@ fn run_command<V: StepWriter>(
     texts: &[String],
     faults: &mut V,
 ) -> Result<u8, AllocError> {
-    if let Command::Html | Command::Json = command {
-        return run_html(rt, texts, matches!(command, Command::Json), faults);
-    }
     let alloc = rt.alloc();
-    let words = words_of(alloc, texts)?;
+    let texts = join_values(alloc, texts)?;
+    if let Command::Html | Command::Json = command {
+        return run_html(rt, &texts, matches!(command, Command::Json), faults);
+    }
+    let words = words_of(alloc, &texts)?;
     let (mut input, mut output) = (rt.stdin(), rt.stdout());
     let (input, output) = (&mut input, &mut output);
     let files = &mut PageFiles(rt);

@@ -2,7 +2,7 @@
 
 /// What is written on standard error after the name of an option that is not known.
 pub const USAGE: &str = "
-usage: fillaqut events [--tables] [--strikethrough] [--wikilinks] [--tasks] [--] [FILE ..]
+usage: fillaqut events [-e NAME].. [--gfm] [--] [FILE ..]
        fillaqut events -h | --help | --version
 ";
 
@@ -11,7 +11,7 @@ pub const VERSION: &str = "fillaqut 0.1.0\n";
 
 /// What `--help` prints.
 pub const HELP: &str = "\
-usage: fillaqut events [--tables] [--strikethrough] [--wikilinks] [--tasks] [--] [FILE ..]
+usage: fillaqut events [-e NAME].. [--gfm] [--] [FILE ..]
        fillaqut events -h | --help | --version
 
 Prints a line for each event of a page of Markdown, in order: how many bytes of the page stand
@@ -27,7 +27,7 @@ start and its end, with the same numbers; what it holds stands between them.
   soft break       a soft line break
   hard break       a hard line break
   rule             a thematic break
-  checked task     the marker of a task list item of GitHub Flavored Markdown, where --tasks asks
+  checked task     the marker of a task list item of GitHub Flavored Markdown, where -e tasks asks
   unchecked task   for them; after it stands what the item's first paragraph has besides
 
 An element is one of
@@ -39,18 +39,29 @@ An element is one of
   html block       an HTML block
   list             a list; if it is ordered its start has the number of the first item after it
   item             a list item
-  table            a table of GitHub Flavored Markdown, where --tables asks for them; its start has the
+  table            a table of GitHub Flavored Markdown, where -e tables asks for it; its start has the
                    alignment of each column after it: none, left, center or right
   table head       the header row of a table; what it holds are cells
   table row        another row
   table cell       a cell
   emphasis         emphasis
   strong           strong emphasis
-  strikethrough    text that is struck through, where --strikethrough asks for it
+  strikethrough    text that is struck through, where -e strikethrough asks for it
   link             a link or an image; its start has after it how it is written, its destination,
   image              its title, and of a reference the label: it is written inline, reference,
                      collapsed, shortcut, autolink, email, wikilink or piped wikilink, the last two
-                     where --wikilinks asks for them
+                     where -e wikilinks asks for them
+
+  -e NAME          reads pages with an extension, which is one of
+
+    tables         tables of GitHub Flavored Markdown
+    strikethrough  text between tildes is struck through, as there
+    tasks          list items that begin with a box, as there
+    wikilinks      links in two pairs of brackets
+
+  --gfm            the same as -e tables -e strikethrough -e tasks
+
+An option and its value may be one word, as -etables.
 
 Texts, info strings, labels, destinations and titles stand in quotation marks. Each byte of them
 that is a quotation mark, a backslash or not printable ASCII is printed as \\u00 and two hexadecimal

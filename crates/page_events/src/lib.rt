@@ -7,4 +7,4 @@ pub mod json;
 pub mod page;
 mod printing;
 pub mod program;
-mod words;
+pub mod words;

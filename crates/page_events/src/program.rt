@@ -14,7 +14,7 @@ ghost use Rattle.page_programs.specs.declared.came.Came.{Came};
 ghost use Rattle.page_programs.specs.declared.stops.Stop.{Stop};
 ghost use Rattle.page_programs.specs.declared.words.Request.TheVariants.{Pages, Help, Version};
 ghost use Rattle.page_events.specs.page.Printed.{IsPrintedTo};
-ghost use Rattle.page_events.specs.words.Words.{own_options, setting_of};
+ghost use Rattle.page_events.specs.words.Words.{extension_options, setting_of};
 
 use crate::help::{HELP, USAGE, VERSION};
 use crate::page::{EventForm, lines_of_page};
@@ -45,11 +45,11 @@ pub fn run_program<R: StepReader, F: OpensFiles, W: StepWriter, V: StepWriter>(
     ensures status { (result ≡ 0) ⊎ ((result ≡ 2) ⊎ (result ≡ 3)) }
 
     // An option that is not known.
-    ensures only_unknown { result ≡ 2 → IsSome (unknown_of own_options words.now) }
-    ensures unknown { IfSome (unknown_of own_options words.now) (λ word. (result ≡ 2)
+    ensures only_unknown { result ≡ 2 → IsSome (unknown_of extension_options words.now) }
+    ensures unknown { IfSome (unknown_of extension_options words.now) (λ word. (result ≡ 2)
         × AreGiven V.writes faults.old
         (unknown_parts (codes "fillaqut") word.now USAGE.now) faults.new) }
-    ensures untouched { IsSome (unknown_of own_options words.now) →
+    ensures untouched { IsSome (unknown_of extension_options words.now) →
         (input.new ≡ input.old) × (files.new ≡ files.old) × (output.new ≡ output.old) }
 
     // The help, and the version.
@@ -97,7 +97,13 @@ pub fn run_program<R: StepReader, F: OpensFiles, W: StepWriter, V: StepWriter>(
     program::run_program(
         alloc,
         &says,
-        &["--tables", "--strikethrough", "--wikilinks", "--tasks"],
+        &[
+            "-e tables",
+            "-e strikethrough",
+            "-e tasks",
+            "-e wikilinks",
+            "--gfm",
+        ],
         &events,
         words,
         input,

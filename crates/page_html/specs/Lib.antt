@@ -1,3 +1,2 @@
 pub mod asked
 pub mod page
-pub mod words

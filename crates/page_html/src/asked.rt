@@ -1,9 +1,9 @@
 //! What is printed of a page, as the words of the command line ask for it.
 ghost use Rattle.std.specs.Prelude.{◌≡◌};
-ghost use Rattle.page_html.specs.asked.Asked.{asked_of, form_of, is_html, setting_of};
+ghost use Rattle.page_html.specs.asked.Asked.{asked_of, form_of, is_html};
 
 use markdown_events::event_reader::PageSetting;
-use markdown_inlines::extensions::InlineExtensions;
+use page_events::words::setting_of;
 use page_programs::words::has_option;
 
 /// What is printed of a page.
@@ -61,19 +61,4 @@ pub(crate) fn is_html(form: Form) -> bool
     ensures { result ≡ is_html form }
 {
     matches!(form, Form::Html)
-}
-
-// The extensions.
-fn setting_of(words: &[&str]) -> PageSetting
-    ensures { result ≡ setting_of words.now }
-{
-    let gfm = has_option(words, "--gfm");
-    PageSetting {
-        tables: gfm || has_option(words, "-e tables"),
-        tasks: gfm || has_option(words, "-e tasks"),
-        inlines: InlineExtensions {
-            strikethrough: gfm || has_option(words, "-e strikethrough"),
-            wikilinks: has_option(words, "-e wikilinks"),
-        },
-    }
 }

@@ -6,4 +6,3 @@ pub mod help;
 pub mod page;
 pub mod program;
 mod settings;
-pub mod words;

@@ -2,7 +2,7 @@
 
 /// What is written on standard error after the name of an option that is not known.
 pub const USAGE: &str = "
-usage: fillaqut links [--json] [--check] [--gfm] [--wikilinks] [--] [FILE ..]
+usage: fillaqut links [--json] [--check] [-e NAME].. [--gfm] [--] [FILE ..]
        fillaqut links -h | --help | --version
 ";
 
@@ -11,7 +11,7 @@ pub const VERSION: &str = "fillaqut 0.1.0\n";
 
 /// What `--help` prints.
 pub const HELP: &str = "\
-usage: fillaqut links [--json] [--check] [--gfm] [--wikilinks] [--] [FILE ..]
+usage: fillaqut links [--json] [--check] [-e NAME].. [--gfm] [--] [FILE ..]
        fillaqut links -h | --help | --version
 
 Prints a line for each link, image and autolink of a page of Markdown, in order:
@@ -28,7 +28,7 @@ a column is a byte, as for most compilers, and a byte order mark has none. HOW i
   shortcut         the text is the label
   autolink         an address in angle brackets
   email            an e-mail address in angle brackets
-  wikilink         a target in two brackets, where --wikilinks asks for them
+  wikilink         a target in two brackets, where -e wikilinks asks for them
   piped wikilink   the same with a text of its own
 
 LABEL is that of a reference, and says which definition it uses; of others it is left out. The
@@ -57,9 +57,16 @@ label //, which is a comment.
                    there, as permission denied \"DESTINATION\" where a folder on the way to it may not
                    be searched, and as no such heading \"DESTINATION\" where that is a #FRAGMENT alone
                    that no heading of the page makes, and not #top, the front of the page
-  --gfm            reads pages with the tables, strikethrough and task list items of GitHub Flavored
-                   Markdown
-  --wikilinks      reads wikilinks
+  -e NAME          reads pages with an extension, which is one of
+
+    tables         tables of GitHub Flavored Markdown
+    strikethrough  text between tildes is struck through, as there
+    tasks          list items that begin with a box, as there
+    wikilinks      links in two pairs of brackets
+
+  --gfm            the same as -e tables -e strikethrough -e tasks
+
+An option and its value may be one word, as -etables.
 
 A relative destination leads from the folder of its page, without its query and fragment, and with
 its percent-encoded bytes decoded. Destinations with a scheme or a slash at the front, autolinks and

@@ -15,14 +15,16 @@ ghost use Rattle.page_programs.specs.declared.stops.Stop.{Stop};
 ghost use Rattle.page_programs.specs.declared.words.Request.TheVariants.{Pages, Help, Version};
 ghost use Rattle.page_links.specs.checking.Checking.{ChecksAll};
 ghost use Rattle.page_links.specs.page.Printed.{IsPrintedTo, name_in};
-ghost use Rattle.page_links.specs.words.Words.{form_of, is_check, own_options, setting_of};
+ghost use Rattle.page_events.specs.words.Words.{setting_of};
+ghost use Rattle.page_links.specs.words.Words.{form_of, is_check, own_options};
 
 use crate::checking::Checks;
 use crate::checks::FindsFiles;
 use crate::help::{HELP, USAGE, VERSION};
 use crate::page::{LinkForm, list_of_page, name_in};
-use crate::words::{OPTIONS, form_of, is_check, setting_of};
+use crate::words::{OPTIONS, form_of, is_check};
 use markdown_events::event_reader::PageSetting;
+use page_events::words::setting_of;
 use page_programs::files::OpensFiles;
 use page_programs::pages::PrintsPages;
 use page_programs::program;

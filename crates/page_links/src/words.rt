@@ -1,31 +1,22 @@
 //! The words of the command line.
 ghost use Rattle.std.specs.Prelude.{◌≡◌};
-ghost use Rattle.page_links.specs.words.Words.{form_of, is_check, setting_of};
+ghost use Rattle.page_links.specs.words.Words.{form_of, is_check};
 
 use crate::printing::LinkForm;
-use markdown_events::event_reader::PageSetting;
-use markdown_inlines::extensions::InlineExtensions;
 use page_programs::words::has_option;
 
 /// The options that the program has of its own.
-pub(crate) const OPTIONS: &[&str] = &["--json", "--check", "--gfm", "--wikilinks"];
+pub(crate) const OPTIONS: &[&str] = &[
+    "--json",
+    "--check",
+    "-e tables",
+    "-e strikethrough",
+    "-e tasks",
+    "-e wikilinks",
+    "--gfm",
+];
 
-/// The extensions that the words ask for.
-pub(crate) fn setting_of(words: &[&str]) -> PageSetting
-    ensures { result ≡ setting_of words.now }
-{
-    let gfm = has_option(words, "--gfm");
-    PageSetting {
-        tables: gfm,
-        tasks: gfm,
-        inlines: InlineExtensions {
-            strikethrough: gfm,
-            wikilinks: has_option(words, "--wikilinks"),
-        },
-    }
-}
-
-/// The form that they ask for.
+/// The form that the words ask for.
 pub(crate) fn form_of(words: &[&str]) -> LinkForm
     ensures { result ≡ form_of words.now }
 {

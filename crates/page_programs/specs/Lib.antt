@@ -5,5 +5,6 @@ pub mod Runs
 pub mod Stops
 pub mod Texts
 pub mod Tried
+pub mod Values
 pub mod Words
 pub mod Worlds

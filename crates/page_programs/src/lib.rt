@@ -12,6 +12,7 @@ pub mod says;
 pub mod stops;
 pub mod texts;
 pub mod tries;
+pub mod values;
 pub mod whole;
 pub mod words;
 pub mod writing;

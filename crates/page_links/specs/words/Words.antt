@@ -1,17 +1,10 @@
 -- What the words of the command line ask for, beside what those of each program ask for.
-use Rattle.std.specs.Prelude.{ℕ, Bool, List, [], ◌∷◌, codes, if◌then◌else◌}
+use Rattle.std.specs.Prelude.{ℕ, Bool, List, ◌∷◌, codes, if◌then◌else◌}
 use Rattle.std.specs.Borrow.{Bor}
-use Rattle.markdown_inlines.specs.declared.extensions.InlineExtensions.{InlineExtensions}
-use Rattle.markdown_events.specs.declared.settings.PageSetting.{PageSetting}
 use Rattle.page_programs.specs.Words.{asks}
+use Rattle.page_events.specs.words.Words.{extension_options}
 use Rattle.page_links.specs.declared.printing.LinkForm.{LinkForm}
 use Rattle.page_links.specs.declared.printing.LinkForm.TheVariants as Form
-
-abbrev pub gfm : List ℕ
-gfm = codes "--gfm"
-
-abbrev pub wikilinks : List ℕ
-wikilinks = codes "--wikilinks"
 
 abbrev pub json : List ℕ
 json = codes "--json"
@@ -21,14 +14,7 @@ check = codes "--check"
 
 -- the options that the program has of its own
 abbrev pub own_options : List (List ℕ)
-own_options = json ∷ check ∷ gfm ∷ wikilinks ∷ []
-
--- the extensions of GitHub Flavored Markdown are on where `--gfm` asks for them, wikilinks where a word of their own does
-abbrev pub inlines_of : List (Bor (List ℕ)) → InlineExtensions
-inlines_of words = record { strikethrough = asks gfm words; wikilinks = asks wikilinks words }
-
-abbrev pub setting_of : List (Bor (List ℕ)) → PageSetting
-setting_of words = record { tables = asks gfm words; tasks = asks gfm words; inlines = inlines_of words }
+own_options = json ∷ check ∷ extension_options
 
 -- a line is a JSON object where `--json` asks for that
 abbrev pub form_of : List (Bor (List ℕ)) → LinkForm

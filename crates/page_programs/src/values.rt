@@ -1,6 +1,6 @@
 //! The words of the command line, some of which take the word after them.
 ghost use Rattle.std.specs.Prelude.{◌≡◌, ◌<◌, ◌≤◌, ◌++◌, IfOk, OnOk, codes, drop, length, map, string_bytes};
-ghost use Rattle.page_html.specs.words.Values.{joined, spelled, takes_value};
+ghost use Rattle.page_programs.specs.Values.{joined, spelled, takes_value};
 
 use std::alloc::{AllocError, Global};
 

@@ -1,6 +1,6 @@
 -- With the words that are left, all are added.
 use Rattle.std.proofs.Common.{◌≡◌, ◌++◌, drop, map, string_bytes}
-use Rattle.page_html.proofs.words.push_all.Given as goal
+use Rattle.page_programs.proofs.values.push_all.Given as goal
 
 abbrev pub invariant-loop-word : goal.invariant-loop-word
 invariant-loop-word l =

@@ -1,7 +1,7 @@
 -- What is made, and what is made of the words that are left, is what is made of all of them.
 use Rattle.std.proofs.Common.{◌≡◌, ◌≤◌, ◌-◌, ◌++◌, drop, length, map, string_bytes}
-use Rattle.page_html.specs.words.Values.{joined}
-use Rattle.page_html.proofs.words.join_values.Given as goal
+use Rattle.page_programs.specs.Values.{joined}
+use Rattle.page_programs.proofs.values.join_values.Given as goal
 
 abbrev pub invariant-loop-at : goal.invariant-loop-at
 invariant-loop-at l = record {
