@@ -40,6 +40,7 @@ BLOCKS = [
     (["agree"], b"a\n:-\n\n|b|\n|-|\n"),
     (["space"], b"|a|\n|-|\f\n"),
     (["older"], b"|a|\n|-|\n\n<textarea\n\nb\n"),
+    (["older"], b"1. <textarea\n\t:-:\n"),
     (["header"], b"a\n|b|\n|-|\n"),
 ]
 
