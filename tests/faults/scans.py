@@ -209,9 +209,9 @@ class Replaced:
 
     def __init__(self, program, case, scratch):
         self.program = program
-        self.name, self.before, self.after, notes = case
+        self.name, self.before, self.after, notes, self.status = case
         self.file = Path(scratch) / "page.md"
-        self.notes = b"".join(os.fsencode(self.file) + note for note in notes)
+        self.notes = notes.replace(b"%s", os.fsencode(self.file))
 
     def run(self, **asked):
         self.file.write_bytes(self.before)
@@ -224,7 +224,7 @@ class Replaced:
         return is_alone and self.file.read_bytes() == held and self.file.stat().st_mode & 0o777 == 0o640
 
     def is_done(self, run):
-        return (run.out, run.err, run.status) == (b"", self.notes, 0) and self.holds(self.after)
+        return (run.out, run.err, run.status) == (b"", self.notes, self.status) and self.holds(self.after)
 
     def is_refused(self, run, number):
         said = b"fillaqut: %s: not replaced: %s\n" % (os.fsencode(self.file), reason(number))

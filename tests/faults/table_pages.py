@@ -35,19 +35,20 @@ SMALL = [
     *PLAIN,
     Tables("a check of a table that is laid out", "--check", SMOOTH, b""),
     Tables("standard input with --write", "--write", ROUGH, SMOOTH),
+    Tables("a check of a row of too many cells", "--check", A_MISFIT.given, b"-:3:1: " + MISFIT, 1),
     Tables("a check that writes nothing", "--write --check", ROUGH, b"-:1:1: table is not laid out\n", 1),
     Tables("not UTF-8", "", b"\xff\n", b"", 3, err=not_text_of(Tables.program, 0)),
     Tables("a paragraph", "", b"a | b\n", b"a | b\n"),
     Tables("no page", "", b"", b""),
 ]
 
-# Files that --write is run on, each with what it holds before and after, and what is said of its lines.
+# Files that --write is run on, each with what it holds before and after, what is said of it, and the status.
 REPLACED = [
-    ("a table", ROUGH, SMOOTH, []),
-    ("a table that is laid out", SMOOTH, SMOOTH, []),
-    ("two tables", ROUGH + b"\n|a|\n|-|\n|\n", SMOOTH + b"\n|a|\n|-|\n|\n", [b":7:1: " + EMPTY]),
-    ("no table", b"a | b\n", b"a | b\n", []),
-    ("not UTF-8", b"\xff\n", b"\xff\n", [b":1:1: page is not UTF-8, and is left as it is\n"]),
+    ("a table", ROUGH, SMOOTH, b"", 0),
+    ("a table that is laid out", SMOOTH, SMOOTH, b"", 0),
+    ("two tables", ROUGH + b"\n|a|\n|-|\n|\n", SMOOTH + b"\n|a|\n|-|\n|\n", b"%s:7:1: " + EMPTY, 0),
+    ("no table", b"a | b\n", b"a | b\n", b"", 0),
+    ("not UTF-8", b"\xff\n", b"\xff\n", b"fillaqut: %s: not UTF-8: wrong byte at offset 0\n", 3),
 ]
 
 

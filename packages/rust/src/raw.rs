@@ -368,9 +368,7 @@ pub(crate) fn html(text: &str, options: u32, schemes: &[&str], buffer: &mut [u8]
     let (bytes, views) = (text.as_bytes(), views_of(schemes));
     let (out, capacity) = (buffer.as_mut_ptr(), buffer.len());
     // SAFETY: each pointer and length are those of one slice, those of the views too, and what is written is a `&mut` of its own.
-    returned(unsafe {
-        ffi::mds_html(front(bytes), bytes.len(), options, views.as_ptr(), views.len(), out, capacity)
-    })
+    returned(unsafe { ffi::mds_html(front(bytes), bytes.len(), options, views.as_ptr(), views.len(), out, capacity) })
 }
 
 pub(crate) fn events(text: &str, options: u32, events: &mut [ffi::Event], texts: &mut [u8]) -> ffi::Events {

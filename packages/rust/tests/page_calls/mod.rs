@@ -198,7 +198,10 @@ fn html_of_pages() {
     let none = Extensions::default();
     let every = Extensions { tables: true, strikethrough: true, tasks: true, wikilinks: true };
     assert_eq!(html_unsafe("", none), "");
-    assert_eq!(html_unsafe("> # Foo\n> bar\n> baz\n", none), "<blockquote>\n<h1>Foo</h1>\n<p>bar\nbaz</p>\n</blockquote>\n"); // 228
+    assert_eq!(
+        html_unsafe("> # Foo\n> bar\n> baz\n", none),
+        "<blockquote>\n<h1>Foo</h1>\n<p>bar\nbaz</p>\n</blockquote>\n"
+    ); // 228
     assert_eq!(html_unsafe("</div>\n*foo*\n", none), "</div>\n*foo*\n"); // 151
     let table = "<table>\n<thead>\n<tr>\n<th>abc</th>\n<th>def</th>\n</tr>\n</thead>\n</table>\n";
     assert_eq!(html_unsafe("| abc | def |\n| --- | --- |\n", every), table); // 205

@@ -23,7 +23,7 @@ fn each_example() {
     let examples = examples();
     assert_eq!(examples.len(), 652);
     for (page, expected) in examples {
-        assert_eq!(html(&page, Extensions::default()), expected, "of {page:?}");
+        assert_eq!(html_unsafe(&page, Extensions::default()), expected, "of {page:?}");
     }
 }
 
