@@ -1,0 +1,4 @@
+pub mod AttributeLemmas
+pub mod AttributeRows
+pub mod TagLemmas
+pub mod ValueLemmas
