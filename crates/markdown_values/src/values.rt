@@ -14,7 +14,7 @@ mod tags;
 
 use crate::strings::CowStr;
 pub use events::Event;
-pub use extensions::Options;
+pub use extensions::{Extensions, Options};
 use std::alloc::{AllocError, Global};
 use std::fmt;
 pub use tags::{Tag, TagEnd};

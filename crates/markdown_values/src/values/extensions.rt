@@ -1,7 +1,7 @@
 //! Which extensions of the syntax are on.
-ghost use Rattle.std.specs.Prelude.{⊤, ◌≡◌, ◌==◌, ◌&&◌, not};
+ghost use Rattle.std.specs.Prelude.{⊤, ◌≡◌, ◌==◌, ◌≤◌, ◌&&◌, not};
 ghost use Rattle.std.specs.Int.RustNames.{bit_and};
-ghost use Rattle.markdown_values.specs.values.Extensions.{bits_of, extension_table};
+ghost use Rattle.markdown_values.specs.values.Extensions.{asked_by, bits_if, bits_of, commonmark, extension_bits, extension_table};
 
 use bitflags::{Flag, Flags};
 
@@ -151,4 +151,80 @@ impl Flags for Options {
     fn from_bits_retain(bits: u32) -> Options {
         Options(bits)
     }
+}
+
+/// Which extensions of CommonMark a page is read with. None is on unless it is asked for.
+///
+/// One setting is for blocks, inlines, events and HTML alike: what a call has no use for changes
+/// nothing that it answers.
+#[derive(Clone, Copy, Debug, PartialEq, Eq)]
+pub struct Extensions {
+    /// Tables of rows and cells. (GFM, section 4.10)
+    pub tables: bool,
+    /// Footnote definitions: `[^label]:`, and what stands after it or is indented by four columns.
+    /// (GitHub Docs, footnotes)
+    pub footnotes: bool,
+    /// Text between `~` and `~`, or between `~~` and `~~`, is struck through. (GFM, section 6.5)
+    pub strikethrough: bool,
+    /// List items that begin with a box. (GFM, section 5.3)
+    pub tasks: bool,
+    /// Definition lists: after a paragraph, which is the term, `:`, and what stands after that or is
+    /// indented as that is.
+    pub definition_lists: bool,
+    /// `[[target]]` and `[[target|text]]` are links, and `![[target]]` and `![[target|text]]` images.
+    /// A target has some bytes, and no bracket, pipe or line ending. (Obsidian's internal links)
+    pub wikilinks: bool,
+}
+
+impl Extensions {
+    /// CommonMark alone.
+    pub const fn none() -> Extensions
+        ensures { result ≡ commonmark }
+    {
+        Extensions {
+            tables: false,
+            footnotes: false,
+            strikethrough: false,
+            tasks: false,
+            definition_lists: false,
+            wikilinks: false,
+        }
+    }
+
+    /// Those that the options ask for. Options that have no field here are passed over.
+    pub fn of(options: Options) -> Extensions
+        ensures { result ≡ asked_by options }
+    {
+        Extensions {
+            tables: options.contains(Options::ENABLE_TABLES),
+            footnotes: options.contains(Options::ENABLE_FOOTNOTES),
+            strikethrough: options.contains(Options::ENABLE_STRIKETHROUGH),
+            tasks: options.contains(Options::ENABLE_TASKLISTS),
+            definition_lists: options.contains(Options::ENABLE_DEFINITION_LIST),
+            wikilinks: options.contains(Options::ENABLE_WIKILINKS),
+        }
+    }
+
+    /// The options that ask for these, and for nothing else.
+    pub fn options(self) -> Options
+        ensures bits { bits_of result ≡ extension_bits self }
+        ensures back { asked_by result ≡ self }
+    {
+        Options(
+            bits_if(self.tables, Options::ENABLE_TABLES)
+                + bits_if(self.footnotes, Options::ENABLE_FOOTNOTES)
+                + bits_if(self.strikethrough, Options::ENABLE_STRIKETHROUGH)
+                + bits_if(self.tasks, Options::ENABLE_TASKLISTS)
+                + bits_if(self.definition_lists, Options::ENABLE_DEFINITION_LIST)
+                + bits_if(self.wikilinks, Options::ENABLE_WIKILINKS),
+        )
+    }
+}
+
+// The bits of an option, if it is on.
+fn bits_if(is_on: bool, option: Options) -> u32
+    ensures bits { result ≡ bits_if is_on (bits_of option) }
+    ensures bound { result ≤ bits_of option }
+{
+    if is_on { option.0 } else { 0 }
 }
