@@ -2,19 +2,19 @@
 ghost use Rattle.std.specs.Prelude.{◌≡◌, ◌∷◌, ◌++◌, List, IfOk};
 ghost use Rattle.std.specs.List.{filter_map};
 ghost use Rattle.std.specs.Option.{option_to_list};
-ghost use Rattle.markdown_blocks.specs.containers.Containers.{no_extensions};
+ghost use Rattle.markdown_values.specs.values.Extensions.{commonmark};
 ghost use Rattle.markdown_blocks.specs.events.Events.{Event, seen_event};
 ghost use Rattle.markdown_blocks.specs.first_blocks.Alerts.{AreAlertsOf, alert_at};
 ghost use Rattle.markdown_blocks.specs.first_blocks.FirstBlocks.{seen_first};
 ghost use Rattle.markdown_blocks.specs.first_blocks.Waiting.{firsts_behind};
 
 use crate::blocks::BlockKind;
-use crate::containers::{BlockExtensions, Container};
+use crate::containers::Container;
 use crate::events::{BlockEvent, Blocks};
 use crate::first_blocks::{FirstBlock, FirstBlocks};
 use crate::lists::keep;
 use markdown_scanners_tree::line::LineStart;
-use markdown_values::values::BlockQuoteKind;
+use markdown_values::values::{BlockQuoteKind, Extensions};
 use std::alloc::{AllocError, Global};
 
 /// The line of an alert.
@@ -53,16 +53,16 @@ impl<'a> FirstBlock<'a> {
 
 /// The alerts of a page, in order.
 pub fn alerts_of_page(alloc: Global, page: &[u8]) -> Result<Vec<Alert>, AllocError>
-    ensures { IfOk result (λ alerts. AreAlertsOf no_extensions page.now alerts.items) }
+    ensures { IfOk result (λ alerts. AreAlertsOf commonmark page.now alerts.items) }
 {
-    alerts_of_page_ext(alloc, page, BlockExtensions::none())
+    alerts_of_page_ext(alloc, page, Extensions::none())
 }
 
 /// The same with these extensions on.
 pub fn alerts_of_page_ext(
     alloc: Global,
     page: &[u8],
-    extensions: BlockExtensions,
+    extensions: Extensions,
 ) -> Result<Vec<Alert>, AllocError>
     ensures { IfOk result (λ alerts. AreAlertsOf extensions page.now alerts.items) }
 {

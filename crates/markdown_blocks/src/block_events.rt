@@ -12,7 +12,7 @@ ghost use Rattle.markdown_blocks.specs.link_definitions.LinkDefinitions.{AreAdde
 ghost use Rattle.markdown_blocks.specs.taken.Lines.{IsTaken};
 
 use crate::blocks::BlockKind;
-use crate::containers::{BlockExtensions, Container, Outer, go_on, scan_container};
+use crate::containers::{Container, Outer, all_containers, go_on, scan_container};
 use crate::definitions::take_definition;
 use crate::events::BlockEvent;
 use crate::leaf::Leaf;
@@ -21,6 +21,7 @@ use crate::rest::{Rest, scan_rest};
 use crate::step::Step;
 use crate::taken::Taken;
 use markdown_scanners_tree::line::LineStart;
+use markdown_values::values::Extensions;
 use std::alloc::AllocError;
 use std::marker::Model;
 
@@ -227,7 +228,7 @@ impl<'a> BlockEvents<'a> {
     {
         let indent = self.start.scan_space_upto(4);
         let place = self.front + self.start.bytes_scanned();
-        scan_container(self.line, &mut self.start, indent, BlockExtensions::all());
+        scan_container(self.line, &mut self.start, indent, all_containers());
         place
     }
 
@@ -400,7 +401,7 @@ fn first_rest<'a>(lines: &'a [u8], containers: &[Container]) -> (Rest<'a>, usize
             0,
         );
     };
-    let (_, mut start) = go_on(line, &Outer::new(BlockExtensions::none(), containers));
+    let (_, mut start) = go_on(line, &Outer::new(Extensions::none(), containers));
     let rest = scan_rest(line, &mut start);
     let before = line.len().saturating_sub(rest.text.len());
     (rest, before)

@@ -383,7 +383,7 @@ fn head_columns(line: &Line, words: &[u8]) -> Option<usize>
     ensures { SomeExactly (λ columns. IsHead line.now.outer words.now columns line.now.bytes)
         result }
 {
-    if line.outer().extensions().no_tables {
+    if !line.outer().extensions().tables {
         return None;
     }
     let columns = delimiter_columns(line)?;

@@ -5,7 +5,7 @@ ghost use Rattle.std.specs.Prelude.{◌≡◌, ◌<◌, ◌≤◌, length, false
 ghost use Rattle.markdown_scanners_tree.specs.Bytes.{begins_with};
 ghost use Rattle.markdown_scanners_tree.specs.line.ItemRules.{start_of};
 ghost use Rattle.markdown_scanners_tree.specs.line.State.{space_within, after_space};
-ghost use Rattle.markdown_blocks.specs.containers.Containers.{begun_behind, behind, behind_quote, extension_of, goes_on_blank};
+ghost use Rattle.markdown_blocks.specs.containers.Containers.{all_containers, begun_behind, behind, behind_quote, extension_of, goes_on_blank};
 ghost use Rattle.markdown_blocks.specs.containers.Containers.{settled, within, within_quote, within_width};
 ghost use Rattle.markdown_blocks.specs.containers.private.Markers.{is_item_byte, is_other_byte};
 
@@ -16,6 +16,7 @@ use crate::containers::item_markers::scan_item;
 use crate::footnotes::scan_footnote;
 use crate::terms::scan_term_definition;
 use markdown_scanners_tree::line::LineStart;
+use markdown_values::values::Extensions;
 use std::marker::Model;
 
 /// A list item: its bullet or delimiter, whether only its first line is read, which is blank after
@@ -72,44 +73,14 @@ pub fn settled(container: Container) -> Container
     }
 }
 
-/// The extensions that change how a page is cut into containers and blocks. Of those that begin
-/// containers none is on unless it is asked for; tables are on unless they are left out.
-#[derive(Clone, Copy)]
-pub struct BlockExtensions {
-    /// Footnote definitions, as on GitHub: `[^label]:`, and what stands after it or is indented by
-    /// four columns.
-    pub footnotes: bool,
-    /// Definition lists: after a paragraph, which is the term, `:`, and what stands after that or is
-    /// indented as that is.
-    pub definition_lists: bool,
-    /// Tables are text, as in CommonMark alone: a delimiter row is a line of a paragraph.
-    pub no_tables: bool,
-}
-
-impl BlockExtensions {
-    ghost use Rattle.std.specs.Prelude.{◌≡◌};
-    ghost use Rattle.markdown_blocks.specs.containers.Containers.{all_extensions, no_extensions};
-
-    /// No footnotes and no definition lists, but tables.
-    pub fn none() -> BlockExtensions
-        ensures { result ≡ no_extensions }
-    {
-        BlockExtensions {
-            footnotes: false,
-            definition_lists: false,
-            no_tables: false,
-        }
-    }
-
-    /// Footnotes, definition lists and tables.
-    pub fn all() -> BlockExtensions
-        ensures { result ≡ all_extensions }
-    {
-        BlockExtensions {
-            footnotes: true,
-            definition_lists: true,
-            no_tables: false,
-        }
+// With these on each container begins that any extension has.
+pub(crate) fn all_containers() -> Extensions
+    ensures { result ≡ all_containers }
+{
+    Extensions {
+        footnotes: true,
+        definition_lists: true,
+        ..Extensions::none()
     }
 }
 
@@ -117,7 +88,7 @@ impl BlockExtensions {
 /// on with blank lines, so that such a line is not tried for each of them.
 #[derive(Drop)]
 pub(crate) struct Outer<'a> {
-    extensions: BlockExtensions,
+    extensions: Extensions,
     containers: &'a [Container],
     plain: usize,
 }
@@ -138,7 +109,7 @@ impl<'a> Outer<'a> {
     ghost use Rattle.std.specs.Prelude.{◌≡◌, length};
 
     /// These containers, with these extensions on.
-    pub(crate) fn new(extensions: BlockExtensions, containers: &'a [Container]) -> Outer<'a>
+    pub(crate) fn new(extensions: Extensions, containers: &'a [Container]) -> Outer<'a>
         ensures { result ≡ record { extensions = extensions; containers = containers.now } }
     {
         let mut plain = containers.len();
@@ -170,7 +141,7 @@ impl<'a> Outer<'a> {
     }
 
     /// The extensions that are on.
-    pub(crate) fn extensions(&self) -> BlockExtensions
+    pub(crate) fn extensions(&self) -> Extensions
         ensures { result ≡ self.now.extensions }
     {
         self.extensions
@@ -341,7 +312,7 @@ pub(crate) fn scan_container<'a>(
     line: &'a [u8],
     start: &mut LineStart<'a>,
     indent: usize,
-    extensions: BlockExtensions,
+    extensions: Extensions,
 ) -> Option<Container>
     requires bytes { start.old.bytes ≡ line.now }
     requires near { indent ≤ 4 }
@@ -373,7 +344,7 @@ fn begins_with_item_byte(bytes: &[u8]) -> bool
 }
 
 // Whether a byte of another marker stands at the front, with these extensions on.
-fn begins_with_marker_byte(bytes: &[u8], extensions: BlockExtensions) -> bool
+fn begins_with_marker_byte(bytes: &[u8], extensions: Extensions) -> bool
     ensures { result ≡ begins_with (is_other_byte extensions) bytes.now }
 {
     match bytes {
@@ -389,7 +360,7 @@ fn scan_marked<'a>(
     line: &'a [u8],
     start: &mut LineStart<'a>,
     indent: usize,
-    extensions: BlockExtensions,
+    extensions: Extensions,
 ) -> Option<Container>
     requires bytes { start.old.bytes ≡ line.now }
     requires near { indent < 4 }
@@ -415,7 +386,7 @@ fn scan_extension<'a>(
     line: &'a [u8],
     start: &mut LineStart<'a>,
     indent: usize,
-    extensions: BlockExtensions,
+    extensions: Extensions,
 ) -> Option<Container>
     requires bytes { start.old.bytes ≡ line.now }
     requires near { indent ≤ 4 }

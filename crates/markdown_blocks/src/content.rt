@@ -1,13 +1,14 @@
 //! The content of leaf blocks: what is handed to the inline pass, and the text of code and HTML, with the place of each of its
 //! bytes. (CommonMark 0.31.2, sections 2.1, 2.2, 4.2 to 4.6 and 4.8)
-ghost use Rattle.std.specs.Prelude.{◌≡◌, ◌^◌, ◌++◌, ◌∷◌, [], ◌+◌, ◌-◌, ◌<◌, ◌≤◌, ℕ, List, length, replicate, slice_index, IfOk, IfErr, IfSome, IsOk, IsTrue, OnOk};
+ghost use Rattle.std.specs.Prelude.{◌≡◌, ◌^◌, ◌++◌, ◌∷◌, [], ◌+◌, ◌-◌, ◌<◌, ◌≤◌, ℕ, List, false, is_some, length, replicate};
+ghost use Rattle.std.specs.Prelude.{slice_index, IfOk, IfErr, IfSome, IfNone, IsOk, OnOk};
 ghost use Rattle.std.specs.Str.{IsUtf8};
 ghost use Rattle.markdown_scanners_tree.specs.scanners.TextLines.{lines_of};
 ghost use Rattle.markdown_blocks.specs.content.Bytes.{AreBytesOf};
 ghost use Rattle.markdown_blocks.specs.content.Content.{HasNoReturn, IsCodeOrHtml};
-ghost use Rattle.markdown_blocks.specs.content.Content.{IsContent, IsRunOf, StandsFrom, content_len, content_with, joined, text_of, words_len};
+ghost use Rattle.markdown_blocks.specs.content.Content.{IsContent, IsOneRun, IsRunOf, StandsFrom, content_len, content_with, joined, text_of, words_len};
 ghost use Rattle.markdown_blocks.specs.content.Left.{IsRun, IsRunAt, parts_left};
-ghost use Rattle.markdown_blocks.specs.content.Parts.{AreOneRun, AreParts, Part, one_part};
+ghost use Rattle.markdown_blocks.specs.content.Parts.{AreOneRun, AreParts, Part, is_one_run, one_part};
 ghost use Rattle.markdown_blocks.specs.content.Seen.{IsIn, seen_part};
 ghost use Rattle.markdown_blocks.specs.content.Segments.{Rising, place_at, place_in, segments_from};
 ghost use Rattle.markdown_blocks.specs.declared.blocks.BlockKind.TheVariants.{Paragraph};
@@ -18,10 +19,11 @@ pub(crate) mod parts;
 mod whole_lines;
 
 use crate::blocks::BlockKind;
-use crate::containers::{BlockExtensions, Container, Outer};
+use crate::containers::{Container, Outer};
 pub use crate::content::cell::cell_content;
 use crate::content::parts::{LinePart, Parts};
 use crate::content::whole_lines::whole_lines;
+use markdown_values::values::Extensions;
 use std::alloc::{AllocError, Global};
 use std::marker::Model;
 
@@ -46,7 +48,7 @@ struct Segment {
 }
 
 impl<'a> Model for Content<'a> {
-    ghost use Rattle.std.specs.Prelude.{◌++◌, length, map};
+    ghost use Rattle.std.specs.Prelude.{◌++◌, ◌==◌, length, map};
     ghost use Rattle.std.specs.List.{range_with_len};
     ghost use Rattle.markdown_blocks.specs.content.Content.{Placed};
     ghost use Rattle.markdown_blocks.specs.content.Segments.{Held, place_at};
@@ -57,6 +59,7 @@ impl<'a> Model for Content<'a> {
       text = c.lent.now ++ c.built.items;
       places = map (place_at c.first c.later.items)
           (range_with_len 0 (length (c.lent.now ++ c.built.items)));
+      is_lent = length c.built.items == 0;
     } };
 
     ghost invariant = { λ c. Held c.lent.now c.built.items c.first c.later.items };
@@ -87,7 +90,7 @@ pub fn content_of<'a>(
     // It is cut next to bytes of ASCII alone.
     ensures utf8 { IfOk result (λ content. IsUtf8 lines.now → IsUtf8 content.text) }
 {
-    let outer = Outer::new(BlockExtensions::none(), containers);
+    let outer = Outer::new(Extensions::none(), containers);
     if let Some((begin, end)) = whole_lines(lines, kind, &outer) {
         return Ok(lent(alloc, &lines[begin..end], kind, begin));
     }
@@ -118,9 +121,10 @@ impl<'a> Content<'a> {
         &self.built
     }
 
-    /// The same bytes, lent from the lines; and None where they aren't.
+    /// The same bytes, lent from the lines; and None where they aren't, and have memory of their own.
     pub fn run(&self) -> Option<&'a [u8]>
-        ensures { IfSome result (λ run. run.now ≡ self.now.text) }
+        ensures some { IfSome result (λ run. run.now ≡ self.now.text) }
+        ensures lent { is_some result ≡ self.now.is_lent }
     {
         if self.built.is_empty() {
             Some(self.lent)
@@ -166,16 +170,26 @@ impl<'a> Content<'a> {
         }
     }
 
-    /// The place in the block's lines of its first byte, where each further byte stands there
-    /// directly after the one before it, and None where that isn't known.
+    /// The place in the block's lines of its first byte, where each further byte stands there directly
+    /// after the one before it, and None where one doesn't. Of no bytes any place is such a place.
     pub fn run_place(&self) -> Option<usize>
-        ensures { IfSome result (λ place. StandsFrom place self.now) }
+        ensures some { IfSome result (λ place. StandsFrom place self.now) }
+        ensures none { IfNone result (¬ IsOneRun self.now) }
     {
-        if is_run(self.first, &self.later) {
-            Some(self.first.place)
-        } else {
-            None
+        let len = self.text().len();
+        if len == 0 {
+            return Some(0);
         }
+        let origin = self.place(0);
+        let mut end = 0;
+        while end < len {
+            let place = self.place(end);
+            if place < end || place - end != origin {
+                return None;
+            }
+            end = self.run_at(end).end;
+        }
+        Some(origin)
     }
 }
 
@@ -189,17 +203,6 @@ pub struct Run {
     pub end: usize,
     /// Where the first stands in the lines.
     pub place: usize,
-}
-
-// Whether the bytes stand one directly after another, as they do in one segment without columns.
-fn is_run(first: Segment, later: &[Segment]) -> bool
-    ensures { IsTrue result
-        → (offset : ℕ) → place_at first later.now offset ≡ first.place + offset }
-{
-    if first.offset > 0 || first.columns > 0 {
-        return false;
-    }
-    later.is_empty()
 }
 
 // The last of the segments that begins at the offset or before it, and where the next begins, or the
@@ -291,7 +294,8 @@ fn built<'a>(
     later: Parts,
     kind: BlockKind,
 ) -> Result<Content<'a>, AllocError>
-    requires { IsIn later.lines.now (seen_part first) }
+    requires inside { IsIn later.lines.now (seen_part first) }
+    requires broken { is_one_run (seen_part first ∷ parts_left later) ≡ false }
     ensures { IfOk result (λ content. content
         ≡ content_with kind (seen_part first.entry ∷ parts_left later.entry)) }
 {

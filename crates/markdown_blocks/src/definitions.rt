@@ -11,11 +11,12 @@ ghost use Rattle.markdown_blocks.specs.taken.Lines.{IsTaken};
 ghost use Rattle.markdown_blocks.specs.walk.Walk.{IsGathered};
 
 use crate::blocks::{Block, BlockKind};
-use crate::containers::{BlockExtensions, Container, Outer, go_on};
+use crate::containers::{Container, Outer, go_on};
 use crate::info::without_front;
 use crate::rest::scan_rest;
 use crate::taken::Taken;
 use markdown_scanners_tree::scanners::{ReferenceDefinition, scan_reference_definition_ahead};
+use markdown_values::values::Extensions;
 use memchr::memchr;
 use std::alloc::{AllocError, Global};
 
@@ -214,7 +215,7 @@ pub fn add_content(
     let Some((_, first)) = Taken::nothing().next(lines) else {
         return Ok(());
     };
-    let outer = Outer::new(BlockExtensions::none(), containers);
+    let outer = Outer::new(Extensions::none(), containers);
     add_lines(content, lines, first, count, &outer, text)
 }
 

@@ -1,16 +1,17 @@
 //! The blocks of a page as events: containers that begin and end, and the leaf blocks in them.
 ghost use Rattle.std.specs.Prelude.{◌≡◌, ◌⊎◌, ◌<◌, ◌≤◌, [], ◌∷◌, List, length, take, drop, None, IfOk, IfErr, IfSome, IfNone, OnOk};
 ghost use Rattle.std.specs.Option.{option_map};
-ghost use Rattle.markdown_blocks.specs.containers.Containers.{no_extensions};
+ghost use Rattle.markdown_values.specs.values.Extensions.{commonmark};
 ghost use Rattle.markdown_blocks.specs.events.Events.{Event, IsEventsOf, seen_event};
 ghost use Rattle.markdown_blocks.specs.events.Given.{Left, Gives, begun_of, block_events_left, events_left};
 
 pub use crate::block_events::BlockEvents;
 use crate::byte_order_mark::text_start;
-use crate::containers::{BlockExtensions, Container};
+use crate::containers::Container;
 pub use crate::leaf::Leaf;
 use crate::taken::Taken;
 use crate::walk::Walk;
+use markdown_values::values::Extensions;
 use std::alloc::{AllocError, Global};
 use std::marker::Model;
 
@@ -65,13 +66,13 @@ impl<'a> Blocks<'a> {
     /// The events of a page, with no extension on.
     pub fn new(alloc: Global, page: &'a [u8]) -> Blocks<'a>
         ensures page { (events : List Event) → Gives result events
-            → IsEventsOf no_extensions page.now events }
+            → IsEventsOf commonmark page.now events }
     {
-        Blocks::new_ext(alloc, page, BlockExtensions::none())
+        Blocks::new_ext(alloc, page, Extensions::none())
     }
 
     /// The events of a page, with these extensions on.
-    pub fn new_ext(alloc: Global, page: &'a [u8], extensions: BlockExtensions) -> Blocks<'a>
+    pub fn new_ext(alloc: Global, page: &'a [u8], extensions: Extensions) -> Blocks<'a>
         ensures page { (events : List Event) → Gives result events
             → IsEventsOf extensions page.now events }
     {

@@ -3,7 +3,7 @@
 ghost use Rattle.std.specs.Prelude.{◌≡◌, ◌∷◌, ◌++◌, List, None, IfOk};
 ghost use Rattle.std.specs.List.{filter_map};
 ghost use Rattle.std.specs.Option.{option_map, option_to_list};
-ghost use Rattle.markdown_blocks.specs.containers.Containers.{no_extensions};
+ghost use Rattle.markdown_values.specs.values.Extensions.{commonmark};
 ghost use Rattle.markdown_blocks.specs.events.Events.{Event, seen_event};
 ghost use Rattle.markdown_blocks.specs.first_blocks.FirstBlocks.{firsts_of, seen_first};
 ghost use Rattle.markdown_blocks.specs.first_blocks.Tasks.{AreTasksOf, is_box, is_task_text, task_at};
@@ -12,10 +12,11 @@ ghost use Rattle.markdown_blocks.specs.lists.Lists.{Nodes, flatten};
 
 use crate::blank_lines::is_blank;
 use crate::blocks::BlockKind;
-use crate::containers::{BlockExtensions, Container};
+use crate::containers::Container;
 use crate::events::{BlockEvent, Blocks, Leaf};
 use crate::lists::keep;
 use markdown_scanners_tree::line::LineStart;
+use markdown_values::values::Extensions;
 use std::alloc::{AllocError, Global};
 use std::marker::Model;
 
@@ -136,16 +137,16 @@ fn is_box(b: u8) -> bool
 
 /// The markers of the task list items of a page, in order.
 pub fn tasks_of_page(alloc: Global, page: &[u8]) -> Result<Vec<Task>, AllocError>
-    ensures { IfOk result (λ tasks. AreTasksOf no_extensions page.now tasks.items) }
+    ensures { IfOk result (λ tasks. AreTasksOf commonmark page.now tasks.items) }
 {
-    tasks_of_page_ext(alloc, page, BlockExtensions::none())
+    tasks_of_page_ext(alloc, page, Extensions::none())
 }
 
 /// The same with these extensions on.
 pub fn tasks_of_page_ext(
     alloc: Global,
     page: &[u8],
-    extensions: BlockExtensions,
+    extensions: Extensions,
 ) -> Result<Vec<Task>, AllocError>
     ensures { IfOk result (λ tasks. AreTasksOf extensions page.now tasks.items) }
 {

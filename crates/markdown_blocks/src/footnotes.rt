@@ -5,8 +5,9 @@ ghost use Rattle.markdown_blocks.specs.containers.Containers.{footnote_of};
 ghost use Rattle.markdown_blocks.specs.containers.Footnotes.{after_columns, closes_label, footnote_label, is_label_byte};
 ghost use Rattle.markdown_scanners_tree.specs.line.State.{bytes_further};
 
-use crate::containers::{BlockExtensions, Container};
+use crate::containers::Container;
 use markdown_scanners_tree::line::LineStart;
+use markdown_values::values::Extensions;
 
 /// The label of the footnote definition whose marker stands at the front of a text, if one does. Of
 /// a page and a `BlockEvent::Start` of a footnote definition the text is the page from its place on.
@@ -55,7 +56,7 @@ fn closes_label(bytes: &[u8]) -> bool
 pub(crate) fn scan_footnote<'a>(
     line: &'a [u8],
     start: &mut LineStart<'a>,
-    extensions: BlockExtensions,
+    extensions: Extensions,
 ) -> Option<Container>
     requires { start.old.bytes ≡ line.now }
     ensures found { IfSome result (λ container.

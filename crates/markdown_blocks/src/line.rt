@@ -3,10 +3,11 @@ ghost use Rattle.std.specs.Prelude.{◌≡◌, is_some, true, IfSome, IfNone, Is
 ghost use Rattle.markdown_blocks.specs.containers.Containers.{asked_in, begun_at, behind, rest_in, IsInside};
 
 use crate::bullets::plain_bullet;
-use crate::containers::{BlockExtensions, Outer, go_on, scan_container};
+use crate::containers::{Outer, go_on, scan_container};
 use crate::rest::{Rest, scan_rest};
 use crate::terms::asked_first;
 use markdown_scanners_tree::line::LineStart;
+use markdown_values::values::Extensions;
 use std::marker::Model;
 
 /// A line where containers are open. It is led past them once, whatever is asked of it then.
@@ -83,7 +84,7 @@ impl<'a> Line<'a> {
     }
 
     /// The extensions with which it may begin a container after those that it goes on with.
-    pub(crate) fn asked(&self) -> BlockExtensions
+    pub(crate) fn asked(&self) -> Extensions
         ensures { result ≡ asked_in self.now.outer self.now.bytes }
     {
         let left = &self.outer.containers()[self.kept..];

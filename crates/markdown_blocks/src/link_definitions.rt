@@ -10,7 +10,7 @@ ghost use Rattle.markdown_scanners_tree.specs.NoSkips.{SkipsNothing};
 ghost use Rattle.markdown_scanners_tree.specs.SomeExactly.{SomeExactly};
 ghost use Rattle.markdown_scanners_tree.specs.linklabel.Key.{key_bytes};
 ghost use Rattle.markdown_scanners_tree.specs.linklabel.Label.{Label, IsLabelInBytes};
-ghost use Rattle.markdown_blocks.specs.containers.Containers.{no_extensions};
+ghost use Rattle.markdown_values.specs.values.Extensions.{commonmark};
 ghost use Rattle.markdown_blocks.specs.definitions.Definitions.{IsDefinition};
 ghost use Rattle.markdown_blocks.specs.link_definitions.LinkDefinitions.{Named, Target, Known, HasDefinitions, Names, IsNamed};
 ghost use Rattle.markdown_blocks.specs.link_definitions.LinkDefinitions.{AreAddedUpTo, first_of, known_as, known_before, slice, target_of};
@@ -20,7 +20,6 @@ ghost use Rattle.markdown_scanners_tree.specs.declared.scanners.reference_defini
 ghost use Rattle.markdown_scanners_tree.specs.scanners.TextLines.{lines_of};
 
 use crate::byte_order_mark::text_start;
-use crate::containers::BlockExtensions;
 use crate::definitions::{count_lines, scan_definition};
 use crate::foldings::{Folding, SHORT};
 use crate::taken::Taken;
@@ -29,6 +28,7 @@ use caseless::default_case_fold_str;
 use markdown_scanners_tree::linklabel::scan_link_label_bytes;
 use markdown_scanners_tree::scanners::{ReferenceDefinition, scan_line};
 use markdown_values::strings::CowStr;
+use markdown_values::values::Extensions;
 use std::alloc::{AllocError, Global};
 use std::borrow::CowSlice;
 use std::collections::BTreeMap;
@@ -137,17 +137,17 @@ impl<'a> LinkDefinitions<'a> {
     /// Those of a page, in one pass over it.
     pub fn of_page(alloc: Global, page: &'a [u8]) -> Result<LinkDefinitions<'a>, AllocError>
         ensures first { IfOk result (λ known. (named : List Named)
-            × HasDefinitions no_extensions page.now named
+            × HasDefinitions commonmark page.now named
             × ((label : List ℕ) → known_as known label ≡ first_of label named)) }
     {
-        LinkDefinitions::of_page_ext(alloc, page, BlockExtensions::none())
+        LinkDefinitions::of_page_ext(alloc, page, Extensions::none())
     }
 
     /// The same with these extensions on.
     pub fn of_page_ext(
         alloc: Global,
         page: &'a [u8],
-        extensions: BlockExtensions,
+        extensions: Extensions,
     ) -> Result<LinkDefinitions<'a>, AllocError>
         ensures first { IfOk result (λ known. (named : List Named)
             × HasDefinitions extensions page.now named

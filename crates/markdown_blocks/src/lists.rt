@@ -2,15 +2,16 @@
 //! (CommonMark 0.31.2, section 5.3)
 ghost use Rattle.std.specs.Prelude.{◌≡◌, ◌++◌, ◌∷◌, [], List, length, reverse, IfOk, IfErr, OnOk};
 ghost use Rattle.std.specs.Option.{option_to_list};
-ghost use Rattle.markdown_blocks.specs.containers.Containers.{no_extensions};
+ghost use Rattle.markdown_values.specs.values.Extensions.{commonmark};
 ghost use Rattle.markdown_blocks.specs.events.Events.{Event, seen_event, seen_leaf, leaf, ends};
 ghost use Rattle.markdown_blocks.specs.lists.Lists.{AreListsOf, Nodes, flatten, lists_of};
 ghost use Rattle.markdown_blocks.specs.lists.Tracked.{Tracked, at_start, read, start_read, closed, lists_behind, joins, loosened, list_begun, begun};
 ghost use Rattle.markdown_blocks.specs.lists.Tracked.{level_within};
 
 use crate::blocks::BlockKind;
-use crate::containers::{BlockExtensions, Container};
+use crate::containers::Container;
 use crate::events::{BlockEvent, Blocks, Leaf};
+use markdown_values::values::Extensions;
 use std::alloc::{AllocError, Global};
 use std::marker::Model;
 
@@ -276,16 +277,16 @@ fn level_within(container: Container) -> Level
 
 /// The lists of a page, each where it ends.
 pub fn lists_of_page(alloc: Global, page: &[u8]) -> Result<Vec<ListBlock>, AllocError>
-    ensures { IfOk result (λ lists. AreListsOf no_extensions page.now lists.items) }
+    ensures { IfOk result (λ lists. AreListsOf commonmark page.now lists.items) }
 {
-    lists_of_page_ext(alloc, page, BlockExtensions::none())
+    lists_of_page_ext(alloc, page, Extensions::none())
 }
 
 /// The same with these extensions on.
 pub fn lists_of_page_ext(
     alloc: Global,
     page: &[u8],
-    extensions: BlockExtensions,
+    extensions: Extensions,
 ) -> Result<Vec<ListBlock>, AllocError>
     ensures { IfOk result (λ lists. AreListsOf extensions page.now lists.items) }
 {

@@ -1,13 +1,13 @@
 //! The events of a page as an iterator.
 ghost use Rattle.std.specs.Prelude.{◌≡◌, false, List};
 ghost use Rattle.std.specs.Iterator.{at_most};
-ghost use Rattle.markdown_blocks.specs.containers.Containers.{no_extensions};
+ghost use Rattle.markdown_values.specs.values.Extensions.{commonmark};
 ghost use Rattle.markdown_blocks.specs.events.Events.{Event, IsEventsOf};
 ghost use Rattle.markdown_blocks.specs.events.Given.{Gives};
 ghost use Rattle.markdown_blocks.specs.events.Iterated.{GivesNext, Iterated, items_left};
 
-use crate::containers::BlockExtensions;
 use crate::events::{BlockEvent, Blocks};
+use markdown_values::values::Extensions;
 use std::alloc::{AllocError, Global};
 use std::marker::Model;
 
@@ -54,18 +54,14 @@ impl<'a> Iterator for PageEvents<'a> {
 /// The events of a page with no extension on, for a loop over them.
 pub fn page_events<'a>(alloc: Global, page: &'a [u8]) -> PageEvents<'a>
     ensures page { (events : List Event) → Gives result.left events
-        → IsEventsOf no_extensions page.now events }
+        → IsEventsOf commonmark page.now events }
     ensures goes { result.is_stopped ≡ false }
 {
-    page_events_ext(alloc, page, BlockExtensions::none())
+    page_events_ext(alloc, page, Extensions::none())
 }
 
 /// The events of a page with these extensions on, for a loop over them.
-pub fn page_events_ext<'a>(
-    alloc: Global,
-    page: &'a [u8],
-    extensions: BlockExtensions,
-) -> PageEvents<'a>
+pub fn page_events_ext<'a>(alloc: Global, page: &'a [u8], extensions: Extensions) -> PageEvents<'a>
     ensures page { (events : List Event) → Gives result.left events
         → IsEventsOf extensions page.now events }
     ensures goes { result.is_stopped ≡ false }

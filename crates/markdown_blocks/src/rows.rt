@@ -6,13 +6,13 @@ ghost use Rattle.markdown_scanners_tree.specs.scanners.TextLines.{lines_of};
 ghost use Rattle.markdown_blocks.specs.declared.containers.Container.{Container};
 ghost use Rattle.markdown_blocks.specs.rows.Rows.{AreAlignments, AreGiven, body_rows, first_row, later_rows, row_at, rows_of, seen_row};
 
-use crate::containers::{BlockExtensions, Container, Outer, go_on};
+use crate::containers::{Container, Outer, go_on};
 use crate::content::parts::first_place;
 use crate::delimiter_rows::alignments_in;
 use crate::rest::{Rest, scan_rest};
 use crate::taken::Taken;
 use markdown_scanners_tree::line::LineStart;
-use markdown_values::values::Alignment;
+use markdown_values::values::{Alignment, Extensions};
 use std::alloc::{AllocError, Global};
 use std::marker::Model;
 
@@ -71,7 +71,7 @@ impl<'a> Iterator for Rows<'a> {
 pub fn rows_of<'a>(lines: &'a [u8], containers: &'a [Container], kept: usize) -> Rows<'a>
     ensures rows { result ≡ rows_of kept containers.now (lines_of lines.now) }
 {
-    let outer = Outer::new(BlockExtensions::none(), containers);
+    let outer = Outer::new(Extensions::none(), containers);
     let Some((line, read)) = Taken::nothing().next(lines) else {
         return Rows {
             lines,
@@ -134,7 +134,7 @@ pub fn alignments_of(
     let Some((line, _)) = read.next(lines) else {
         return Ok(Vec::new(alloc));
     };
-    let outer = Outer::new(BlockExtensions::none(), containers);
+    let outer = Outer::new(Extensions::none(), containers);
     let (_, mut start) = go_on(line, &outer);
     let rest = scan_rest(line, &mut start);
     columns_of(alloc, &rest)

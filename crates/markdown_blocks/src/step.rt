@@ -4,7 +4,7 @@ ghost use Rattle.markdown_scanners_tree.specs.scanners.TextLines.{lines_of};
 ghost use Rattle.markdown_blocks.specs.events.Events.{first_of};
 
 use crate::blocks::Block;
-use crate::containers::{BlockExtensions, scan_container};
+use crate::containers::{all_containers, scan_container};
 use markdown_scanners_tree::line::LineStart;
 
 /// A block at the front of some lines, and what its first line has before it.
@@ -48,7 +48,7 @@ impl<'a> Step<'a> {
     {
         let indent = self.start.scan_space_upto(4);
         let place = self.start.bytes_scanned();
-        scan_container(self.line, &mut self.start, indent, BlockExtensions::all());
+        scan_container(self.line, &mut self.start, indent, all_containers());
         place
     }
 }

@@ -9,19 +9,20 @@ ghost use Rattle.markdown_blocks.specs.containers.Containers.{asked_first, term_
 
 use crate::blank_lines::is_blank;
 use crate::blocks::{Block, BlockKind};
-use crate::containers::{BlockExtensions, Container, DefinitionItem};
+use crate::containers::{Container, DefinitionItem};
 use crate::definitions::definitions_len;
 use crate::rest::Rest;
 use markdown_scanners_tree::line::LineStart;
+use markdown_values::values::Extensions;
 use std::marker::Model;
 
 /// The extensions with which a line may begin a container, where these are the open ones that it does
 /// not go on with.
 pub(crate) fn asked_first(
-    extensions: BlockExtensions,
+    extensions: Extensions,
     is_after_term: bool,
     left: &[Container],
-) -> BlockExtensions
+) -> Extensions
     ensures { result ≡ asked_first extensions is_after_term left.now }
 {
     match left {
@@ -32,24 +33,24 @@ pub(crate) fn asked_first(
 }
 
 /// The extensions where no term stands.
-pub(crate) fn without_terms(extensions: BlockExtensions) -> BlockExtensions
+pub(crate) fn without_terms(extensions: Extensions) -> Extensions
     ensures { result ≡ without_terms extensions }
 {
-    BlockExtensions {
+    Extensions {
         definition_lists: false,
         ..extensions
     }
 }
 
 /// Whether a line with this after its containers defines the paragraph before it.
-pub(crate) fn defines_term(rest: &Rest, extensions: BlockExtensions) -> bool
+pub(crate) fn defines_term(rest: &Rest, extensions: Extensions) -> bool
     ensures { IsTrue result ↔ DefinesTerm extensions rest.now }
 {
     extensions.definition_lists && rest.indent != 4 && matches!(rest.text, [b':', ..])
 }
 
 /// Whether the block may be a term, where this is gathered of its content.
-pub(crate) fn is_term(block: Block, extensions: BlockExtensions, content: &[u8]) -> bool
+pub(crate) fn is_term(block: Block, extensions: Extensions, content: &[u8]) -> bool
     ensures { (whole : List ℕ) → (block.kind ≡ Paragraph → whole ≢ [])
         → IsGathered whole content.now
         → (IsTrue result ↔ IsTerm extensions block.kind whole) }
@@ -89,7 +90,7 @@ pub(crate) fn scan_term_definition(
     line: &[u8],
     start: &mut LineStart,
     indent: usize,
-    extensions: BlockExtensions,
+    extensions: Extensions,
 ) -> Option<Container>
     requires bytes { start.old.bytes ≡ line.now }
     requires near { indent ≤ 4 }

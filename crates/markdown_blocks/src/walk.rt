@@ -1,18 +1,20 @@
 //! A page cut into blocks, from the first to the last.
 ghost use Rattle.std.specs.Prelude.{◌≡◌, ◌<◌, ◌≤◌, ◌+◌, [], List, ℕ, length, take, drop, IsTrue, IfOk, IfErr, IfSome, IfNone, OnOk};
 ghost use Rattle.markdown_blocks.specs.blocks.Pages.{NoneIsOver, root};
-ghost use Rattle.markdown_blocks.specs.containers.Containers.{behind, no_extensions, settled_last};
+ghost use Rattle.markdown_values.specs.values.Extensions.{commonmark};
+ghost use Rattle.markdown_blocks.specs.containers.Containers.{behind, settled_last};
 ghost use Rattle.markdown_scanners_tree.specs.line.State.{LineState};
 ghost use Rattle.markdown_blocks.specs.walk.Walk.{IsOpening, IsStep, IsContentOf};
 
 use crate::blocks::{is_over, scan_block};
-use crate::containers::{BlockExtensions, Container, Outer, go_on, scan_container, settled};
+use crate::containers::{Container, Outer, go_on, scan_container, settled};
 use crate::definitions::gather_content;
 use crate::rest::{Rest, scan_rest};
 pub use crate::step::Step;
 use crate::taken::Taken;
 use crate::terms::{asked_first, follows_term, is_blank_between, is_term, without_terms};
 use markdown_scanners_tree::line::LineStart;
+use markdown_values::values::Extensions;
 use std::alloc::{AllocError, Global};
 use std::marker::Model;
 use std::mem::swap;
@@ -21,7 +23,7 @@ use std::mem::swap;
 /// first, the extensions that are on, and whether a term stands before it.
 #[derive(Drop)]
 pub struct Walk {
-    extensions: BlockExtensions,
+    extensions: Extensions,
     opened: Vec<Container>,
     is_after_term: bool,
     // Those that were open before the last block; its room is used again.
@@ -52,13 +54,13 @@ struct Opened<'a> {
 impl Walk {
     /// Before the first block of a page: no container is open, and no extension is on.
     pub fn new(alloc: Global) -> Walk
-        ensures none { result ≡ root no_extensions }
+        ensures none { result ≡ root commonmark }
     {
-        Walk::new_ext(alloc, BlockExtensions::none())
+        Walk::new_ext(alloc, Extensions::none())
     }
 
     /// The same with these extensions on.
-    pub fn new_ext(alloc: Global, extensions: BlockExtensions) -> Walk
+    pub fn new_ext(alloc: Global, extensions: Extensions) -> Walk
         ensures none { result ≡ root extensions }
     {
         Walk {
@@ -74,7 +76,7 @@ impl Walk {
     /// on.
     pub fn resume(
         alloc: Global,
-        extensions: BlockExtensions,
+        extensions: Extensions,
         containers: Vec<Container>,
         is_after_term: bool,
     ) -> Walk
@@ -173,7 +175,7 @@ impl Walk {
 fn open_containers<'a>(
     outer: &mut Vec<Container>,
     line: &'a [u8],
-    extensions: BlockExtensions,
+    extensions: Extensions,
     is_after_term: bool,
 ) -> Result<Opened<'a>, AllocError>
     ensures opening { IfOk result (λ o.

@@ -9,7 +9,7 @@ use Rattle.std.proofs.lemmas.List.{append_cancel_left, drop_all, take-append-dro
 use Rattle.markdown_scanners_tree.specs.line.State.{LineState, space_within, after_space}
 use Rattle.markdown_scanners_tree.specs.scanners.TextLines.{ends_line, with_first, lines_of}
 use Rattle.markdown_blocks.proofs.taken.TakenLemmas.{lines_bytes}
-use Rattle.markdown_blocks.specs.containers.Containers.{all_extensions, begun_behind, begun_at, after_marker}
+use Rattle.markdown_blocks.specs.containers.Containers.{all_containers, begun_behind, begun_at, after_marker}
 use Rattle.markdown_blocks.specs.declared.containers.Container.{Container}
 use Rattle.markdown_blocks.specs.declared.taken.Taken.{Taken}
 use Rattle.markdown_blocks.specs.events.Events.{first_of}
@@ -17,17 +17,17 @@ use Rattle.markdown_blocks.specs.taken.Lines.{IsTaken}
 
 -- a marker is passed where one stands, and the space before it else
 pub marker_passed : (s t next : LineState) (indent : ℕ) (found : Option Container) → indent ≡ space_within 4 s → t ≡ after_space 4 s
-    → IfSome found (λ c. begun_behind all_extensions indent t ≡ Some (c, next)) → IfNone found (begun_behind all_extensions indent t ≡ None)
+    → IfSome found (λ c. begun_behind all_containers indent t ≡ Some (c, next)) → IfNone found (begun_behind all_containers indent t ≡ None)
     → IfNone found (next ≡ t)
     → next ≡ after_marker s
 marker_passed s t next indent (Some c) columns state found none same =
-    let here : begun_at all_extensions s ≡ Some (c, next) =
-    subst (λ n. begun_behind all_extensions n (after_space 4 s) ≡ Some (c, next)) columns
-    (subst (λ z. begun_behind all_extensions indent z ≡ Some (c, next)) state found) in
+    let here : begun_at all_containers s ≡ Some (c, next) =
+    subst (λ n. begun_behind all_containers n (after_space 4 s) ≡ Some (c, next)) columns
+    (subst (λ z. begun_behind all_containers indent z ≡ Some (c, next)) state found) in
     rw (after_marker, here) refl
 marker_passed s t next indent None columns state found none same =
-    let here : begun_at all_extensions s ≡ None =
-    subst (λ n. begun_behind all_extensions n (after_space 4 s) ≡ None) columns (subst (λ z. begun_behind all_extensions indent z ≡ None) state none) in
+    let here : begun_at all_containers s ≡ None =
+    subst (λ n. begun_behind all_containers n (after_space 4 s) ≡ None) columns (subst (λ z. begun_behind all_containers indent z ≡ None) state none) in
     rw (after_marker, here) (same ∙ state)
 
 -- the lines that are taken are the first ones, so many or all

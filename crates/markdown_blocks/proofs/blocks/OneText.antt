@@ -10,7 +10,7 @@ use Rattle.markdown_blocks.specs.containers.Containers.{Between, Outer, Rest, re
 use Rattle.markdown_blocks.specs.declared.blocks.BlockKind.{BlockKind}
 use Rattle.markdown_blocks.specs.declared.blocks.BlockKind.TheVariants.{Blank, Break, Heading, Setext, Indented}
 use Rattle.markdown_blocks.specs.declared.blocks.BlockKind.TheVariants.{Fenced, Html, Table, Definition, Paragraph}
-use Rattle.markdown_blocks.specs.declared.containers.BlockExtensions.{BlockExtensions}
+use Rattle.markdown_values.specs.declared.values.extensions.Extensions.{Extensions}
 use Rattle.markdown_blocks.specs.declared.containers.Container.{Container}
 use Rattle.markdown_blocks.specs.blocks.Leaves.{In, IsUnderline, IsHead, IsRow, BeginsNoTable, OnFirst, StopsAt, EndParagraph, Underlines, IsLeaf}
 use Rattle.markdown_blocks.specs.blocks.Pages.{Piece, lines_in, containers_of, outer_of, open_behind, AreOpened, IsTerm, IsPiece, AreBlocks}
@@ -111,7 +111,7 @@ module _ (outer : Outer) (first : Rest) where
         ]
 
 -- the containers that a line begins
-one_opening : (asked : BlockExtensions) (s : LineState) (begun begun' : List Container) (after after' : LineState) → Opens asked s begun after
+one_opening : (asked : Extensions) (s : LineState) (begun begun' : List Container) (after after' : LineState) → Opens asked s begun after
     → Opens asked s begun' after'
     → (begun ≡ begun') × (after ≡ after')
 one_opening asked s [] [] after after' o o' = (refl, o.1 ∙ sym o'.1)

@@ -11,7 +11,7 @@ use Rattle.markdown_scanners_tree.specs.scanners.Headings.{underline_byte}
 use Rattle.markdown_scanners_tree.specs.scanners.TextLines.{lines_of}
 use Rattle.markdown_blocks.specs.blank_lines.BlankLines.{is_blank}
 use Rattle.markdown_blocks.specs.declared.blocks.TextEnd.{TextEnd}
-use Rattle.markdown_blocks.specs.declared.containers.BlockExtensions.{BlockExtensions}
+use Rattle.markdown_values.specs.declared.values.extensions.Extensions.{Extensions}
 use Rattle.markdown_blocks.specs.declared.taken.Taken.{Taken}
 use Rattle.markdown_blocks.specs.definitions.Content.{content_of}
 use Rattle.markdown_blocks.specs.definitions.Definitions.{HasText}
@@ -79,7 +79,7 @@ not_under bytes level byte (b ∷ run) rest of parts all some h =
     by (inr is) front = let both : (hyphen == colon) ≡ true = subst (λ x. (x == colon) ≡ true) is front in cc
 
 -- what ends a paragraph with text has less than four columns of space, and is not blank
-module _ (asked : BlockExtensions) (rest : Rest) where
+module _ (asked : Extensions) (rest : Rest) where
   under_near : (level : Option HeadingLevel) → IsUnderOrDefines asked level rest → ¬ HasIndent rest
   under_near (Some level) h = h.0
   under_near None h = h.0

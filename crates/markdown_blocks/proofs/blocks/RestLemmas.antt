@@ -6,7 +6,7 @@ use Rattle.markdown_scanners_tree.specs.SomeExactly.{SomeExactly}
 use Rattle.markdown_scanners_tree.specs.line.State.{LineState}
 use Rattle.markdown_blocks.specs.blank_lines.BlankLines.{is_blank}
 use Rattle.markdown_blocks.specs.containers.Containers.{Outer, Rest, rest_at, asked_in, begun_at, behind, IsInside, rest_in}
-use Rattle.markdown_blocks.specs.declared.containers.BlockExtensions.{BlockExtensions}
+use Rattle.markdown_values.specs.declared.values.extensions.Extensions.{Extensions}
 use Rattle.markdown_blocks.specs.declared.blocks.TextEnd.{TextEnd}
 use Rattle.markdown_blocks.specs.blocks.Endings.{EndsText, IsUnderOrDefines}
 use Rattle.markdown_blocks.specs.blocks.Leaves.{IsBlank, IsUnderline, DefinesTerm, HasIndent, IsLazy, EndsParagraph, Interrupts, LeavesParagraph, In, OutOr}
@@ -76,7 +76,7 @@ some_found None none given h is = let both : false ≡ true = given ∙ ap not h
 some_found (Some a) none given h is = cc
 
 -- an underline, or without one the marker of a definition
-pub some_end : (asked : BlockExtensions) (rest : Rest) (found : Option HeadingLevel) → SomeExactly (λ level. IsUnderline level rest) found
+pub some_end : (asked : Extensions) (rest : Rest) (found : Option HeadingLevel) → SomeExactly (λ level. IsUnderline level rest) found
     → (found ≡ None → DefinesTerm asked rest) → IsUnderOrDefines asked found rest
 some_end asked rest (Some level) given defines = given
 some_end asked rest None given defines = defines refl
@@ -86,7 +86,7 @@ begun_none b None given h = refl
 begun_none b (Some a) given h = let both : true ≡ false = sym given ∙ h in cc
 
 -- a lazy line
-module _ (asked : BlockExtensions) (s : LineState) (rest : Rest) (blank : Bool) (is : rest ≡ rest_at s) (tells : blank ≡ is_blank rest.text) where
+module _ (asked : Extensions) (s : LineState) (rest : Rest) (blank : Bool) (is : rest ≡ rest_at s) (tells : blank ≡ is_blank rest.text) where
   pub lazy_given : begun_at asked s ≡ None → blank ≡ false → HasIndent rest ⊎ (¬ Interrupts asked rest.text) → IsLazy asked s
   lazy_given none has_text either = (
     none,

@@ -1,5 +1,5 @@
 -- Cells of rows, by the examples of GitHub Flavored Markdown 0.29, section 4.10, and as cmark-gfm 0.29.0 has them.
-use Rattle.std.proofs.Common.{ℕ, List, [], ◌∷◌, ◌≡◌, refl, map}
+use Rattle.std.proofs.Common.{ℕ, List, true, false, [], ◌∷◌, ◌≡◌, refl, map}
 use Rattle.std.specs.Prelude.{codes}
 use Rattle.markdown_blocks.specs.blocks.Tables.{cells}
 use Rattle.markdown_blocks.specs.cells.Cells.{cells_of}
@@ -49,7 +49,8 @@ two_backslashes = refl
 escaped_last : texts (codes "|b\\|\n") ≡ codes "b|" ∷ []
 escaped_last = refl
 
-placed : contents (codes "\\|c\\|| \\") ≡ record { text = codes "|c|"; places = 1 ∷ 2 ∷ 4 ∷ [] } ∷ record { text = codes "\\"; places = 7 ∷ [] } ∷ []
+placed : contents (codes "\\|c\\|| \\")
+    ≡ record { text = codes "|c|"; places = 1 ∷ 2 ∷ 4 ∷ []; is_lent = false } ∷ record { text = codes "\\"; places = 7 ∷ []; is_lent = true } ∷ []
 placed = refl
 
 -- a pipe alone, and nothing

@@ -11,10 +11,10 @@ use Rattle.markdown_scanners_tree.specs.line.State.{LineState, unscanned, space_
 use Rattle.markdown_blocks.specs.blank_lines.BlankLines.{is_blank}
 use Rattle.markdown_blocks.specs.containers.ItemMarkers.{item_outcome}
 use Rattle.markdown_blocks.specs.declared.containers.Container.TheVariants.{Quote, Item, Footnote, TermDefinition}
-use Rattle.markdown_blocks.specs.declared.containers.BlockExtensions.{BlockExtensions}
+use Rattle.markdown_values.specs.declared.values.extensions.Extensions.{Extensions}
 use Rattle.markdown_blocks.specs.declared.containers.Container.{Container}
 use Rattle.markdown_blocks.proofs.taken.TakenLemmas.{slice_after}
-use Rattle.markdown_blocks.specs.containers.Containers.{goes_on_blank, go_on, Behind, behind_quote, all_extensions, begun_at}
+use Rattle.markdown_blocks.specs.containers.Containers.{goes_on_blank, go_on, Behind, behind_quote, all_containers, begun_at}
 use Rattle.markdown_blocks.specs.containers.Containers.{begun_behind, either_begun, extension_of, footnote_by, item_of}
 use Rattle.markdown_blocks.specs.containers.Containers.{term_definition_by, within_quote, within_width}
 use Rattle.markdown_blocks.specs.containers.Footnotes.{footnote_label}
@@ -42,7 +42,7 @@ pub item_given : (found : Outcome (ℕ × ℕ × ℕ)) (after : LineState) (deli
 item_given found after delimiter start width begun answers is blank = rw (← answers, ← is, blank) refl
 
 -- no block quote begins there
-pub begun_other : (asked : BlockExtensions) (indent : ℕ) (s t : LineState) → (indent == 4) ≡ false
+pub begun_other : (asked : Extensions) (indent : ℕ) (s t : LineState) → (indent == 4) ≡ false
     → begins_with (λ b. b == greater_than_sign) (unscanned s) ≡ false → t ≡ s
     → begun_behind asked indent s ≡ either_begun (item_of (item_outcome indent t)) (extension_of asked indent t)
 begun_other asked indent s t far other same =
@@ -72,8 +72,8 @@ extension_more true false None definition r apart is = cc
 extension_more false true footnote definition r apart is = ap (λ f. either_begun f definition) (apart r is) ∙ is
 extension_more false false footnote definition r apart is = cc
 
-extension_by_all : (asked : BlockExtensions) (indent : ℕ) (s : LineState) (r : Container × LineState) → extension_of asked indent s ≡ Some r
-    → extension_of all_extensions indent s ≡ Some r
+extension_by_all : (asked : Extensions) (indent : ℕ) (s : LineState) (r : Container × LineState) → extension_of asked indent s ≡ Some r
+    → extension_of all_containers indent s ≡ Some r
 extension_by_all asked indent s r is =
     extension_more asked.footnotes asked.definition_lists (footnote_by s (footnote_label (unscanned s))) (term_definition_by (definition_outcome indent s)) r
     (λ q found. ap (footnote_by s) (no_label (unscanned s) (definition_marked indent s q found))) is
@@ -86,15 +86,15 @@ begun_more false true quote item some all r more is = is
 begun_more false false quote (Some begun) some all r more is = is
 begun_more false false quote None some all r more is = more is
 
-pub begun_by_all : (asked : BlockExtensions) (s : LineState) (r : Container × LineState) → begun_at asked s ≡ Some r → begun_at all_extensions s ≡ Some r
+pub begun_by_all : (asked : Extensions) (s : LineState) (r : Container × LineState) → begun_at asked s ≡ Some r → begun_at all_containers s ≡ Some r
 begun_by_all asked s r is =
     let t = after_space 4 s in
     let n = space_within 4 s in
     begun_more (n == 4) (begins_with (λ b. b == greater_than_sign) (unscanned t)) (Some (Quote, after_quote t)) (item_of (item_outcome n t))
-    (extension_of asked n t) (extension_of all_extensions n t) r (extension_by_all asked n t r) is
+    (extension_of asked n t) (extension_of all_containers n t) r (extension_by_all asked n t r) is
 
 -- the container that a line begins, where its rest is passed
-pub begun_given : (asked : BlockExtensions) (s t after : LineState) (indent : ℕ) (r : Option Container) → indent ≡ space_within 4 s → t ≡ after_space 4 s
+pub begun_given : (asked : Extensions) (s t after : LineState) (indent : ℕ) (r : Option Container) → indent ≡ space_within 4 s → t ≡ after_space 4 s
     → IfSome r (λ container. begun_behind asked indent t ≡ Some (container, after)) → IfNone r (begun_behind asked indent t ≡ None)
     → is_some r ≡ is_some (begun_at asked s)
 begun_given asked s t after indent r columns is found none = subst (λ n. is_some r ≡ is_some (begun_behind asked n (after_space 4 s))) columns

@@ -13,7 +13,7 @@ use Rattle.markdown_blocks.specs.containers.Containers.{term_definition_by, term
 use Rattle.markdown_blocks.specs.containers.Footnotes.{footnote_label}
 use Rattle.markdown_blocks.specs.containers.ItemMarkers.{item_outcome, item_outcome_by}
 use Rattle.markdown_blocks.specs.containers.private.Markers.{is_item_byte, is_other_byte}
-use Rattle.markdown_blocks.specs.declared.containers.BlockExtensions.{BlockExtensions}
+use Rattle.markdown_values.specs.declared.values.extensions.Extensions.{Extensions}
 use Rattle.markdown_blocks.specs.declared.containers.Container.{Container}
 
 both_false : (a b : Bool) → (a || b) ≡ false → (a ≡ false) × (b ≡ false)
@@ -42,7 +42,7 @@ no_label_there (b ∷ []) none = refl
 no_label_there (b ∷ c ∷ bytes) none = rw none refl
 
 -- where none of the two bytes stands no extension begins
-module _ (asked : BlockExtensions) (indent : ℕ) (s : LineState)
+module _ (asked : Extensions) (indent : ℕ) (s : LineState)
     (no_bracket : asked.footnotes ≡ true → begins_with (λ b. b == left_bracket) (unscanned s) ≡ false)
     (no_colon : asked.definition_lists ≡ true → begins_with (λ b. b == colon) (unscanned s) ≡ false) where
   no_footnote : footnote_of asked s ≡ None
@@ -76,7 +76,7 @@ either_none None second none = none
 either_none (Some begun) second none = refl
 
 -- where a byte of an item's marker stands, an item begins or nothing
-pub item_begun : (asked : BlockExtensions) (indent : ℕ) (s : LineState) → begins_with is_item_byte (unscanned s) ≡ true
+pub item_begun : (asked : Extensions) (indent : ℕ) (s : LineState) → begins_with is_item_byte (unscanned s) ≡ true
     → (indent == 4) ≡ false → begun_behind asked indent s ≡ item_of (item_outcome indent s)
 item_begun asked indent s item near =
     rw (near, begins_with_other greater_than_sign (unscanned s) refl item)
@@ -85,18 +85,18 @@ item_begun asked indent s item near =
     (λ on. begins_with_other colon (unscanned s) refl item)))
 
 -- a byte of no other marker
-record Apart (asked : BlockExtensions) (b : ℕ) : Type 0 where
+record Apart (asked : Extensions) (b : ℕ) : Type 0 where
   quote : (b == greater_than_sign) ≡ false
   bracket : (asked.footnotes && b == left_bracket) ≡ false
   colon : (asked.definition_lists && b == colon) ≡ false
 
-apart : (asked : BlockExtensions) (b : ℕ) → is_other_byte asked b ≡ false → Apart asked b
+apart : (asked : Extensions) (b : ℕ) → is_other_byte asked b ≡ false → Apart asked b
 apart asked b none =
     let quote = both_false _ _ none in
     let bracket = both_false _ _ quote.1 in
     record { quote = quote.0; bracket = bracket.0; colon = bracket.1 }
 
-module _ (asked : BlockExtensions) (bytes : List ℕ) (none : begins_with (is_other_byte asked) bytes ≡ false) where
+module _ (asked : Extensions) (bytes : List ℕ) (none : begins_with (is_other_byte asked) bytes ≡ false) where
   no_quote_there : begins_with (λ b. b == greater_than_sign) bytes ≡ false
   no_quote_there = by bytes none
     where
@@ -119,7 +119,7 @@ module _ (asked : BlockExtensions) (bytes : List ℕ) (none : begins_with (is_ot
       by (b ∷ bs) h = rw on at (apart asked b h).colon
 
 -- where no byte of a marker stands nothing begins
-pub none_begun : (asked : BlockExtensions) (indent : ℕ) (s : LineState) → begins_with is_item_byte (unscanned s) ≡ false
+pub none_begun : (asked : Extensions) (indent : ℕ) (s : LineState) → begins_with is_item_byte (unscanned s) ≡ false
     → begins_with (is_other_byte asked) (unscanned s) ≡ false → begun_behind asked indent s ≡ None
 none_begun asked indent s no_item none = elim (cases_Bool (indent == 4)) [
   | inl far ↦ rw far refl

@@ -18,7 +18,7 @@ use Rattle.markdown_blocks.specs.containers.Containers.{begun_behind, item_of}
 use Rattle.markdown_blocks.specs.containers.ItemMarkers.{further_spaces, item_outcome, item_outcome_after, item_outcome_by}
 use Rattle.markdown_blocks.specs.containers.private.Markers.{IsPlainBullet, is_item_byte}
 use Rattle.markdown_blocks.specs.declared.containers.Container.TheVariants.{Item}
-use Rattle.markdown_blocks.specs.declared.containers.BlockExtensions.{BlockExtensions}
+use Rattle.markdown_values.specs.declared.values.extensions.Extensions.{Extensions}
 use Rattle.markdown_blocks.proofs.containers.ContainerLemmas.{item_given}
 use Rattle.markdown_blocks.proofs.containers.MarkerLemmas.{item_begun}
 
@@ -172,7 +172,7 @@ plain_given indent s after bullet width (byte, rest, is, more, at) none there wi
     (sym (ap (λ z. is_blank (unscanned z)) same ∙ not_blank indent s bullet byte rest is more none at))
 
 -- so does one after less than four columns of space, whatever extensions are on
-pub plain_begun : (asked : BlockExtensions) (indent : ℕ) (s : LineState) (bullet : ℕ) → IsPlainBullet bullet (unscanned s) → s.pending ≡ 0
+pub plain_begun : (asked : Extensions) (indent : ℕ) (s : LineState) (bullet : ℕ) → IsPlainBullet bullet (unscanned s) → s.pending ≡ 0
     → (indent == 4) ≡ false → is_some (begun_behind asked indent s) ≡ true
 plain_begun asked indent s bullet (byte, rest, is, more, at) none near =
     let item : begins_with is_item_byte (unscanned s) ≡ true =

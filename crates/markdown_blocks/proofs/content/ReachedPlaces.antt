@@ -19,7 +19,7 @@ use Rattle.markdown_scanners_tree.specs.scanners.list_items.ListMarker.{Marker, 
 use Rattle.markdown_scanners_tree.specs.scanners.list_items.ListMarker.{is_delimiter, list_marker, ordered_marker_of}
 use Rattle.markdown_scanners_tree.proofs.line.ColumnLemmas.{bool_cases}
 use Rattle.markdown_blocks.specs.blank_lines.BlankLines.{is_blank}
-use Rattle.markdown_blocks.specs.containers.Containers.{all_extensions, begun_at, behind, either_begun, extension_of}
+use Rattle.markdown_blocks.specs.containers.Containers.{all_containers, begun_at, behind, either_begun, extension_of}
 use Rattle.markdown_blocks.specs.containers.Containers.{footnote_by, footnote_of, go_on, item_of, term_definition_by, term_definition_of, within, within_width}
 use Rattle.markdown_blocks.specs.containers.Footnotes.{circumflex, closes_label, footnote_label, is_label_byte}
 use Rattle.markdown_blocks.specs.containers.ItemMarkers.{further_spaces, item_outcome, item_outcome_by}
@@ -228,19 +228,19 @@ module _ (line : List ℕ) where
       (after_some line after (after_bytes line s r 1 spent (some_byte (λ b. b == colon) (unscanned s) marked) (omega arith)
       (first_low (λ b. b == colon) colon_low (unscanned s) marked)) columns)
 
-  extension_reached : (indent : ℕ) (s t : LineState) (c : Container) (footnote : Option (Container × LineState)) → footnote_of all_extensions s ≡ footnote
-      → Reached line s → s.pending ≡ 0 → either_begun footnote (term_definition_of all_extensions indent s) ≡ Some (c, t) → Reached line t
+  extension_reached : (indent : ℕ) (s t : LineState) (c : Container) (footnote : Option (Container × LineState)) → footnote_of all_containers s ≡ footnote
+      → Reached line s → s.pending ≡ 0 → either_begun footnote (term_definition_of all_containers indent s) ≡ Some (c, t) → Reached line t
   extension_reached indent s t c (Some (d, u)) footnote r spent is =
       subst (Reached line) (ap (state_in s) is) (footnote_reached s u d (footnote_label (unscanned s)) refl r spent footnote)
   extension_reached indent s t c None footnote r spent is = definition_reached indent s t c r spent is
 
   marker_reached : (indent : ℕ) (s t : LineState) (c : Container) (item : Option (Container × LineState)) → item_of (item_outcome indent s) ≡ item
-      → Reached line s → s.pending ≡ 0 → either_begun item (extension_of all_extensions indent s) ≡ Some (c, t) → Reached line t
+      → Reached line s → s.pending ≡ 0 → either_begun item (extension_of all_containers indent s) ≡ Some (c, t) → Reached line t
   marker_reached indent s t c (Some (d, u)) item r spent is =
       subst (Reached line) (ap (state_in s) is) (item_reached indent s u d (list_marker (unscanned s)) refl r spent item)
-  marker_reached indent s t c None item r spent is = extension_reached indent s t c (footnote_of all_extensions s) refl r spent is
+  marker_reached indent s t c None item r spent is = extension_reached indent s t c (footnote_of all_containers s) refl r spent is
 
-  pub begun_reached : (s t : LineState) (c : Container) → Reached line s → begun_at all_extensions s ≡ Some (c, t) → Reached line t
+  pub begun_reached : (s t : LineState) (c : Container) → Reached line s → begun_at all_containers s ≡ Some (c, t) → Reached line t
   begun_reached s t c r is =
       let after = after_some line s r 4 in
       bool_cases (space_within 4 s == 4)
@@ -314,14 +314,14 @@ module _ (line : List ℕ) where
   inside_reached blank [] s r = r
   inside_reached blank (c ∷ inner) s r = one_inside blank c inner s (within c blank s) refl r (λ more t there. inside_reached more inner t there)
 
-  one_marker : (n : ℕ) (s : LineState) (found : Option (Container × LineState)) → begun_at all_extensions s ≡ found → Reached line s
+  one_marker : (n : ℕ) (s : LineState) (found : Option (Container × LineState)) → begun_at all_containers s ≡ found → Reached line s
       → ((t : LineState) → Reached line t → Reached line (after_markers n t)) → Reached line (after_markers (suc n) s)
   one_marker n s None is r later = subst (Reached line) (sym (marks-none n s is)) r
   one_marker n s (Some (c, t)) is r later = subst (Reached line) (sym (marks-some n s t c is)) (later t (begun_reached s t c r is))
 
   markers_reached : (n : ℕ) (s : LineState) → Reached line s → Reached line (after_markers n s)
   markers_reached zero s r = r
-  markers_reached (suc n) s r = one_marker n s (begun_at all_extensions s) refl r (λ t there. markers_reached n t there)
+  markers_reached (suc n) s r = one_marker n s (begun_at all_containers s) refl r (λ t there. markers_reached n t there)
 
   pub first_reached : (kept : ℕ) (outer : List Container) → Reached line (first_place kept outer line)
   first_reached kept outer = markers_reached (length outer - kept) (behind (take kept outer) line).state (behind_reached (take kept outer))

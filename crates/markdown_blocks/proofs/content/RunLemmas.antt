@@ -1,4 +1,7 @@
 -- Parts that are one run of the lines.
+use Rattle.std.proofs.lemmas.Bool.{eq-eqb, eqb-true}
+use Rattle.std.specs.Prelude.{Bool, true, false, ◌&&◌, ◌==◌}
+use Rattle.markdown_scanners_tree.proofs.PrefixLemmas.{both_true}
 use Rattle.std.proofs.Common.{ℕ, zero, suc, ◌+◌, ◌-◌, ◌≤◌, ◌≡◌, List, [], ◌∷◌, ◌++◌, length, take, drop, replicate}
 use Rattle.std.proofs.Common.{refl, sym, ap, ◌∙◌, subst, arith, append_assoc, length-append}
 use Rattle.std.specs.List.{flat_map, range_with_len}
@@ -6,7 +9,7 @@ use Rattle.std.proofs.Math.Seq.{take-add, take-append_seam}
 use Rattle.std.proofs.lemmas.List.{drop-drop, length-drop, length-take-le, take-append-drop}
 use Rattle.markdown_scanners_tree.specs.Ascii.{space}
 use Rattle.markdown_blocks.specs.content.Content.{joined, places_of, text_of}
-use Rattle.markdown_blocks.specs.content.Parts.{GoOn, Part}
+use Rattle.markdown_blocks.specs.content.Parts.{AreOneRun, GoOn, Part, goes_on, is_one_run}
 use Rattle.markdown_blocks.specs.content.Seen.{IsIn}
 
 -- the bytes from one place up to another, and those that follow
@@ -36,17 +39,17 @@ range_on k (suc m) n =
     ∙ sym (ap (range_with_len k) counts)
 
 -- the places of parts that go on from a place
-pub run_places : (place : ℕ) (parts : List Part) → GoOn place parts → flat_map places_of parts ≡ range_with_len place (length (flat_map text_of parts))
-run_places place [] on = refl
-run_places place (p ∷ parts) on =
+pub run_places : (from : ℕ) (parts : List Part) → GoOn from parts → flat_map places_of parts ≡ range_with_len from (length (flat_map text_of parts))
+run_places from [] on = refl
+run_places from (p ∷ parts) on =
     let plain = plain_part p on.0 in
     let size : length (text_of p ++ flat_map text_of parts) ≡ length p.bytes + length (flat_map text_of parts) =
     length-append (text_of p) (flat_map text_of parts) ∙ ap (λ t. length t + length (flat_map text_of parts)) plain in
     ap (λ n. (replicate n (p.place - 1) ++ range_with_len p.place (length p.bytes)) ++ flat_map places_of parts) on.0
     ∙ ap (λ a. range_with_len a (length p.bytes) ++ flat_map places_of parts) on.1
-    ∙ ap (λ xs. range_with_len place (length p.bytes) ++ xs) (run_places (place + length p.bytes) parts on.2)
-    ∙ range_on place (length p.bytes) (length (flat_map text_of parts))
-    ∙ ap (range_with_len place) (sym size)
+    ∙ ap (λ xs. range_with_len from (length p.bytes) ++ xs) (run_places (from + length p.bytes) parts on.2)
+    ∙ range_on from (length p.bytes) (length (flat_map text_of parts))
+    ∙ ap (range_with_len from) (sym size)
 
 -- the first part of a run, and a part more
 pub run_first : (lines : List ℕ) (all rest : List Part) (p : Part) → p.columns ≡ 0 → IsIn lines p → all ≡ p ∷ rest
@@ -109,6 +112,31 @@ places_next all left rest p begin end none at low is so_far =
     ∙ sym (append_assoc front (range_with_len (begin + (end - begin)) (length p.bytes)) (flat_map places_of rest))
     ∙ ap (λ ns. ns ++ flat_map places_of rest) (range_on begin (end - begin) (length p.bytes) ∙ ap (range_with_len begin) size)
 
+-- whether parts are one run is decided
+pub on_decided : (from : ℕ) (parts : List Part) → GoOn from parts → goes_on from parts ≡ true
+on_decided from [] on = refl
+on_decided from (p ∷ parts) on =
+    rw (eq-eqb p.columns 0 on.0, eq-eqb p.place from on.1) (on_decided (from + length p.bytes) parts on.2)
+
+decided_on : (from : ℕ) (parts : List Part) → goes_on from parts ≡ true → GoOn from parts
+decided_on from [] is = tt
+decided_on from (p ∷ parts) is =
+    let here = both_true (p.columns == 0) ((p.place == from) && goes_on (from + length p.bytes) parts) is in
+    let next = both_true (p.place == from) (goes_on (from + length p.bytes) parts) here.1 in
+    (eqb-true p.columns 0 here.0, eqb-true p.place from next.0, decided_on (from + length p.bytes) parts next.1)
+
+pub is_run_decided : (from : ℕ) (parts : List Part) → GoOn from parts → is_one_run parts ≡ true
+is_run_decided from [] on = refl
+is_run_decided from (p ∷ parts) on = ap (λ n. goes_on n (p ∷ parts)) on.1 ∙ on_decided from (p ∷ parts) on
+
+pub no_one_run : (parts : List Part) → ¬ AreOneRun parts → is_one_run parts ≡ false
+no_one_run [] broken = absurd (broken (0, tt))
+no_one_run (p ∷ parts) broken = by_case (goes_on p.place (p ∷ parts)) refl
+  where
+    by_case : (q : Bool) → goes_on p.place (p ∷ parts) ≡ q → q ≡ false
+    by_case true is = absurd (broken (p.place, decided_on p.place (p ∷ parts) is))
+    by_case false is = refl
+
 -- a run as one part
 abbrev pub run_part : List ℕ → ℕ → ℕ → Part
 run_part lines begin end = record { columns = 0; filler = space; place = begin; bytes = take (end - begin) (drop begin lines) }
@@ -131,9 +159,22 @@ run_inside lines begin end low within =
 pub run_joined : (lines : List ℕ) (all left : List Part) (begin end : ℕ) → begin ≤ end → end ≤ length lines
     → flat_map text_of all ≡ take (end - begin) (drop begin lines) ++ flat_map text_of left
     → flat_map places_of all ≡ range_with_len begin (end - begin) ++ flat_map places_of left
+    → (GoOn end left → GoOn begin all) → ¬ AreOneRun all
     → joined (run_part lines begin end ∷ left) ≡ joined all
-run_joined lines all left begin end low within text places =
+run_joined lines all left begin end low within text places on broken =
     let size = run_size lines begin end low within in
-    sym (ap (λ t. record { text = t; places = flat_map places_of all }) text
-    ∙ ap (λ ns. record { text = take (end - begin) (drop begin lines) ++ flat_map text_of left; places = ns })
-    (places ∙ ap (λ n. range_with_len begin n ++ flat_map places_of left) (sym size)))
+    let after : begin + length (take (end - begin) (drop begin lines)) ≡ end = omega (arith, size, low) in
+    let still : is_one_run (run_part lines begin end ∷ left) ≡ false =
+    no_one_run (run_part lines begin end ∷ left) (λ one. broken (
+      begin,
+      on (subst (λ n. GoOn n left)
+          (ap (λ n. n + length (take (end - begin) (drop begin lines))) (sym one.1.1) ∙ after) one.1.2),
+    )) in
+    sym (ap (λ t. record { text = t; places = flat_map places_of all; is_lent = is_one_run all }) text
+    ∙ ap (λ ns. record { text = take (end - begin) (drop begin lines) ++ flat_map text_of left; places = ns; is_lent = is_one_run all })
+    (places ∙ ap (λ n. range_with_len begin n ++ flat_map places_of left) (sym size))
+    ∙ ap (λ q. record {
+      text = take (end - begin) (drop begin lines) ++ flat_map text_of left;
+      places = flat_map places_of (run_part lines begin end ∷ left);
+      is_lent = q;
+    }) (no_one_run all broken ∙ sym still))

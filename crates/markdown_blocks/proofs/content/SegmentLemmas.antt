@@ -1,20 +1,20 @@
 -- Segments, and the places of bytes in them.
-use Rattle.std.proofs.Common.{ℕ, zero, suc, true, ◌+◌, ◌-◌, ◌^◌, ◌<◌, ◌≤◌, ◌≡◌, List, [], ◌∷◌, ◌++◌, length, take, drop, map, replicate, get_or}
+use Rattle.std.proofs.Common.{ℕ, zero, suc, ◌+◌, ◌-◌, ◌^◌, ◌<◌, ◌≤◌, ◌≡◌, List, [], ◌∷◌, ◌++◌, length, take, drop, map, replicate, get_or}
 use Rattle.std.proofs.Common.{refl, sym, ap, ◌∙◌, subst, inl, inr, arith, length-append}
 use Rattle.std.specs.List.{AllByRecursion, flat_map, range_with_len}
-use Rattle.std.proofs.lemmas.Bool.{eqb-true, le-leb, lt-leb, lt-ltb, le-ltb}
+use Rattle.std.proofs.lemmas.Bool.{le-leb, lt-leb, lt-ltb, le-ltb}
 use Rattle.std.proofs.lemmas.Bool.Decides.{leb_tells}
-use Rattle.std.specs.Prelude.{slice_index, ◌==◌}
+use Rattle.std.specs.Prelude.{Bool, true, false, slice_index, ◌==◌, ◌||◌}
 use Rattle.std.proofs.lemmas.List.{drop-drop, drop_all, drop_more, get_or_default, length-replicate, length-take-le, map-append}
 use Rattle.std.proofs.lemmas.List.FromFn.{get_or-map-range_with_len, take-map-range_with_len}
 use Rattle.markdown_scanners_tree.specs.Ascii.{space}
 use Rattle.markdown_blocks.specs.content.Content.{IsRunOf, Placed, front, joined, places_of, text_of}
-use Rattle.markdown_blocks.specs.content.Parts.{Part}
+use Rattle.markdown_blocks.specs.content.Parts.{Part, is_one_run}
 use Rattle.markdown_blocks.specs.content.Seen.{IsIn}
 use Rattle.markdown_blocks.specs.content.Left.{IsRunAt}
 use Rattle.markdown_blocks.specs.content.Segments.{Held, Rising, place_at, place_in, segments_from}
 use Rattle.markdown_blocks.specs.declared.content.Segment.{Segment}
-use Rattle.markdown_blocks.proofs.content.RunLemmas.{range_on, run_places}
+use Rattle.markdown_blocks.proofs.content.RunLemmas.{is_run_decided, range_on, run_places}
 
 -- where the segment at k begins at the offset or before it, it is reached
 rising_low : (offset : ℕ) (xs : List Segment) (k : ℕ) (s : Segment) (post : List Segment) → Rising offset xs → drop k xs ≡ s ∷ post → offset ≤ s.offset
@@ -103,13 +103,6 @@ given_in_columns s offset further r is low given = rw (← is, lt-ltb further s.
 pub given_in_bytes : (s : Segment) (offset further r : ℕ) → further ≡ offset - s.offset → s.columns ≤ further → r ≡ s.place + (further - s.columns)
     → r ≡ place_in s offset
 given_in_bytes s offset further r is low given = rw (← is, le-ltb further s.columns low) given
-
--- where there is one segment without columns, which begins at the first byte
-pub run_at : (s : Segment) (later : List Segment) → (length later == 0) ≡ true → s.offset ≡ 0 → s.columns ≡ 0 → (offset : ℕ)
-    → place_at s later offset ≡ s.place + offset
-run_at s [] one first none offset =
-    sym (given_in_bytes s offset offset (s.place + offset) (omega (arith, first)) (omega (arith, none)) (omega (arith, none)))
-run_at s (t ∷ later) one first none offset = absurd (omega (arith, eqb-true (length (t ∷ later)) 0 one))
 
 -- the segments of parts
 pub rising_parts : (offset : ℕ) (parts : List Part) → (low : ℕ) → low ≤ offset → Rising low (segments_from offset parts)
@@ -208,29 +201,29 @@ places_all s k (p ∷ parts) =
     (λ i low high. first_reached s t (segments_from (k + m) parts) i (omega arith)) ∙ places_all t (k + m) parts)
 
 -- what contracts see of a content that holds these
-abbrev pub seen : List ℕ → Segment → List Segment → Placed
-seen text first later = record { text = text; places = map (place_at first later) (range_with_len 0 (length text)) }
+abbrev pub seen : Bool → List ℕ → Segment → List Segment → Placed
+seen lent text first later = record { text = text; places = map (place_at first later) (range_with_len 0 (length text)); is_lent = lent }
 
 -- a run of it around an offset, in this segment, which goes on up to the end
-module _ (text : List ℕ) (first : Segment) (later : List Segment) (offset : ℕ) (s : Segment) (end : ℕ) (begins : s.offset ≤ offset)
+module _ (lent : Bool) (text : List ℕ) (first : Segment) (later : List Segment) (offset : ℕ) (s : Segment) (end : ℕ) (begins : s.offset ≤ offset)
     (ends : offset < end) (within : end ≤ length text)
     (is : (at : ℕ) → s.offset ≤ at → at < end → place_in s at ≡ place_at first later at) where
-  place_there : (at : ℕ) → s.offset ≤ at → at < end → slice_index (seen text first later).places at ≡ place_in s at
+  place_there : (at : ℕ) → s.offset ≤ at → at < end → slice_index (seen lent text first later).places at ≡ place_in s at
   place_there at from to = sym (at_offset first later (length text) at (place_in s at) (omega (arith, to, within)) (is at from to))
 
   pub column_run : offset - s.offset < s.columns
-      → IsRunOf (seen text first later) (record { start = offset; end = offset + 1; place = s.place - 1 })
+      → IsRunOf (seen lent text first later) (record { start = offset; end = offset + 1; place = s.place - 1 })
   column_run before = record {
     within = omega (arith, ends, within);
     places = λ at from to.
         let same : offset ≡ at = omega (arith, from, to) in
         let here = given_in_columns s offset (offset - s.offset) (s.place - 1) refl before refl in
-        subst (λ k. slice_index (seen text first later).places k ≡ s.place - 1 + (k - offset)) same
+        subst (λ k. slice_index (seen lent text first later).places k ≡ s.place - 1 + (k - offset)) same
         (place_there offset begins ends ∙ (sym here ∙ omega arith));
   }
 
   pub byte_run : (start : ℕ) → start ≡ offset - (offset - s.offset - s.columns) → s.columns ≤ offset - s.offset
-      → IsRunOf (seen text first later) (record { start = start; end = end; place = s.place })
+      → IsRunOf (seen lent text first later) (record { start = start; end = end; place = s.place })
   byte_run start starts behind = record {
     within = within;
     places = λ at from to.
@@ -259,14 +252,19 @@ module _ (lines : List ℕ) (parts : List Part) (text kept : List ℕ) (segments
         (in_parts lines (start 0) 0 parts offset all (omega arith) (omega (arith, low, size, within, ap length is)) small);
   }
 
-  pub built_seen : seen kept (start 0) segments ≡ front n (joined parts)
-  built_seen =
+  pub built_seen : is_one_run parts ≡ false → seen (length kept == 0) kept (start 0) segments ≡ front n (joined parts)
+  built_seen broken =
+      let lent = length kept == 0 in
+      let given : List ℕ → ℕ → Bool → Placed =
+      λ t m q. record { text = t; places = map (place_at (start 0) (segments_from 0 parts)) (range_with_len 0 m); is_lent = q } in
       let whole = length (flat_map text_of parts) in
       let low : n ≤ whole = omega (arith, within, ap length is) in
-      ap (λ ss. seen kept (start 0) ss) segs
-      ∙ ap (λ t. record { text = t; places = map (place_at (start 0) (segments_from 0 parts)) (range_with_len 0 (length kept)) }) (cut ∙ ap (take n) is)
-      ∙ ap (λ m. record { text = take n (flat_map text_of parts); places = map (place_at (start 0) (segments_from 0 parts)) (range_with_len 0 m) }) size
-      ∙ ap (λ ps. record { text = take n (flat_map text_of parts); places = ps })
+      ap (λ ss. seen lent kept (start 0) ss) segs
+      ∙ ap (λ t. given t (length kept) lent) (cut ∙ ap (take n) is)
+      ∙ ap (λ m. given (take n (flat_map text_of parts)) m lent) size
+      ∙ ap (λ q. given (take n (flat_map text_of parts)) n q)
+      (ap (λ k. k == 0) size ∙ sym (ap (λ b. b || n == 0) broken))
+      ∙ ap (λ ps. record { text = take n (flat_map text_of parts); places = ps; is_lent = is_one_run parts || n == 0 })
       (sym (take-map-range_with_len (place_at (start 0) (segments_from 0 parts)) 0 whole n low) ∙ ap (take n) (places_all (start 0) 0 parts))
 
 -- what is built of the parts, where a segment for the first stands by itself
@@ -291,24 +289,29 @@ module _ (lines : List ℕ) (p : Part) (parts : List Part) (text kept : List ℕ
     );
   }
 
-  pub begun_seen : seen kept (segment_of 0 p) segments ≡ front n (joined (p ∷ parts))
-  begun_seen =
-      ap (λ ps. record { text = kept; places = ps }) (range_same (place_at (segment_of 0 p) segments)
+  pub begun_seen : is_one_run (p ∷ parts) ≡ false
+      → seen (length kept == 0) kept (segment_of 0 p) segments ≡ front n (joined (p ∷ parts))
+  begun_seen broken =
+      ap (λ ps. record { text = kept; places = ps; is_lent = length kept == 0 }) (range_same (place_at (segment_of 0 p) segments)
       (place_at (start 0) (segments_from 0 (p ∷ parts))) 0 (length kept) (λ i low high. same_place i))
-      ∙ built_seen lines (p ∷ parts) text kept (segments_from 0 (p ∷ parts)) n is refl cut within
+      ∙ built_seen lines (p ∷ parts) text kept (segments_from 0 (p ∷ parts)) n is refl cut within broken
 
 -- what is lent, one run of the lines
-pub lent_seen : (run : List ℕ) (place n : ℕ) (parts : List Part) → n ≤ length run → IsRunAt run place parts
-    → seen (take n run) (start place) [] ≡ front n (joined parts)
-lent_seen run place n parts low h =
+pub lent_seen : (run : List ℕ) (from n : ℕ) (parts : List Part) → n ≤ length run → IsRunAt run from parts
+    → seen true (take n run) (start from) [] ≡ front n (joined parts)
+lent_seen run from n parts low h =
     let size = length-take-le n run low in
     let counts : n ≤ length (flat_map text_of parts) = omega (arith, low, ap length h.0) in
-    let alone : (k : ℕ) → map (place_at (start place) []) (range_with_len 0 k) ≡ range_with_len place k =
-    λ k. range_same (place_at (start place) []) (λ i. place + (i - 0)) 0 k (λ i a b.
-    in_bytes 0 i (record { columns = 0; filler = space; place = place; bytes = [] }) (omega arith)
-    ∙ ap (λ m. place + m) (omega arith)) ∙ range_moved place 0 k in
-    ap (λ t. record { text = t; places = map (place_at (start place) []) (range_with_len 0 (length (take n run))) }) (ap (take n) (sym h.0))
-    ∙ ap (λ m. record { text = take n (flat_map text_of parts); places = map (place_at (start place) []) (range_with_len 0 m) }) size
-    ∙ ap (λ ps. record { text = take n (flat_map text_of parts); places = ps })
-    (sym (take-map-range_with_len (place_at (start place) []) 0 (length (flat_map text_of parts)) n counts)
-    ∙ ap (take n) (alone (length (flat_map text_of parts)) ∙ sym (run_places place parts h.1)))
+    let alone : (k : ℕ) → map (place_at (start from) []) (range_with_len 0 k) ≡ range_with_len from k =
+    λ k. range_same (place_at (start from) []) (λ i. from + (i - 0)) 0 k (λ i a b.
+    in_bytes 0 i (record { columns = 0; filler = space; place = from; bytes = [] }) (omega arith)
+    ∙ ap (λ m. from + m) (omega arith)) ∙ range_moved from 0 k in
+    let given : List ℕ → ℕ → Bool → Placed =
+    λ t m q. record { text = t; places = map (place_at (start from) []) (range_with_len 0 m); is_lent = q } in
+    ap (λ t. given t (length (take n run)) true) (ap (take n) (sym h.0))
+    ∙ ap (λ m. given (take n (flat_map text_of parts)) m true) size
+    ∙ ap (λ q. given (take n (flat_map text_of parts)) n (q || n == 0))
+    (sym (is_run_decided from parts h.1))
+    ∙ ap (λ ps. record { text = take n (flat_map text_of parts); places = ps; is_lent = is_one_run parts || n == 0 })
+    (sym (take-map-range_with_len (place_at (start from) []) 0 (length (flat_map text_of parts)) n counts)
+    ∙ ap (take n) (alone (length (flat_map text_of parts)) ∙ sym (run_places from parts h.1)))

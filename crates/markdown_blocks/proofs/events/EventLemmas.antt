@@ -14,7 +14,7 @@ use Rattle.markdown_blocks.proofs.definitions.DefinitionLemmas.{no_text}
 use Rattle.markdown_blocks.proofs.taken.TakenLemmas.{lines_bytes}
 use Rattle.markdown_blocks.specs.containers.Containers.{Between, Rest, behind, settled_last}
 use Rattle.markdown_blocks.specs.declared.blocks.BlockKind.{BlockKind}
-use Rattle.markdown_blocks.specs.declared.containers.BlockExtensions.{BlockExtensions}
+use Rattle.markdown_values.specs.declared.values.extensions.Extensions.{Extensions}
 use Rattle.markdown_blocks.specs.declared.containers.Container.{Container}
 use Rattle.markdown_blocks.specs.declared.step.Step.{Step}
 use Rattle.markdown_blocks.specs.declared.taken.Taken.{Taken}
@@ -46,7 +46,7 @@ gathered_leaves outer kind part content gathered (block ∷ more) (inr plain) (s
     absurd (no_text found.0 (subst (λ t. IsDefinition t found.0) plain.0 found.1))
 gathered_leaves outer kind part content gathered (block ∷ more) (inr plain) (some, inr own) = (some, inr (plain.1, own.1, own.2))
 
-module _ (text : List ℕ) (asked : BlockExtensions) (containers : List Container) (term : Bool) (line start : ℕ) where
+module _ (text : List ℕ) (asked : Extensions) (containers : List Container) (term : Bool) (line start : ℕ) where
   abbrev at : ℕ → Option Pending → Left
   at begun next = record {
     text = text;
@@ -257,7 +257,7 @@ all_begun begun open_now bytes rest (inl all) some within = all
 all_begun begun open_now bytes rest (inr none) some within = absurd (omega (arith, some, within, ap length none))
 
 -- a page has one list of events
-pub one_list_of_events : (asked : BlockExtensions) (page : List ℕ) (events others : List Event) → IsEventsOf asked page events
+pub one_list_of_events : (asked : Extensions) (page : List ℕ) (events others : List Event) → IsEventsOf asked page events
     → IsEventsOf asked page others → events ≡ others
 one_list_of_events asked page events others h h' =
     let pieces = one_page (root asked) h.0 h'.0 (h.2.joined ∙ sym h'.2.joined) h.2.each h'.2.each in

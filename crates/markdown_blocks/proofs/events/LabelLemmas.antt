@@ -19,13 +19,13 @@ use Rattle.markdown_scanners_tree.proofs.ForCallers.{lines_joined}
 use Rattle.markdown_blocks.specs.byte_order_mark.ByteOrderMark.{text_of, text_start}
 use Rattle.markdown_blocks.specs.blank_lines.BlankLines.{is_blank}
 use Rattle.markdown_blocks.specs.blocks.Pages.{Piece, AreBlocks, lines_in, open_behind, root}
-use Rattle.markdown_blocks.specs.containers.Containers.{Between, after_marker, all_extensions, asked_between, begun_at}
+use Rattle.markdown_blocks.specs.containers.Containers.{Between, after_marker, all_containers, asked_between, begun_at}
 use Rattle.markdown_blocks.specs.containers.Containers.{behind, behind_quote, either_begun, extension_of, footnote_by, footnote_of, term_definition_by}
 use Rattle.markdown_blocks.specs.containers.Containers.{term_definition_of}
 use Rattle.markdown_blocks.specs.containers.Containers.{go_on, item_of, marker_place, within, within_quote, within_width, without_terms, Opens}
 use Rattle.markdown_blocks.specs.containers.Footnotes.{behind_footnote, circumflex, closes_label, footnote_label, is_label_byte}
 use Rattle.markdown_blocks.specs.containers.ItemMarkers.{item_outcome, item_outcome_after, item_outcome_by}
-use Rattle.markdown_blocks.specs.declared.containers.BlockExtensions.{BlockExtensions}
+use Rattle.markdown_values.specs.declared.values.extensions.Extensions.{Extensions}
 use Rattle.markdown_blocks.specs.declared.containers.Container.{Container}
 use Rattle.markdown_blocks.specs.declared.containers.Container.TheVariants.{Quote, Item, Footnote, TermDefinition}
 use Rattle.markdown_blocks.specs.events.Events.{Event, starts, leaf, ends, LeafBlock, started, piece_events, AreEvents, open_after, IsEventsOf}
@@ -146,7 +146,7 @@ module _ (t : LineState) where
       let next = after_space columns after in
       one_is Stands (TermDefinition (record { begun = is_blank (unscanned next); width = n + 1 + columns }), next) r (rw marked at is) (refl, marked)
 
-begun_there : (asked : BlockExtensions) (s : LineState) (r : Container × LineState) → begun_at asked s ≡ Some r → Stands (after_space 4 s) r
+begun_there : (asked : Extensions) (s : LineState) (r : Container × LineState) → begun_at asked s ≡ Some r → Stands (after_space 4 s) r
 begun_there asked s =
     let t = after_space 4 s in
     let n = space_within 4 s in
@@ -240,12 +240,12 @@ module _ (page first more : List ℕ) (start : ℕ) (stands : drop start page �
   marked Footnote place h = test_stands (λ bytes. is_some (footnote_label bytes)) refl (λ bytes. label_more bytes more) place h
   marked (TermDefinition definition) place h = test_stands (begins_with (λ b. b == colon)) refl (λ bytes. colon_more bytes more) place h
 
-  started_have : (asked : BlockExtensions) (cs : List Container) (s last : LineState) → s.bytes ≡ first → Opens asked s cs last
+  started_have : (asked : Extensions) (cs : List Container) (s last : LineState) → s.bytes ≡ first → Opens asked s cs last
       → AreMarked page (started start s cs)
   started_have asked [] s last at o = tt
   started_have asked (c ∷ cs) s last at o =
       let there = begun_there asked s (c, o.0) o.1 in
-      let all : begun_at all_extensions s ≡ Some (c, o.0) = begun_by_all asked s (c, o.0) o.1 in
+      let all : begun_at all_containers s ≡ Some (c, o.0) = begun_by_all asked s (c, o.0) o.1 in
       let next : o.0 ≡ after_marker s = rw (after_marker, all) refl in (
         marked c (marker_place s) (subst (λ bytes. IsMarked c (drop (marker_place s) bytes)) at there.1),
         subst (λ z. AreMarked page (started start z cs)) next (started_have (without_terms asked) cs o.0 last (there.0 ∙ at) o.2),
@@ -276,7 +276,7 @@ pieces_have page (piece ∷ later) before line start events each are stands =
     (pieces_have page later (open_behind before piece) (line + length front) (start + length (concat front)) are.1 each.1 are.4 behind_front))
 
 -- On each page a label stands where a footnote definition begins, and a colon where the definition of a term does.
-pub extensions_are_marked : (asked : BlockExtensions) (page : List ℕ) (events : List Event) → IsEventsOf asked page events → AreMarked page events
+pub extensions_are_marked : (asked : Extensions) (page : List ℕ) (events : List Event) → IsEventsOf asked page events → AreMarked page events
 extensions_are_marked asked page events h =
     let whole : text_of page ≡ concat (lines_in h.0) = sym (lines_joined (text_of page)) ∙ ap concat (sym h.2.joined) in
     subst (AreMarked page) (sym h.4) (both_have page h.1 (replicate (open_after 0 h.0) ends)

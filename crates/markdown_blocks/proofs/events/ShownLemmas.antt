@@ -8,7 +8,7 @@ use Rattle.markdown_scanners_tree.specs.declared.scanners.reference_definitions.
 use Rattle.markdown_blocks.specs.byte_order_mark.ByteOrderMark.{text_start}
 use Rattle.markdown_blocks.specs.blocks.Pages.{Piece, root}
 use Rattle.markdown_blocks.specs.containers.Containers.{Between}
-use Rattle.markdown_blocks.specs.declared.containers.BlockExtensions.{BlockExtensions}
+use Rattle.markdown_values.specs.declared.values.extensions.Extensions.{Extensions}
 use Rattle.markdown_blocks.specs.declared.containers.Container.{Container}
 use Rattle.markdown_blocks.specs.declared.step.Step.{Step}
 use Rattle.markdown_blocks.specs.definitions.Definitions.{IsDefinition, most_nested}
@@ -44,7 +44,7 @@ ends_in : (count : ℕ) → events_in (replicate count end_shown) ≡ replicate 
 ends_in zero = refl
 ends_in (suc count) = ap (λ es. ends ∷ es) (ends_in count)
 
-pub page_shown : (asked : BlockExtensions) (page : List ℕ) (shown : List Shown) → IsShownOf asked page shown → IsEventsOf asked page (events_in shown)
+pub page_shown : (asked : Extensions) (page : List ℕ) (shown : List Shown) → IsShownOf asked page shown → IsEventsOf asked page (events_in shown)
 page_shown asked page shown (pieces, blocks, is, are, all) = (
   pieces,
   events_in blocks,
@@ -125,7 +125,7 @@ one_shown outer line start (piece ∷ later) shown others (leaves, here, more, a
     all ∙ ap (λ ss. ss ++ more) front ∙ ap (λ ss. here' ++ ss) back ∙ sym all'
 
 -- a page has one list of them
-pub one_list_of_shown : (asked : BlockExtensions) (page : List ℕ) (shown others : List Shown) → IsShownOf asked page shown
+pub one_list_of_shown : (asked : Extensions) (page : List ℕ) (shown others : List Shown) → IsShownOf asked page shown
     → IsShownOf asked page others → shown ≡ others
 one_list_of_shown asked page shown others (pieces, blocks, is, are, all) (pieces', blocks', is', are', all') =
     let same = one_page (root asked) pieces pieces' (is.joined ∙ sym is'.joined) is.each is'.each in

@@ -5,7 +5,7 @@ use Rattle.std.specs.List.{filter_map}
 use Rattle.std.specs.Option.{option_map, option_to_list}
 use Rattle.markdown_blocks.proofs.events.EventLemmas.{one_list_of_events}
 use Rattle.markdown_blocks.proofs.lists.PageLemmas.{events_of_nodes}
-use Rattle.markdown_blocks.specs.declared.containers.BlockExtensions.{BlockExtensions}
+use Rattle.markdown_values.specs.declared.values.extensions.Extensions.{Extensions}
 use Rattle.markdown_blocks.specs.declared.containers.Container.{Container}
 use Rattle.markdown_blocks.specs.events.Events.{Event, ends, LeafBlock, IsEventsOf}
 use Rattle.markdown_blocks.specs.events.Given.{Left, Gives}
@@ -85,7 +85,7 @@ page_firsts nodes = ap (firsts_behind None) (sym (append-nil (flatten nodes))) �
 
 -- What a page shows at its first blocks, and what is found of it where these events are left and this container waits for its
 -- first block.
-module _ {A : Type 0} (find : First → Option A) (asked : BlockExtensions) where
+module _ {A : Type 0} (find : First → Option A) (asked : Extensions) where
   abbrev pub IsShown : List ℕ → List A → Type 0
   IsShown page all = (nodes : Nodes) × IsEventsOf asked page (flatten nodes) × (all ≡ filter_map find (firsts_of nodes))
 

@@ -15,7 +15,7 @@ use Rattle.markdown_blocks.specs.containers.Containers.{Rest, asked_first, behin
 use Rattle.markdown_blocks.specs.containers.ItemMarkers.{further_spaces}
 use Rattle.markdown_blocks.specs.declared.blocks.BlockKind.{BlockKind}
 use Rattle.markdown_blocks.specs.declared.blocks.BlockKind.TheVariants.{Blank, Paragraph}
-use Rattle.markdown_blocks.specs.declared.containers.BlockExtensions.{BlockExtensions}
+use Rattle.markdown_values.specs.declared.values.extensions.Extensions.{Extensions}
 use Rattle.markdown_blocks.specs.declared.containers.Container.{Container}
 use Rattle.markdown_blocks.specs.blocks.Leaves.{IsBlank, OutOr, OnFirst, IsLeaf}
 use Rattle.markdown_blocks.specs.blocks.Pages.{Piece, lines_in, root, containers_of, open_behind, AreOpened, AreBlocks, IsTerm}
@@ -84,7 +84,7 @@ module _ (lead : Lead) (is : IsLead lead) (one : lead.gap ≡ 1) (line changed :
   none_further : further_spaces after ≡ 0
   none_further = let here : is_blank (unscanned after) ≡ true = ap is_blank at_after.text ∙ empty.blank in rw here refl
 
-  pub blank_begins : (asked : BlockExtensions) → Begins asked (begun_by lead) line changed
+  pub blank_begins : (asked : Extensions) → Begins asked (begun_by lead) line changed
   blank_begins asked =
       let width : lead.indent + length lead.marker + 1 + 0 ≡ width_of lead = omega (arith, one) in
       let blank : is_blank (unscanned next) ≡ true = ap is_blank at_next.text ∙ empty.blank in (
@@ -94,7 +94,7 @@ module _ (lead : Lead) (is : IsLead lead) (one : lead.gap ≡ 1) (line changed :
         alike_at line next (passed + 0 + 0) at_next (inl empty.no_tab),
       )
 
-module _ (asked : BlockExtensions) (lead : Lead) where
+module _ (asked : Extensions) (lead : Lead) where
   abbrev IsNext : Piece → Piece → Type 0
   IsNext p q = IsHeldIn (IsIndentedLine (width_of lead)) (IsIndentedLine (width_of lead)) (IsLessIndented asked (width_of lead))
       (item_by lead ∷ p.kept) p.begun p q
@@ -169,7 +169,7 @@ no_lines R [] (line ∷ others) none z = absurd z
 no_lines R (line ∷ lines) others none z = cc
 
 -- the blocks in the item
-pub blank_item_blocks : (asked : BlockExtensions) (lead : Lead) → IsLead lead → (pieces others : List Piece) → AreInBlankItem asked lead pieces others
+pub blank_item_blocks : (asked : Extensions) (lead : Lead) → IsLead lead → (pieces others : List Piece) → AreInBlankItem asked lead pieces others
     → AreBlocks (root asked) pieces []
     → AreBlocks (root asked) others []
 blank_item_blocks asked lead is [] others z h = absurd z

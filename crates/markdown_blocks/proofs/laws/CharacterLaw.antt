@@ -16,7 +16,7 @@ use Rattle.markdown_blocks.specs.containers.Containers.{Between, Opens, Rest, af
 use Rattle.markdown_blocks.specs.containers.Containers.{rest_at, without_terms}
 use Rattle.markdown_blocks.specs.declared.blocks.BlockKind.{BlockKind}
 use Rattle.markdown_blocks.specs.declared.blocks.BlockKind.TheVariants.{Definition}
-use Rattle.markdown_blocks.specs.declared.containers.BlockExtensions.{BlockExtensions}
+use Rattle.markdown_values.specs.declared.values.extensions.Extensions.{Extensions}
 use Rattle.markdown_blocks.specs.declared.containers.Container.{Container}
 use Rattle.markdown_blocks.specs.events.Events.{AreEvents, AreLeaves, Event, IsEventsOf, LeafBlock, Part, ends, first_of, first_rest}
 use Rattle.markdown_blocks.specs.events.Events.{later_lines, leaf, leaf_of, lines_taken, open_after, part_of, piece_content, started}
@@ -156,7 +156,7 @@ module _ (page : List ℕ) where
         subst (λ (m : List LeafBlock). AreCutOut page (map leaf m ++ rest)) (sym last) cut,
       )
 
-  started_cut : (line : ℕ) (first : List ℕ) (later : List (List ℕ)) → Stand line (first ∷ later) [] → (asked : BlockExtensions)
+  started_cut : (line : ℕ) (first : List ℕ) (later : List (List ℕ)) → Stand line (first ∷ later) [] → (asked : Extensions)
       (containers : List Container) (s last : LineState) (rest : List Event) → Reached first s → Opens asked s containers last
       → (Reached first last → AreCutOut page rest) → AreCutOut page (started line s containers ++ rest)
   started_cut line first later stand asked [] s last rest r opens cut = cut (subst (Reached first) (sym opens.1) r)
@@ -205,7 +205,7 @@ module _ (page : List ℕ) where
   all_ended (suc count) = all_ended count
 
 -- A page that is UTF-8 may be cut where its blocks begin and end, and these are UTF-8.
-pub page_cut_out : (asked : BlockExtensions) (page : List ℕ) (events : List Event) → IsEventsOf asked page events → IsUtf8 page
+pub page_cut_out : (asked : Extensions) (page : List ℕ) (events : List Event) → IsEventsOf asked page events → IsUtf8 page
     → AreCutOut page events
 page_cut_out asked page events (pieces, blocks, is_page, are, is) utf8 =
     subst (AreCutOut page) (sym is)

@@ -25,7 +25,7 @@ use Rattle.markdown_blocks.specs.content.Parts.{text_place}
 use Rattle.markdown_blocks.specs.declared.blocks.BlockKind.{BlockKind}
 use Rattle.markdown_blocks.specs.declared.blocks.BlockKind.TheVariants.{Blank, Break, Heading, Setext, Indented}
 use Rattle.markdown_blocks.specs.declared.blocks.BlockKind.TheVariants.{Fenced, Html, Table, Definition, Paragraph}
-use Rattle.markdown_blocks.specs.declared.containers.BlockExtensions.{BlockExtensions}
+use Rattle.markdown_values.specs.declared.values.extensions.Extensions.{Extensions}
 use Rattle.markdown_blocks.specs.declared.containers.Container.{Container}
 use Rattle.markdown_blocks.specs.definitions.Content.{content_in}
 use Rattle.markdown_blocks.specs.definitions.Definitions.{IsDefinition}
@@ -261,7 +261,7 @@ module _ (page : List ℕ) where
       (subst (λ n. EventsHold (take (length fewer - count) fewer) n passed rest) less
       (subst (λ cs. EventsHold cs (length tree - suc count) passed rest) again hold))
 
-  started_hold : (kept line : ℕ) (first : List ℕ) (last : LineState) (rest : List Event) (asked : BlockExtensions) (containers : List Container)
+  started_hold : (kept line : ℕ) (first : List ℕ) (last : LineState) (rest : List Event) (asked : Extensions) (containers : List Container)
       (s : LineState) (tree : List Container) (passed : ℕ) → Reached first s → line ≤ passed → passed ≤ line + s.place
       → (0 < s.pending → passed < line + s.place) → Opens asked s containers last
       → ((from : ℕ) → line ≤ from → from ≤ line + last.place → (0 < last.pending → from < line + last.place) → Reached first last
@@ -282,7 +282,7 @@ module _ (page : List ℕ) where
       (λ from a b p reached. subst (λ cs. EventsHold cs kept from rest) (sym (append_assoc tree (settled c ∷ []) (map settled inner)))
       (hold from a b p reached)))
 
-opens_marked : (asked : BlockExtensions) (s last : LineState) (containers : List Container) → Opens asked s containers last
+opens_marked : (asked : Extensions) (s last : LineState) (containers : List Container) → Opens asked s containers last
     → after_markers (length containers) s ≡ last
 opens_marked asked s last [] opens = sym opens.1
 opens_marked asked s last (c ∷ inner) (next, begins, opens) =
@@ -446,7 +446,7 @@ nodes_hold page (container_then container place inner later) outer kept passed r
     ((held.0, more.0), more.1)
 
 -- The contents of the leaf blocks of a page stand there in order.
-pub page_contents_stand : (asked : BlockExtensions) (page : List ℕ) (nodes : Nodes) → IsEventsOf asked page (flatten nodes)
+pub page_contents_stand : (asked : Extensions) (page : List ℕ) (nodes : Nodes) → IsEventsOf asked page (flatten nodes)
     → ContentsStand page [] 0 (text_start page) nodes
 page_contents_stand asked page nodes (pieces, blocks, is_page, are, is) =
     let count = open_after 0 pieces in

@@ -7,7 +7,7 @@ use Rattle.markdown_blocks.specs.byte_order_mark.ByteOrderMark.{text_start}
 use Rattle.markdown_blocks.specs.blocks.Pages.{Piece}
 use Rattle.markdown_blocks.specs.containers.Containers.{after_marker, behind}
 use Rattle.markdown_blocks.specs.declared.blocks.BlockKind.{BlockKind}
-use Rattle.markdown_blocks.specs.declared.containers.BlockExtensions.{BlockExtensions}
+use Rattle.markdown_values.specs.declared.values.extensions.Extensions.{Extensions}
 use Rattle.markdown_blocks.specs.declared.containers.Container.{Container}
 use Rattle.markdown_blocks.specs.events.Events.{AreEvents, AreLeaves, Event, IsEventsOf, LeafBlock, Part, ends, leaf, open_after, part_of}
 use Rattle.markdown_blocks.specs.events.Events.{piece_content, started, starts}
@@ -69,7 +69,7 @@ nodes_filled (container_then container place inner later) fresh rest filled =
     some (container_then c at within after) inside = λ none. cc
 
 -- Each container of a page holds something.
-pub containers_hold_some : (asked : BlockExtensions) (page : List ℕ) (nodes : Nodes) → IsEventsOf asked page (flatten nodes) → HoldSome nodes
+pub containers_hold_some : (asked : Extensions) (page : List ℕ) (nodes : Nodes) → IsEventsOf asked page (flatten nodes) → HoldSome nodes
 containers_hold_some asked page nodes (pieces, blocks, is_page, are, is) =
     let count = open_after 0 pieces in
     let none : AreFilled false (replicate count ends) = subst (AreFilled false) (append-nil (replicate count ends)) (ends_filled count [] tt) in

@@ -10,7 +10,7 @@ use Rattle.markdown_blocks.specs.blocks.Pages.{AreBlocks, IsPiece, Piece, is_bla
 use Rattle.markdown_blocks.specs.containers.Containers.{Between, Rest, after_marker, behind}
 use Rattle.markdown_blocks.specs.declared.blocks.BlockKind.{BlockKind}
 use Rattle.markdown_blocks.specs.declared.blocks.BlockKind.TheVariants.{Paragraph}
-use Rattle.markdown_blocks.specs.declared.containers.BlockExtensions.{BlockExtensions}
+use Rattle.markdown_values.specs.declared.values.extensions.Extensions.{Extensions}
 use Rattle.markdown_blocks.specs.declared.containers.Container.{Container}
 use Rattle.markdown_blocks.specs.events.Events.{AreEvents, AreLeaves, Event, IsEventsOf, LeafBlock, Part, ends, leaf, leaf_of, open_after, part_of}
 use Rattle.markdown_blocks.specs.events.Events.{piece_content, started}
@@ -96,7 +96,7 @@ pieces_plain (piece ∷ later) before line start events rest each (leaves, more,
     (paragraph_plain before piece _ each.0) next)) waiting))
 
 -- The text of a paragraph that is the first block of a container of a page begins with neither a space nor a tab.
-pub page_firsts_begin_plain : (asked : BlockExtensions) (page : List ℕ) (events : List Event) → IsEventsOf asked page events
+pub page_firsts_begin_plain : (asked : Extensions) (page : List ℕ) (events : List Event) → IsEventsOf asked page events
     → FirstsBeginPlain None events
 page_firsts_begin_plain asked page events (pieces, blocks, is_page, are, is) =
     subst (FirstsBeginPlain None) (sym is)

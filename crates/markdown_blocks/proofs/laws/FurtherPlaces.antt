@@ -10,7 +10,7 @@ use Rattle.markdown_scanners_tree.specs.line.State.{LineState, after_space, byte
 use Rattle.markdown_scanners_tree.specs.scanners.list_items.ListMarker.{Marker}
 use Rattle.markdown_scanners_tree.specs.scanners.list_items.ListMarker.{list_marker}
 use Rattle.markdown_scanners_tree.proofs.line.ColumnLemmas.{bool_cases}
-use Rattle.markdown_blocks.specs.containers.Containers.{all_extensions, begun_at, either_begun, extension_of}
+use Rattle.markdown_blocks.specs.containers.Containers.{all_containers, begun_at, either_begun, extension_of}
 use Rattle.markdown_blocks.specs.containers.Containers.{footnote_by, footnote_of, item_of, term_definition_by, term_definition_of}
 use Rattle.markdown_blocks.specs.containers.Footnotes.{footnote_label}
 use Rattle.markdown_blocks.specs.containers.ItemMarkers.{further_spaces, item_outcome, item_outcome_by}
@@ -80,18 +80,18 @@ module _ (t : LineState) (spent : t.pending ≡ 0) (next : LineState) (c : Conta
       subst After (ap (place_in t) (rw marked at is))
       (further_space (suc t.place) after (marker_further 1 t spent (omega arith)) (definition_spaces (leading_spaces (rest_of after))))
 
-  extension_further : (indent : ℕ) (footnote : Option (Container × LineState)) → footnote_of all_extensions t ≡ footnote
-      → either_begun footnote (term_definition_of all_extensions indent t) ≡ Some (c, next) → After next
+  extension_further : (indent : ℕ) (footnote : Option (Container × LineState)) → footnote_of all_containers t ≡ footnote
+      → either_begun footnote (term_definition_of all_containers indent t) ≡ Some (c, next) → After next
   extension_further indent (Some found) footnote is = footnote_further (footnote_label (unscanned t)) (footnote ∙ is)
   extension_further indent None footnote is = definition_further indent is
 
   other_further : (indent : ℕ) (item : Option (Container × LineState)) → item_of (item_outcome indent t) ≡ item
-      → either_begun item (extension_of all_extensions indent t) ≡ Some (c, next) → After next
+      → either_begun item (extension_of all_containers indent t) ≡ Some (c, next) → After next
   other_further indent (Some found) item is = item_further indent (list_marker (unscanned t)) refl (item ∙ is)
-  other_further indent None item is = extension_further indent (footnote_of all_extensions t) refl is
+  other_further indent None item is = extension_further indent (footnote_of all_containers t) refl is
 
 -- what stands after a container's marker stands after its first byte
-pub begun_further : (s next : LineState) (c : Container) → begun_at all_extensions s ≡ Some (c, next)
+pub begun_further : (s next : LineState) (c : Container) → begun_at all_containers s ≡ Some (c, next)
     → IsFurther (suc (after_space 4 s).place) next
 begun_further s next c is =
     let t = after_space 4 s in

@@ -11,7 +11,7 @@ use Rattle.markdown_blocks.specs.containers.Containers.{Behind, Between, Outer, 
 use Rattle.markdown_blocks.specs.containers.Containers.{behind, IsInside, Opens, settled, settled_last, without_terms}
 use Rattle.markdown_blocks.specs.declared.blocks.BlockKind.{BlockKind}
 use Rattle.markdown_blocks.specs.declared.blocks.BlockKind.TheVariants.{Paragraph}
-use Rattle.markdown_blocks.specs.declared.containers.BlockExtensions.{BlockExtensions}
+use Rattle.markdown_values.specs.declared.values.extensions.Extensions.{Extensions}
 use Rattle.markdown_blocks.specs.declared.containers.Container.{Container}
 use Rattle.markdown_blocks.specs.blocks.Leaves.{BeginsTable, IsLazy, IsLeaf}
 use Rattle.markdown_blocks.specs.blocks.Pages.{Piece, lines_in, root, containers_of, is_blank_kind, is_blank_between, open_behind, outer_of}
@@ -52,7 +52,7 @@ suc_eq a b = by (a == b) refl
     by false is = grind (arith, nat_tests)
 
 -- the first line of the container, where the line stands after its marker
-abbrev pub Begins : BlockExtensions → Container → List ℕ → List ℕ → Type 0
+abbrev pub Begins : Extensions → Container → List ℕ → List ℕ → Type 0
 Begins asked c line moved = (next : LineState) × (begun_at asked (start_of moved) ≡ Some (c, next)) × Alike (start_of line) next
 
 -- another line, which stands in the container as the line does without
@@ -61,19 +61,19 @@ GoesOn c line moved = (outer : List Container) → ((behind (c ∷ outer) moved)
     × Alike (behind outer line).state (behind (c ∷ outer) moved).state
 
 -- a line of a paragraph, which stands outside as a lazy one
-abbrev pub StaysOut : BlockExtensions → Container → List ℕ → Type 0
+abbrev pub StaysOut : Extensions → Container → List ℕ → Type 0
 StaysOut asked c moved = (outer : List Container) → (behind (c ∷ outer) moved ≡ record { kept = 0; state = start_of moved })
     × IsLazy (asked_first asked false (c ∷ outer)) (start_of moved)
 
 -- with these extensions on these containers are open
-abbrev pub opened : BlockExtensions → List Container → Outer
+abbrev pub opened : Extensions → List Container → Outer
 opened asked cs = record { extensions = asked; containers = cs }
 
 -- the same between two blocks, where a term stands or not
-abbrev pub between : BlockExtensions → List Container → Bool → Between
+abbrev pub between : Extensions → List Container → Bool → Between
 between asked cs term = record { extensions = asked; containers = cs; term = term }
 
-stays_outside : (asked : BlockExtensions) (c : Container) (moved : List ℕ) → StaysOut asked c moved → (outer : List Container)
+stays_outside : (asked : Extensions) (c : Container) (moved : List ℕ) → StaysOut asked c moved → (outer : List Container)
     → (¬ IsInside (c ∷ outer) moved) × IsLazy (asked_in (opened asked (c ∷ outer)) moved) (behind (c ∷ outer) moved).state
 stays_outside asked c moved out outer =
     let there = (out outer).0 in
@@ -82,7 +82,7 @@ stays_outside asked c moved out outer =
       subst (λ (b : Behind). IsLazy (asked_first asked false (drop b.kept (c ∷ outer))) b.state) (sym there) (out outer).1,
     )
 
-moves : (asked : BlockExtensions) (c : Container) (line moved : List ℕ) → GoesOn c line moved → (outer : List Container)
+moves : (asked : Extensions) (c : Container) (line moved : List ℕ) → GoesOn c line moved → (outer : List Container)
     → Moves (opened asked outer) (opened asked (c ∷ outer)) line moved
 moves asked c line moved on outer =
     let kept = (on outer).0 in
@@ -99,7 +99,7 @@ settled_cons c [] steady = ap (λ d. d ∷ []) steady
 settled_cons c (d ∷ cs) steady = refl
 
 -- the first line begins the container
-pub first_opened : (asked : BlockExtensions) (c : Container) (First Later Lazy : Change) (p q : Piece) → Begins (without_terms asked) c p.first q.first
+pub first_opened : (asked : Extensions) (c : Container) (First Later Lazy : Change) (p q : Piece) → Begins (without_terms asked) c p.first q.first
     → IsHeldIn First Later Lazy [] (c ∷ p.begun) p q → AreOpened (root asked) p.first p.kept p.begun p.words
     → AreOpened (root asked) q.first q.kept q.begun q.words
 first_opened asked c First Later Lazy p q here i h =
@@ -111,7 +111,7 @@ first_opened asked c First Later Lazy p q here i h =
       is_rest = i.words ∙ h.is_rest ∙ same_rest h.place opens.0 opens.2;
     }
 
-module _ (asked : BlockExtensions) (c : Container) (First Later Lazy : Change) (steady : settled c ≡ c)
+module _ (asked : Extensions) (c : Container) (First Later Lazy : Change) (steady : settled c ≡ c)
     (begins : (line moved : List ℕ) → First line moved → Begins (without_terms asked) c line moved)
     (on : (line moved : List ℕ) → Later line moved → GoesOn c line moved) (out : (line moved : List ℕ) → Lazy line moved → StaysOut asked c moved) where
   -- a block after the first in the container, and a line after the first of a block

@@ -9,7 +9,7 @@ use Rattle.markdown_scanners_tree.specs.scanners.list_items.ListItem.{IsListMark
 use Rattle.markdown_scanners_tree.proofs.PrefixLemmas.{list_all-implies}
 use Rattle.markdown_blocks.specs.blank_lines.BlankLines.{is_blank}
 use Rattle.markdown_blocks.specs.containers.Containers.{without_terms}
-use Rattle.markdown_blocks.specs.declared.containers.BlockExtensions.{BlockExtensions}
+use Rattle.markdown_values.specs.declared.values.extensions.Extensions.{Extensions}
 use Rattle.markdown_blocks.specs.blocks.Pages.{Piece, lines_in, root, AreBlocks, IsPage}
 use Rattle.markdown_blocks.specs.laws.Items.{Lead, IsLead, width_of, item_by, IsItemLine, IsIndentedLine, IsLessIndented}
 use Rattle.markdown_blocks.specs.laws.Items.{AreInItem, IsMarkerAlone, AreInBlankItem}
@@ -20,7 +20,7 @@ use Rattle.markdown_blocks.proofs.laws.ItemPlaces.{item_begins, item_goes_on, it
 use Rattle.markdown_blocks.proofs.laws.MarkedLines.{IsMarked, ends_none, marked_lines, none_spaces, none_of_spaces, none_joined}
 use Rattle.markdown_blocks.proofs.laws.Places.{spaces, not_true}
 
-held_in_item : (asked : BlockExtensions) (lead : Lead) → IsLead lead → (pieces others : List Piece) → AreInItem asked lead pieces others
+held_in_item : (asked : Extensions) (lead : Lead) → IsLead lead → (pieces others : List Piece) → AreInItem asked lead pieces others
     → AreBlocks (root asked) pieces [] → AreBlocks (root asked) others []
 held_in_item asked lead is = held_blocks asked (item_by lead) (IsItemLine lead) (IsIndentedLine (width_of lead)) (IsLessIndented asked (width_of lead)) refl
     (λ line changed i. item_begins lead is line changed i (without_terms asked)) (item_goes_on lead) (item_stays_out lead asked)
@@ -94,10 +94,10 @@ less_by (b ∷ rest) line bare n m parts bare_parts text =
     }
     )
 
-less_marked : (asked : BlockExtensions) (width : ℕ) (line bare : List ℕ) → IsLessIndented asked width line bare → IsMarked line bare
+less_marked : (asked : Extensions) (width : ℕ) (line bare : List ℕ) → IsLessIndented asked width line bare → IsMarked line bare
 less_marked asked width line bare q = less_by q.rest line bare q.spaces q.left q.parts q.bare_parts (not_true (is_blank q.rest) q.some)
 
-item_lines : (asked : BlockExtensions) (lead : Lead) (text : List ℕ) (pieces others : List Piece) → IsLead lead → lines_in pieces ≡ lines_of text
+item_lines : (asked : Extensions) (lead : Lead) (text : List ℕ) (pieces others : List Piece) → IsLead lead → lines_in pieces ≡ lines_of text
     → AreInItem asked lead pieces others
     → lines_of (concat (lines_in others)) ≡ lines_in others
 item_lines asked lead text pieces others is joined z =
@@ -107,20 +107,20 @@ item_lines asked lead text pieces others is joined z =
 
 -- Rules 1, 2, 4 and 5: where a text has these blocks, its lines after a marker and as far indented, or a paragraph's lazily less, make a
 -- text that is a list item of these blocks, and nothing else.
-pub list_item : (asked : BlockExtensions) (lead : Lead) (text : List ℕ) (pieces others : List Piece) → IsLead lead → IsPage asked text pieces
+pub list_item : (asked : Extensions) (lead : Lead) (text : List ℕ) (pieces others : List Piece) → IsLead lead → IsPage asked text pieces
     → AreInItem asked lead pieces others
     → IsPage asked (concat (lines_in others)) others
 list_item asked lead text pieces others is page z =
     record { joined = sym (item_lines asked lead text pieces others is page.joined z); each = held_in_item asked lead is pieces others z page.each }
 
-pub one_list_item : (asked : BlockExtensions) (lead : Lead) (text : List ℕ) (pieces others found : List Piece) → IsLead lead → IsPage asked text pieces
+pub one_list_item : (asked : Extensions) (lead : Lead) (text : List ℕ) (pieces others found : List Piece) → IsLead lead → IsPage asked text pieces
     → AreInItem asked lead pieces others → IsPage asked (concat (lines_in others)) found → found ≡ others
 one_list_item asked lead text pieces others found is page z at =
     one_page (root asked) found others (at.joined ∙ item_lines asked lead text pieces others is page.joined z) at.each
     (held_in_item asked lead is pieces others z page.each)
 
 -- Rule 3: the same where these blocks begin with a single blank line, before which the marker stands.
-blank_lines_in : (asked : BlockExtensions) (lead : Lead) (pieces others : List Piece) → IsLead lead → AreInBlankItem asked lead pieces others
+blank_lines_in : (asked : Extensions) (lead : Lead) (pieces others : List Piece) → IsLead lead → AreInBlankItem asked lead pieces others
     → AllZip IsMarked (lines_in pieces) (lines_in others)
 blank_lines_in asked lead [] others is z = absurd z
 blank_lines_in asked lead (p ∷ pieces) [] is z = absurd z
@@ -133,17 +133,17 @@ blank_lines_in asked lead (p ∷ pieces) (q ∷ others) is z =
     ) (next_lines (item_by lead) (IsItemLine lead) (IsIndentedLine w) (IsLessIndented asked w) IsMarked (first_marked lead is) (later_marked w)
     (less_marked asked w) pieces others z.3)
 
-blank_item_lines : (asked : BlockExtensions) (lead : Lead) (text : List ℕ) (pieces others : List Piece) → IsLead lead → lines_in pieces ≡ lines_of text
+blank_item_lines : (asked : Extensions) (lead : Lead) (text : List ℕ) (pieces others : List Piece) → IsLead lead → lines_in pieces ≡ lines_of text
     → AreInBlankItem asked lead pieces others → lines_of (concat (lines_in others)) ≡ lines_in others
 blank_item_lines asked lead text pieces others is joined z =
     marked_lines text (lines_in others) (subst (λ ls. AllZip IsMarked ls (lines_in others)) joined (blank_lines_in asked lead pieces others is z))
 
-pub blank_list_item : (asked : BlockExtensions) (lead : Lead) (text : List ℕ) (pieces others : List Piece) → IsLead lead → IsPage asked text pieces
+pub blank_list_item : (asked : Extensions) (lead : Lead) (text : List ℕ) (pieces others : List Piece) → IsLead lead → IsPage asked text pieces
     → AreInBlankItem asked lead pieces others → IsPage asked (concat (lines_in others)) others
 blank_list_item asked lead text pieces others is page z =
     record { joined = sym (blank_item_lines asked lead text pieces others is page.joined z); each = blank_item_blocks asked lead is pieces others z page.each }
 
-pub one_blank_list_item : (asked : BlockExtensions) (lead : Lead) (text : List ℕ) (pieces others found : List Piece) → IsLead lead → IsPage asked text pieces
+pub one_blank_list_item : (asked : Extensions) (lead : Lead) (text : List ℕ) (pieces others found : List Piece) → IsLead lead → IsPage asked text pieces
     → AreInBlankItem asked lead pieces others → IsPage asked (concat (lines_in others)) found → found ≡ others
 one_blank_list_item asked lead text pieces others found is page z at =
     one_page (root asked) found others (at.joined ∙ blank_item_lines asked lead text pieces others is page.joined z) at.each

@@ -14,7 +14,7 @@ use Rattle.markdown_scanners_tree.proofs.line.SpaceLemmas.{none_at_front}
 use Rattle.markdown_blocks.specs.blank_lines.BlankLines.{is_blank}
 use Rattle.markdown_blocks.specs.containers.Containers.{within, behind, rest_at}
 use Rattle.markdown_blocks.specs.containers.ItemMarkers.{further_spaces}
-use Rattle.markdown_blocks.specs.declared.containers.BlockExtensions.{BlockExtensions}
+use Rattle.markdown_values.specs.declared.values.extensions.Extensions.{Extensions}
 use Rattle.markdown_blocks.specs.declared.containers.Container.{Container}
 use Rattle.markdown_blocks.specs.blocks.Leaves.{HasIndent}
 use Rattle.markdown_blocks.specs.laws.Held.{KeepsTabs}
@@ -100,7 +100,7 @@ module _ (lead : Lead) (is : IsLead lead) (line changed : List ℕ) (i : IsItemL
       let bytes : is_blank (unscanned after) ≡ false = ap is_blank at_further.text ∙ blank_spaces g line ∙ has_text in
       rw bytes spaces_are
 
-  pub item_begins : (asked : BlockExtensions) → Begins asked (item_by lead) line changed
+  pub item_begins : (asked : Extensions) → Begins asked (item_by lead) line changed
   item_begins asked =
       let width : lead.indent + length lead.marker + 1 + g ≡ width_of lead = omega (arith, is.some) in
       let text : is_blank (unscanned next) ≡ false = ap is_blank at_text.text ∙ has_text in (
@@ -145,7 +145,7 @@ module _ (lead : Lead) where
   item_goes_on line changed (inl h) = indented_on line changed (not_true (is_blank line) h.0) h.1 h.2
   item_goes_on line changed (inr h) = subst (λ bs. GoesOn (item_by lead) line bs) (sym h.1) (blank_on line h.0)
 
-  pub item_stays_out : (asked : BlockExtensions) (line bare : List ℕ) → IsLessIndented asked (width_of lead) line bare
+  pub item_stays_out : (asked : Extensions) (line bare : List ℕ) → IsLessIndented asked (width_of lead) line bare
       → StaysOut asked (item_by lead) bare
   item_stays_out asked line bare q outer =
       let width = width_of lead in

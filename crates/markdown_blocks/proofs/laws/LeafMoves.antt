@@ -11,7 +11,7 @@ use Rattle.markdown_blocks.specs.containers.Containers.{Outer, Rest, rest_in, as
 use Rattle.markdown_blocks.specs.declared.blocks.BlockKind.{BlockKind}
 use Rattle.markdown_blocks.specs.declared.blocks.BlockKind.TheVariants.{Blank, Break, Heading, Setext, Indented}
 use Rattle.markdown_blocks.specs.declared.blocks.BlockKind.TheVariants.{Fenced, Html, Table, Definition, Paragraph}
-use Rattle.markdown_blocks.specs.declared.containers.BlockExtensions.{BlockExtensions}
+use Rattle.markdown_values.specs.declared.values.extensions.Extensions.{Extensions}
 use Rattle.markdown_blocks.specs.declared.containers.Container.{Container}
 use Rattle.markdown_blocks.specs.blocks.Pages.{IsTerm}
 use Rattle.markdown_blocks.specs.delimiter_rows.DelimiterRows.{IsDelimiter}
@@ -42,7 +42,7 @@ module _ (outer other : Outer) (line moved : List ℕ) (m : Moves outer other li
   rest_moves : rest_in outer.containers line ≡ rest_in other.containers moved
   rest_moves = same_rest _ _ m.state
 
-  none_moves_on : (asked : BlockExtensions) → begun_at asked (behind outer.containers line).state ≡ None
+  none_moves_on : (asked : Extensions) → begun_at asked (behind outer.containers line).state ≡ None
       → begun_at asked (behind other.containers moved).state ≡ None
   none_moves_on asked = alike_none _ _ (same_begun asked _ _ m.state)
 
@@ -84,7 +84,7 @@ content_leaves outer other line moved m content h =
 head_moves : (outer other : Outer) (line moved : List ℕ) → Moves outer other line moved → (text : List ℕ) (columns : ℕ)
     → IsHead outer text columns line → IsHead other text columns moved
 head_moves outer other line moved m text columns h = (
-  subst (λ x. x.no_tables ≡ false) m.same h.0,
+  subst (λ x. x.tables ≡ true) m.same h.0,
   λ leaves. h.1 (leaves_moves other outer moved line (moves_back outer other line moved m) leaves),
   in_moves outer other line moved m (IsDelimiter columns) h.2,
   h.3,
@@ -424,21 +424,21 @@ module _ (outer other : Outer) where
       )
 
   -- a term
-  term_moves : (kind : BlockKind) (text : List ℕ) (lines others : List (List ℕ)) → AllZip (LaterMoves kind) lines others → (asked : BlockExtensions)
+  term_moves : (kind : BlockKind) (text : List ℕ) (lines others : List (List ℕ)) → AllZip (LaterMoves kind) lines others → (asked : Extensions)
       → IsTerm asked kind (content_in kind outer.containers text lines) → IsTerm asked kind (content_in kind other.containers text others)
   term_moves kind text lines others z asked h =
       let here = ap (λ k. content_in k outer.containers text lines) h.1 in
       let there = ap (λ k. content_in k other.containers text others) h.1 in
       (h.0, h.1, subst HasText (here ∙ content_moves kind text lines others z ∙ sym there) h.2)
 
-  term_back : (kind : BlockKind) (text : List ℕ) (lines others : List (List ℕ)) → AllZip (LaterMoves kind) lines others → (asked : BlockExtensions)
+  term_back : (kind : BlockKind) (text : List ℕ) (lines others : List (List ℕ)) → AllZip (LaterMoves kind) lines others → (asked : Extensions)
       → IsTerm asked kind (content_in kind other.containers text others) → IsTerm asked kind (content_in kind outer.containers text lines)
   term_back kind text lines others z asked h =
       let here = ap (λ k. content_in k outer.containers text lines) h.1 in
       let there = ap (λ k. content_in k other.containers text others) h.1 in
       (h.0, h.1, subst HasText (sym (here ∙ content_moves kind text lines others z ∙ sym there)) h.2)
 
-  pub given_moves : (kind : BlockKind) (text : List ℕ) (lines others : List (List ℕ)) → AllZip (LaterMoves kind) lines others → (asked : BlockExtensions)
+  pub given_moves : (kind : BlockKind) (text : List ℕ) (lines others : List (List ℕ)) → AllZip (LaterMoves kind) lines others → (asked : Extensions)
       (term : Bool) → IsTrue term ↔ IsTerm asked kind (content_in kind outer.containers text lines)
       → IsTrue term ↔ IsTerm asked kind (content_in kind other.containers text others)
   given_moves kind text lines others z asked term given =

@@ -16,7 +16,7 @@ use Rattle.markdown_scanners_tree.proofs.line.ItemLemmas.{marker-is}
 use Rattle.markdown_blocks.specs.blank_lines.BlankLines.{is_blank}
 use Rattle.markdown_blocks.specs.containers.Containers.{begun_at, begun_behind, either_begun, extension_of, item_of}
 use Rattle.markdown_blocks.specs.containers.ItemMarkers.{further_spaces, item_outcome, item_outcome_by}
-use Rattle.markdown_blocks.specs.declared.containers.BlockExtensions.{BlockExtensions}
+use Rattle.markdown_values.specs.declared.values.extensions.Extensions.{Extensions}
 use Rattle.markdown_blocks.specs.declared.containers.Container.TheVariants.{Item}
 use Rattle.markdown_blocks.specs.laws.Items.{Lead, IsLead}
 use Rattle.markdown_blocks.proofs.containers.ContainerLemmas.{near}
@@ -66,7 +66,7 @@ module _ (lead : Lead) (is : IsLead lead) (changed tail : List ℕ) (parts : cha
   at_tail = at_bytes before_marker lead.marker tail (0 + lead.indent) at_marker
 
   -- the item that begins there
-  module _ (asked : BlockExtensions) (next : LineState) (further width : ℕ) (begun : Bool) (no_break : is_thematic_break (lead.marker ++ tail) ≡ false)
+  module _ (asked : Extensions) (next : LineState) (further width : ℕ) (begun : Bool) (no_break : is_thematic_break (lead.marker ++ tail) ≡ false)
       (follows : space_or_end_follows behind_marker ≡ true) (further_are : further_spaces (after_space 1 behind_marker) ≡ further)
       (is_next : after_space further (after_space 1 behind_marker) ≡ next) (width_is : lead.indent + length lead.marker + 1 + further ≡ width)
       (blank : is_blank (unscanned next) ≡ begun) where

@@ -18,7 +18,7 @@ use Rattle.markdown_blocks.specs.containers.Containers.{Between, Opens, Rest, af
 use Rattle.markdown_blocks.specs.containers.Containers.{rest_at, without_terms}
 use Rattle.markdown_blocks.specs.declared.blocks.BlockKind.{BlockKind}
 use Rattle.markdown_blocks.specs.declared.blocks.BlockKind.TheVariants.{Definition}
-use Rattle.markdown_blocks.specs.declared.containers.BlockExtensions.{BlockExtensions}
+use Rattle.markdown_values.specs.declared.values.extensions.Extensions.{Extensions}
 use Rattle.markdown_blocks.specs.declared.containers.Container.{Container}
 use Rattle.markdown_blocks.specs.definitions.Definitions.{IsDefinition}
 use Rattle.markdown_blocks.specs.events.Events.{AreEvents, AreLeaves, Event, IsEventsOf, LeafBlock, Part, block_end, ends}
@@ -138,7 +138,7 @@ module _ (page : List ℕ) where
     ends_follow (suc count) passed rest follow = ends_follow count passed rest follow
 
     module _ (first : List ℕ) (end : line_end page line ≡ line + length first) (last : LineState) (rest : List Event) where
-      started_follow : (asked : BlockExtensions) (containers : List Container) (s : LineState) (passed : ℕ) → Reached first s → passed ≤ line + s.place
+      started_follow : (asked : Extensions) (containers : List Container) (s : LineState) (passed : ℕ) → Reached first s → passed ≤ line + s.place
           → Opens asked s containers last
           → ((from : ℕ) → from ≤ line + last.place → Reached first last → Follow page line from rest)
           → Follow page line passed (started line s containers ++ rest)
@@ -202,7 +202,7 @@ module _ (page : List ℕ) where
   all_passed (suc count) = all_passed count
 
 -- The events of a page stand in it in order.
-pub page_in_order : (asked : BlockExtensions) (page : List ℕ) (events : List Event) → IsEventsOf asked page events → StandInOrder page events
+pub page_in_order : (asked : Extensions) (page : List ℕ) (events : List Event) → IsEventsOf asked page events → StandInOrder page events
 page_in_order asked page events (pieces, blocks, is_page, are, is) =
     subst (StandInOrder page) (sym is)
     (pieces_follow page pieces (root asked) 0 (text_start page) blocks (replicate (open_after 0 pieces) ends) is_page.each are (sym is_page.joined)
@@ -224,7 +224,7 @@ nodes_follow page (container_then container place inner later) line passed rest 
     ((before, held.0, more.0), more.1)
 
 -- What stands in a page stands there in order, from the start of its text to its end.
-pub page_nodes_stand : (asked : BlockExtensions) (page : List ℕ) (nodes : Nodes) → IsEventsOf asked page (flatten nodes)
+pub page_nodes_stand : (asked : Extensions) (page : List ℕ) (nodes : Nodes) → IsEventsOf asked page (flatten nodes)
     → NodesStand (text_start page) nodes × (passed_after (text_start page) nodes ≡ length page)
 page_nodes_stand asked page nodes is =
     let all = page_in_order asked page (flatten nodes) is in

@@ -4,7 +4,7 @@ use Rattle.std.specs.List.{AllZip, concat}
 use Rattle.markdown_scanners_tree.specs.Ascii.{greater_than_sign}
 use Rattle.markdown_scanners_tree.specs.scanners.TextLines.{lines_of}
 use Rattle.markdown_blocks.specs.containers.Containers.{without_terms}
-use Rattle.markdown_blocks.specs.declared.containers.BlockExtensions.{BlockExtensions}
+use Rattle.markdown_values.specs.declared.values.extensions.Extensions.{Extensions}
 use Rattle.markdown_blocks.specs.declared.containers.Container.TheVariants.{Quote}
 use Rattle.markdown_blocks.specs.blocks.Pages.{Piece, lines_in, root, AreBlocks, IsPage}
 use Rattle.markdown_blocks.specs.laws.Quotes.{IsQuoted, IsBare, AreInQuote}
@@ -14,7 +14,7 @@ use Rattle.markdown_blocks.proofs.laws.MarkedLines.{IsMarked, marked_lines, none
 use Rattle.markdown_blocks.proofs.laws.Places.{spaces}
 use Rattle.markdown_blocks.proofs.laws.QuotePlaces.{place_in, line_alike, begun_there, kept_there, state_there, bare_outside}
 
-quoted_blocks : (asked : BlockExtensions) (pieces others : List Piece) → AreInQuote asked pieces others → AreBlocks (root asked) pieces []
+quoted_blocks : (asked : Extensions) (pieces others : List Piece) → AreInQuote asked pieces others → AreBlocks (root asked) pieces []
     → AreBlocks (root asked) others []
 quoted_blocks asked = held_blocks asked Quote IsQuoted IsQuoted (IsBare asked) refl
     (λ line quoted q. (place_in line quoted q, begun_there line quoted q (without_terms asked), line_alike line quoted q))
@@ -32,10 +32,10 @@ quoted_marked line quoted q =
     }
     )
 
-bare_marked : (asked : BlockExtensions) (line bare : List ℕ) → IsBare asked line bare → IsMarked line bare
+bare_marked : (asked : Extensions) (line bare : List ℕ) → IsBare asked line bare → IsMarked line bare
 bare_marked asked line bare b = inl (record { front = spaces b.indent; parts = b.parts; plain = none_of_spaces b.indent })
 
-quoted_lines : (asked : BlockExtensions) (text : List ℕ) (pieces others : List Piece) → lines_in pieces ≡ lines_of text
+quoted_lines : (asked : Extensions) (text : List ℕ) (pieces others : List Piece) → lines_in pieces ≡ lines_of text
     → AreInQuote asked pieces others
     → lines_of (concat (lines_in others)) ≡ lines_in others
 quoted_lines asked text pieces others joined z =
@@ -44,12 +44,12 @@ quoted_lines asked text pieces others joined z =
 
 -- Rules 1 and 2: where a text has these blocks, its lines with a marker before each, or lazily without, make a text that is a block
 -- quote of these blocks, and nothing else.
-pub block_quote : (asked : BlockExtensions) (text : List ℕ) (pieces others : List Piece) → IsPage asked text pieces → AreInQuote asked pieces others
+pub block_quote : (asked : Extensions) (text : List ℕ) (pieces others : List Piece) → IsPage asked text pieces → AreInQuote asked pieces others
     → IsPage asked (concat (lines_in others)) others
 block_quote asked text pieces others page z =
     record { joined = sym (quoted_lines asked text pieces others page.joined z); each = quoted_blocks asked pieces others z page.each }
 
-pub one_block_quote : (asked : BlockExtensions) (text : List ℕ) (pieces others found : List Piece) → IsPage asked text pieces → AreInQuote asked pieces others
+pub one_block_quote : (asked : Extensions) (text : List ℕ) (pieces others found : List Piece) → IsPage asked text pieces → AreInQuote asked pieces others
     → IsPage asked (concat (lines_in others)) found → found ≡ others
 one_block_quote asked text pieces others found page z is =
     one_page (root asked) found others (is.joined ∙ quoted_lines asked text pieces others page.joined z) is.each (quoted_blocks asked pieces others z page.each)

@@ -11,7 +11,7 @@ use Rattle.markdown_blocks.specs.blank_lines.BlankLines.{is_blank}
 use Rattle.markdown_blocks.specs.containers.Containers.{behind_quote, begun_at, begun_behind, either_begun, extension_of}
 use Rattle.markdown_blocks.specs.containers.Containers.{within, within_quote, without_terms, behind, item_of}
 use Rattle.markdown_blocks.specs.containers.ItemMarkers.{item_outcome}
-use Rattle.markdown_blocks.specs.declared.containers.BlockExtensions.{BlockExtensions}
+use Rattle.markdown_values.specs.declared.values.extensions.Extensions.{Extensions}
 use Rattle.markdown_blocks.specs.declared.containers.Container.{Container}
 use Rattle.markdown_blocks.specs.declared.containers.Container.TheVariants.{Quote}
 use Rattle.markdown_blocks.specs.laws.Quotes.{IsQuoted, IsBare}
@@ -64,7 +64,7 @@ module _ (line quoted : List ℕ) (q : IsQuoted line quoted) where
       let far : (space_within 4 (start_of quoted) == 4) ≡ false = near (space_within 4 (start_of quoted)) (omega (arith, indent_there, q.few)) in
       rw (far, marker_there) refl
 
-  pub begun_there : (asked : BlockExtensions) → begun_at asked (start_of quoted) ≡ Some (Quote, place_in)
+  pub begun_there : (asked : Extensions) → begun_at asked (start_of quoted) ≡ Some (Quote, place_in)
   unfolding place_in
   begun_there asked =
       let far : (space_within 4 (start_of quoted) == 4) ≡ false = near (space_within 4 (start_of quoted)) (omega (arith, indent_there, q.few)) in
@@ -97,12 +97,12 @@ no_marker_by true here s other none = refl
 no_marker_by false true s other none = cc
 no_marker_by false false s other none = refl
 
-no_marker_of : (asked : BlockExtensions) (indent : ℕ) (s : LineState) → begun_behind asked indent s ≡ None → behind_quote indent s ≡ None
+no_marker_of : (asked : Extensions) (indent : ℕ) (s : LineState) → begun_behind asked indent s ≡ None → behind_quote indent s ≡ None
 no_marker_of asked indent s none =
     no_marker_by (indent == 4) (begins_with (λ b. b == greater_than_sign) (unscanned s)) (after_quote s)
     (either_begun (item_of (item_outcome indent s)) (extension_of asked indent s)) none
 
-pub bare_outside : (asked : BlockExtensions) (line bare : List ℕ) → IsBare asked line bare → (outer : List Container)
+pub bare_outside : (asked : Extensions) (line bare : List ℕ) → IsBare asked line bare → (outer : List Container)
     → behind (Quote ∷ outer) bare ≡ record { kept = 0; state = start_of bare }
 bare_outside asked line bare q outer = ap (λ found. step_on outer (start_of bare) (within_quote found))
     (no_marker_of (without_terms asked) (space_within 4 (start_of bare)) (after_space 4 (start_of bare)) q.goes_on.0)

@@ -14,7 +14,7 @@ use Rattle.markdown_blocks.specs.containers.Containers.{footnote_by, footnote_of
 use Rattle.markdown_blocks.specs.containers.Containers.{within, within_quote, within_width, go_on, Opens}
 use Rattle.markdown_blocks.specs.containers.Footnotes.{after_columns, footnote_label}
 use Rattle.markdown_blocks.specs.containers.ItemMarkers.{further_spaces, item_outcome, item_outcome_after, item_outcome_by}
-use Rattle.markdown_blocks.specs.declared.containers.BlockExtensions.{BlockExtensions}
+use Rattle.markdown_values.specs.declared.values.extensions.Extensions.{Extensions}
 use Rattle.markdown_blocks.specs.declared.containers.Container.{Container}
 use Rattle.markdown_blocks.specs.declared.containers.Container.TheVariants.{Quote, Item, Footnote, TermDefinition}
 use Rattle.markdown_blocks.proofs.containers.ContainerLemmas.{step_on}
@@ -116,7 +116,7 @@ label_alike s t None a = tt
 label_alike s t (Some l) a =
     (refl, columns_alike (bytes_further (length l + 4) s) (bytes_further (length l + 4) t) (bytes_alike s t a (length l + 4)))
 
-footnote_alike : (asked : BlockExtensions) (s t : LineState) → Alike s t → FoundAlike (footnote_of asked s) (footnote_of asked t)
+footnote_alike : (asked : Extensions) (s t : LineState) → Alike s t → FoundAlike (footnote_of asked s) (footnote_of asked t)
 footnote_alike asked s t a =
     either_found asked.footnotes asked.footnotes (footnote_by s (footnote_label (unscanned s))) (footnote_by t (footnote_label (unscanned t))) None None refl
     (subst (λ l. FoundAlike (footnote_by s (footnote_label (unscanned s))) (footnote_by t l)) (ap footnote_label a.text)
@@ -147,7 +147,7 @@ found_definition found other same =
     subst (λ answer. FoundAlike (term_definition_by found) (term_definition_by (record { answer = answer; state = other.state }))) same.answers
     (definition_made found.answer found.state other.state same.states)
 
-definition_alike : (asked : BlockExtensions) (indent : ℕ) (s t : LineState) → Alike s t
+definition_alike : (asked : Extensions) (indent : ℕ) (s t : LineState) → Alike s t
     → FoundAlike (term_definition_of asked indent s) (term_definition_of asked indent t)
 definition_alike asked indent s t a =
     either_found asked.definition_lists asked.definition_lists (term_definition_by (definition_outcome indent s))
@@ -160,7 +160,7 @@ first_alike None (Some q) f' g' h h' = absurd h
 first_alike (Some p) None f' g' h h' = absurd h
 first_alike (Some p) (Some q) f' g' h h' = h
 
-begun_alike : (asked : BlockExtensions) (indent : ℕ) (s t : LineState) → Alike s t → FoundAlike (begun_behind asked indent s) (begun_behind asked indent t)
+begun_alike : (asked : Extensions) (indent : ℕ) (s t : LineState) → Alike s t → FoundAlike (begun_behind asked indent s) (begun_behind asked indent t)
 begun_alike asked indent s t a =
     either_found (indent == 4) (indent == 4) None None _ _ refl tt
     (either_found (begins_with (λ b. b == greater_than_sign) (unscanned s)) (begins_with (λ b. b == greater_than_sign) (unscanned t))
@@ -171,12 +171,12 @@ begun_alike asked indent s t a =
     (first_alike (footnote_of asked s) (footnote_of asked t) (term_definition_of asked indent s) (term_definition_of asked indent t)
     (footnote_alike asked s t a) (definition_alike asked indent s t a))))
 
-pub same_begun : (asked : BlockExtensions) (s t : LineState) → Alike s t → FoundAlike (begun_at asked s) (begun_at asked t)
+pub same_begun : (asked : Extensions) (s t : LineState) → Alike s t → FoundAlike (begun_at asked s) (begun_at asked t)
 same_begun asked s t a =
     subst (λ n. FoundAlike (begun_at asked s) (begun_behind asked n (after_space 4 t))) (same_space s t a 4)
     (begun_alike asked (space_within 4 s) (after_space 4 s) (after_space 4 t) (space_alike s t a 4))
 
-pub same_opens : (asked : BlockExtensions) (begun : List Container) (s t after : LineState) → Alike s t → Opens asked s begun after
+pub same_opens : (asked : Extensions) (begun : List Container) (s t after : LineState) → Alike s t → Opens asked s begun after
     → (other : LineState) × Opens asked t begun other × Alike after other
 same_opens asked [] s t after a o =
     (t, (alike_none (begun_at asked s) (begun_at asked t) (same_begun asked s t a) o.0, refl), subst (λ z. Alike z t) (sym o.1) a)

@@ -15,12 +15,12 @@ use Rattle.markdown_scanners_tree.specs.scanners.list_items.ListMarker.{bullet_m
 use Rattle.markdown_scanners_tree.proofs.PrefixLemmas.{both_true}
 use Rattle.markdown_scanners_tree.proofs.line.ColumnLemmas.{below-cons, bool_cases, none_below}
 use Rattle.markdown_blocks.specs.blank_lines.BlankLines.{is_blank}
-use Rattle.markdown_blocks.specs.containers.Containers.{Opens, all_extensions, begun_at, extension_of, footnote_by, footnote_of, go_on}
+use Rattle.markdown_blocks.specs.containers.Containers.{Opens, all_containers, begun_at, extension_of, footnote_by, footnote_of, go_on}
 use Rattle.markdown_blocks.specs.containers.Containers.{item_of, settled, settled_last, term_definition_by, term_definition_of, within}
 use Rattle.markdown_blocks.specs.containers.Containers.{within_width, without_terms}
 use Rattle.markdown_blocks.specs.containers.Footnotes.{behind_footnote, footnote_label}
 use Rattle.markdown_blocks.specs.containers.ItemMarkers.{item_outcome}
-use Rattle.markdown_blocks.specs.declared.containers.BlockExtensions.{BlockExtensions}
+use Rattle.markdown_values.specs.declared.values.extensions.Extensions.{Extensions}
 use Rattle.markdown_blocks.specs.declared.containers.Container.{Container}
 use Rattle.markdown_blocks.specs.declared.containers.Container.TheVariants.{Quote, Item, Footnote, TermDefinition}
 use Rattle.markdown_blocks.proofs.containers.ContainerLemmas.{begun_by_all, step_on}
@@ -184,7 +184,7 @@ none_in_blank (b ∷ bs) blank =
     by [] other = refl
     by (c ∷ bs) other = rw other refl
 
-pub none_begins : (s : LineState) (r : Container × LineState) → is_blank (unscanned s) ≡ true → ¬ (begun_at all_extensions s ≡ Some r)
+pub none_begins : (s : LineState) (r : Container × LineState) → is_blank (unscanned s) ≡ true → ¬ (begun_at all_containers s ≡ Some r)
 none_begins s r blank is =
     let none = none_in_blank (unscanned (after_space 4 s)) (blank_behind 4 s blank) in
     bool_cases (space_within 4 s == 4)
@@ -214,15 +214,15 @@ definition_filled (Some width) after r is =
     one_is IsFilled (TermDefinition (record { begun = is_blank (unscanned after); width = width }), after) r is
     (λ full. ap (λ b. TermDefinition (record { begun = b; width = width })) (sym full))
 
-begun_filled : (s : LineState) (r : Container × LineState) → begun_at all_extensions s ≡ Some r → IsFilled r
+begun_filled : (s : LineState) (r : Container × LineState) → begun_at all_containers s ≡ Some r → IsFilled r
 begun_filled s =
     let t = after_space 4 s in
     let n = space_within 4 s in
     begun_is IsFilled (n == 4) (begins_with (λ b. b == greater_than_sign) (unscanned t)) (Some (Quote, after_quote t)) _
     (λ r is. one_is IsFilled (Quote, after_quote t) r is (λ full. refl))
-    (either_is IsFilled (item_of (item_outcome n t)) (extension_of all_extensions n t)
+    (either_is IsFilled (item_of (item_outcome n t)) (extension_of all_containers n t)
     (item_filled (item_outcome n t).answer (item_outcome n t).state)
-    (either_is IsFilled (footnote_of all_extensions t) (term_definition_of all_extensions n t) (label_filled t (footnote_label (unscanned t)))
+    (either_is IsFilled (footnote_of all_containers t) (term_definition_of all_containers n t) (label_filled t (footnote_label (unscanned t)))
     (definition_filled (definition_outcome n t).answer (definition_outcome n t).state)))
 
 pub filled : (b : Bool) → (b ≡ true → ⊥) → b ≡ false
@@ -230,7 +230,7 @@ filled true none = absurd (none refl)
 filled false none = refl
 
 -- the containers that a line begins
-pub opened_settled : (asked : BlockExtensions) (s last : LineState) (begun : List Container) → Opens asked s begun last
+pub opened_settled : (asked : Extensions) (s last : LineState) (begun : List Container) → Opens asked s begun last
     → is_blank (unscanned last) ≡ false → AreSettled begun
 opened_settled asked s last [] opens full = tt
 opened_settled asked s last (c ∷ inner) (next, begun, opens) full = (
@@ -243,7 +243,7 @@ opened_settled asked s last (c ∷ inner) (next, begun, opens) full = (
     still (d ∷ inner) opens = filled (is_blank (unscanned next))
         (λ blank. none_begins next (d, opens.0) blank (begun_by_all (without_terms asked) next (d, opens.0) opens.1))
 
-pub opened_front : (asked : BlockExtensions) (s last : LineState) (begun : List Container) → Opens asked s begun last → FrontSettled begun
+pub opened_front : (asked : Extensions) (s last : LineState) (begun : List Container) → Opens asked s begun last → FrontSettled begun
 opened_front asked s last [] opens = tt
 opened_front asked s last (c ∷ []) opens = tt
 opened_front asked s last (c ∷ d ∷ inner) (next, begun, opens) = (

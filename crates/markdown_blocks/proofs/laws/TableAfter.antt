@@ -12,7 +12,7 @@ use Rattle.markdown_blocks.specs.containers.Containers.{Outer, Rest, rest_at, re
 use Rattle.markdown_blocks.specs.containers.Containers.{Between, either_begun, footnote_of, item_of, settled_last, term_definition_by, without_terms}
 use Rattle.markdown_blocks.specs.containers.ItemMarkers.{item_outcome}
 use Rattle.markdown_blocks.specs.declared.blocks.BlockKind.TheVariants.{Paragraph}
-use Rattle.markdown_blocks.specs.declared.containers.BlockExtensions.{BlockExtensions}
+use Rattle.markdown_values.specs.declared.values.extensions.Extensions.{Extensions}
 use Rattle.markdown_blocks.specs.declared.containers.Container.{Container}
 use Rattle.markdown_blocks.specs.declared.containers.Container.TheVariants.{Quote}
 use Rattle.markdown_blocks.specs.blocks.Leaves.{BeginsNoTable, BeginsTable, DefinesTerm, IsHeader, IsLeaf}
@@ -36,7 +36,7 @@ none_found : (found : Option (Container × LineState)) → ((r : Container × Li
 none_found None none = refl
 none_found (Some r) none = absurd (none r refl)
 
-begun_none : (asked : BlockExtensions) (s : LineState) → begun_at (without_terms asked) s ≡ None → ¬ DefinesTerm asked (rest_at s)
+begun_none : (asked : Extensions) (s : LineState) → begun_at (without_terms asked) s ≡ None → ¬ DefinesTerm asked (rest_at s)
     → begun_at asked s ≡ None
 begun_none asked s none defines =
     let t = after_space 4 s in
@@ -46,13 +46,13 @@ begun_none asked s none defines =
     (λ near on. none_found (term_definition_by (definition_outcome n t))
     (λ r found. defines (λ far. (let both : true ≡ false = sym (eq-eqb n 4 far) ∙ near in cc), rw on (definition_marked n t r found))))
 
-begun_first : (asked : BlockExtensions) (term : Bool) (left : List Container) (s : LineState) → left ≡ [] → begun_at (without_terms asked) s ≡ None
+begun_first : (asked : Extensions) (term : Bool) (left : List Container) (s : LineState) → left ≡ [] → begun_at (without_terms asked) s ≡ None
     → ¬ DefinesTerm asked (rest_at s) → begun_at (asked_first asked term left) s ≡ None
 begun_first asked true [] s empty none defines = begun_none asked s none defines
 begun_first asked false [] s empty none defines = none
 begun_first asked term (c ∷ left) s empty none defines = cc
 
-none_open : (asked : BlockExtensions) (s after : LineState) (begun : List Container) → begun_at asked s ≡ None → Opens asked s begun after
+none_open : (asked : Extensions) (s after : LineState) (begun : List Container) → begun_at asked s ≡ None → Opens asked s begun after
     → (begun ≡ []) × (after ≡ s)
 none_open asked s after [] none opens = (refl, opens.1)
 none_open asked s after (c ∷ begun) none (next, is, opens) =

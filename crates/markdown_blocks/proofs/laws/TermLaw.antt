@@ -21,7 +21,7 @@ use Rattle.markdown_blocks.specs.containers.ItemMarkers.{item_outcome}
 use Rattle.markdown_blocks.specs.declared.blocks.BlockKind.{BlockKind}
 use Rattle.markdown_blocks.specs.declared.blocks.BlockKind.TheVariants.{Blank, Break, Heading, Setext, Indented}
 use Rattle.markdown_blocks.specs.declared.blocks.BlockKind.TheVariants.{Fenced, Html, Table, Definition, Paragraph}
-use Rattle.markdown_blocks.specs.declared.containers.BlockExtensions.{BlockExtensions}
+use Rattle.markdown_values.specs.declared.values.extensions.Extensions.{Extensions}
 use Rattle.markdown_blocks.specs.declared.containers.Container.{Container}
 use Rattle.markdown_blocks.specs.declared.containers.Container.TheVariants.{Quote, Item, Footnote, TermDefinition}
 use Rattle.markdown_blocks.specs.laws.Terms.{open_after, EndWithTerm, IsOneBlankLine, TermStands, FollowsTerm}
@@ -31,17 +31,17 @@ use Rattle.markdown_blocks.proofs.events.EventLemmas.{kept_fewer}
 use Rattle.markdown_blocks.proofs.events.LabelLemmas.{one_is, either_is, begun_is}
 
 -- a definition begins only where it is asked for
-abbrev Asks : BlockExtensions → Container → Type 0
+abbrev Asks : Extensions → Container → Type 0
 Asks asked (TermDefinition definition) = asked.definition_lists ≡ true
 Asks asked container = ⊤
 
-asks_any : (asked : BlockExtensions) → asked.definition_lists ≡ true → (c : Container) → Asks asked c
+asks_any : (asked : Extensions) → asked.definition_lists ≡ true → (c : Container) → Asks asked c
 asks_any asked on Quote = tt
 asks_any asked on (Item item) = tt
 asks_any asked on Footnote = tt
 asks_any asked on (TermDefinition definition) = on
 
-module _ (asked : BlockExtensions) where
+module _ (asked : Extensions) where
   abbrev Asked : Container × LineState → Type 0
   Asked r = Asks asked r.0
 
@@ -74,7 +74,7 @@ module _ (asked : BlockExtensions) where
       (λ r is. asks_any asked (on_asks asked.definition_lists (term_definition_by (definition_outcome n t)) r is) r.0)))
 
 -- the containers that a line begins
-none_inside : (asked : BlockExtensions) (s : LineState) (cs : List Container) (after : LineState) → Opens (without_terms asked) s cs after
+none_inside : (asked : Extensions) (s : LineState) (cs : List Container) (after : LineState) → Opens (without_terms asked) s cs after
     → AreNoDefinitions cs
 none_inside asked s [] after o = tt
 none_inside asked s (Quote ∷ cs) after o = none_inside asked o.0 cs after o.2
@@ -83,7 +83,7 @@ none_inside asked s (Footnote ∷ cs) after o = none_inside asked o.0 cs after o
 none_inside asked s (TermDefinition definition ∷ cs) after o =
     let on : false ≡ true = begun_asks (without_terms asked) s (TermDefinition definition, o.0) o.1 in cc
 
-follows_by : (asked : BlockExtensions) (term : Bool) (before : List Piece) (ended : List Container) → (IsTrue term → TermStands before)
+follows_by : (asked : Extensions) (term : Bool) (before : List Piece) (ended : List Container) → (IsTrue term → TermStands before)
     → (asked_first asked term ended).definition_lists ≡ true → FollowsTerm before ended
 follows_by asked true before [] stands on = stands refl
 follows_by asked false before [] stands on = cc
@@ -92,7 +92,7 @@ follows_by asked term before (Quote ∷ ended) stands on = cc
 follows_by asked term before (Item item ∷ ended) stands on = cc
 follows_by asked term before (Footnote ∷ ended) stands on = cc
 
-begin_by : (asked : BlockExtensions) (term : Bool) (before : List Piece) (ended : List Container) → (IsTrue term → TermStands before) → (s : LineState)
+begin_by : (asked : Extensions) (term : Bool) (before : List Piece) (ended : List Container) → (IsTrue term → TermStands before) → (s : LineState)
     (cs : List Container) (after : LineState) → Opens (asked_first asked term ended) s cs after → BeginBehindTerm before ended cs
 begin_by asked term before ended stands s [] after o = tt
 begin_by asked term before ended stands s (Quote ∷ cs) after o = none_inside (asked_first asked term ended) o.0 cs after o.2
@@ -220,6 +220,6 @@ have_terms done before (piece ∷ later) rest same stands ends each =
         subst (λ k. IsLeaf (outer_of before piece) k piece.words piece.later rest) kind leaf in blank.1.stopped
 
 -- On each page a definition of a term begins after the term, or after another definition of it.
-pub definitions_have_terms : (asked : BlockExtensions) (text : List ℕ) (pieces : List Piece) → IsPage asked text pieces → HaveTerms [] pieces
+pub definitions_have_terms : (asked : Extensions) (text : List ℕ) (pieces : List Piece) → IsPage asked text pieces → HaveTerms [] pieces
 definitions_have_terms asked text pieces page =
     have_terms [] (root asked) pieces [] refl (λ t. cc) tt page.each

@@ -19,7 +19,7 @@ use Rattle.markdown_scanners_tree.proofs.ForCallers.{one_label_unskipped}
 use Rattle.markdown_blocks.specs.byte_order_mark.ByteOrderMark.{text_of}
 use Rattle.markdown_blocks.specs.blocks.Pages.{Piece, IsPiece, AreBlocks, lines_in, root}
 use Rattle.markdown_blocks.specs.containers.Containers.{Between, Rest}
-use Rattle.markdown_blocks.specs.declared.containers.BlockExtensions.{BlockExtensions}
+use Rattle.markdown_values.specs.declared.values.extensions.Extensions.{Extensions}
 use Rattle.markdown_blocks.specs.declared.step.Step.{Step}
 use Rattle.markdown_blocks.specs.definitions.Content.{content_in}
 use Rattle.markdown_blocks.specs.definitions.Definitions.{AreDefinitions, IsDefinition}
@@ -252,7 +252,7 @@ pub record Left (open_now : Between) (text : List ℕ) (named : List Named) : Ty
 pub none_left : (open_now : Between) (text : List ℕ) → text ≡ [] → Left open_now text []
 none_left open_now text last = record { pieces = []; joined = sym (ap lines_of last); each = tt; are_named = refl }
 
-pub whole_page : (asked : BlockExtensions) (page : List ℕ) (named : List Named) → Left (root asked) (text_of page) named
+pub whole_page : (asked : Extensions) (page : List ℕ) (named : List Named) → Left (root asked) (text_of page) named
     → HasDefinitions asked page named
 whole_page asked page named left = record {
   pieces = left.pieces;
@@ -320,7 +320,7 @@ one_named_in (piece ∷ pieces) named others are are' =
     are.4 ∙ ap (λ here. here ++ are.1) (one_names (piece_content piece) are.0 are'.0 are.2 are'.2)
     ∙ ap (λ more. are'.0 ++ more) (one_named_in pieces are.1 are'.1 are.3 are'.3) ∙ sym are'.4
 
-pub one_list_of_named : (asked : BlockExtensions) (page : List ℕ) (named others : List Named) → HasDefinitions asked page named
+pub one_list_of_named : (asked : Extensions) (page : List ℕ) (named others : List Named) → HasDefinitions asked page named
     → HasDefinitions asked page others → named ≡ others
 one_list_of_named asked page named others h h' =
     let same = one_page (root asked) h.pieces h'.pieces (h.is_page.joined ∙ sym h'.is_page.joined) h.is_page.each h'.is_page.each in

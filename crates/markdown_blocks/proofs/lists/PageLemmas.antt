@@ -9,7 +9,7 @@ use Rattle.markdown_blocks.proofs.lists.ListLemmas.{page_lists}
 use Rattle.markdown_blocks.specs.blocks.Pages.{Piece, IsPiece, AreBlocks, open_behind, root}
 use Rattle.markdown_scanners_tree.specs.line.State.{LineState}
 use Rattle.markdown_blocks.specs.containers.Containers.{Between, behind, marker_place, after_marker}
-use Rattle.markdown_blocks.specs.declared.containers.BlockExtensions.{BlockExtensions}
+use Rattle.markdown_values.specs.declared.values.extensions.Extensions.{Extensions}
 use Rattle.markdown_blocks.specs.declared.containers.Container.{Container}
 use Rattle.markdown_blocks.specs.declared.lists.ListBlock.{ListBlock}
 use Rattle.markdown_blocks.specs.events.Events.{Event, starts, leaf, ends, LeafBlock, started, AreEvents, open_after, IsEventsOf}
@@ -91,21 +91,21 @@ events_nested (piece ∷ later) outer line start blocks each are =
     (sym (length-append piece.kept piece.begun)) (nest_leaves are.0 (length inside) (are.1 ++ all) n)))
 
 -- the events of a page are those of nodes
-pub events_of_nodes : (asked : BlockExtensions) (page : List ℕ) (events : List Event) → IsEventsOf asked page events → (nodes : Nodes)
+pub events_of_nodes : (asked : Extensions) (page : List ℕ) (events : List Event) → IsEventsOf asked page events → (nodes : Nodes)
     × (events ≡ flatten nodes)
 events_of_nodes asked page events h =
     let n = events_nested h.0 (root asked) 0 (text_start page) h.1 h.2.each h.3 in
     (n.0, h.4 ∙ n.1)
 
 -- what the lists of such nodes are, the page's are
-pub lists_are : (asked : BlockExtensions) (page : List ℕ) (all : List Event) (found : List ListBlock) → IsEventsOf asked page all
+pub lists_are : (asked : Extensions) (page : List ℕ) (all : List Event) (found : List ListBlock) → IsEventsOf asked page all
     → ((nodes : Nodes) → all ≡ flatten nodes → lists_of nodes ≡ found) → AreListsOf asked page found
 lists_are asked page all found events same =
     let n = events_of_nodes asked page all events in
     (n.0, subst (IsEventsOf asked page) n.1 events, sym (same n.0 n.1))
 
 -- a page has one list of lists
-pub one_list_of_lists : (asked : BlockExtensions) (page : List ℕ) (lists others : List ListBlock) → AreListsOf asked page lists
+pub one_list_of_lists : (asked : Extensions) (page : List ℕ) (lists others : List ListBlock) → AreListsOf asked page lists
     → AreListsOf asked page others → lists ≡ others
 one_list_of_lists asked page lists others h h' =
     let same = one_list_of_events asked page (flatten h.0) (flatten h'.0) h.1 h'.1 in

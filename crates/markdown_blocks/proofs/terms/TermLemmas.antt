@@ -17,7 +17,7 @@ use Rattle.markdown_scanners_tree.specs.declared.scanners.reference_definitions.
 use Rattle.markdown_blocks.specs.blocks.Pages.{IsTerm}
 use Rattle.markdown_blocks.specs.declared.blocks.BlockKind.{BlockKind}
 use Rattle.markdown_blocks.specs.declared.blocks.BlockKind.TheVariants.{Paragraph}
-use Rattle.markdown_blocks.specs.declared.containers.BlockExtensions.{BlockExtensions}
+use Rattle.markdown_values.specs.declared.values.extensions.Extensions.{Extensions}
 use Rattle.markdown_blocks.specs.definitions.Definitions.{AreDefinitions, HasText}
 use Rattle.markdown_blocks.specs.walk.Walk.{IsGathered}
 use Rattle.markdown_blocks.proofs.definitions.DefinitionLemmas.{all_given}
@@ -26,7 +26,7 @@ no_bytes : (bytes : List ℕ) → length bytes ≡ 0 → bytes ≡ []
 no_bytes [] none = refl
 no_bytes (b ∷ bytes) none = absurd (omega (arith, none))
 
-module _ (asked : BlockExtensions) (kind : BlockKind) (content whole : List ℕ) (on : asked.definition_lists ≡ true) (is : kind ≡ Paragraph)
+module _ (asked : Extensions) (kind : BlockKind) (content whole : List ℕ) (on : asked.definition_lists ≡ true) (is : kind ≡ Paragraph)
     (gathered : IsGathered whole content) where
   all_gathered : content ≢ [] → content ≡ whole
   all_gathered some = by gathered

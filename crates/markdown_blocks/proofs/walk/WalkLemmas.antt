@@ -9,7 +9,7 @@ use Rattle.markdown_scanners_tree.specs.scanners.TextLines.{lines_of}
 use Rattle.markdown_blocks.specs.containers.Containers.{Between, Outer, Rest, rest_at, asked_between, asked_first, behind, begun_at}
 use Rattle.markdown_blocks.specs.containers.Containers.{begun_behind, Opens, settled, settled_last, without_terms}
 use Rattle.markdown_blocks.specs.declared.blocks.Block.{Block}
-use Rattle.markdown_blocks.specs.declared.containers.BlockExtensions.{BlockExtensions}
+use Rattle.markdown_values.specs.declared.values.extensions.Extensions.{Extensions}
 use Rattle.markdown_blocks.specs.declared.containers.Container.{Container}
 use Rattle.markdown_blocks.specs.declared.containers.Container.TheVariants.{Quote, Item, Footnote, TermDefinition}
 use Rattle.markdown_blocks.specs.blocks.Leaves.{IsLeaf}
@@ -29,7 +29,7 @@ settled-push (a ∷ []) c = refl
 settled-push (a ∷ b ∷ outer) c = ap (λ cs. a ∷ cs) (settled-push (b ∷ outer) c)
 
 -- the containers that the line has begun so far, and the rest of it
-pub record Opening (old : Between) (line : List ℕ) (now : List Container) (count : ℕ) (rest : Rest) (start : LineState) (asked : BlockExtensions) : Type 0
+pub record Opening (old : Between) (line : List ℕ) (now : List Container) (count : ℕ) (rest : Rest) (start : LineState) (asked : Extensions) : Type 0
   where
     pub kept : List Container
     pub begun : List Container
@@ -44,7 +44,7 @@ pub record Opening (old : Between) (line : List ℕ) (now : List Container) (cou
         → Opens (asked_between old line) (behind old.containers line).state (begun ++ more) after
 
 -- without terms the extensions are those that are on
-asked_plain : (asked : BlockExtensions) (term : Bool) (left : List Container) → without_terms (asked_first asked term left) ≡ without_terms asked
+asked_plain : (asked : Extensions) (term : Bool) (left : List Container) → without_terms (asked_first asked term left) ≡ without_terms asked
 asked_plain asked true [] = refl
 asked_plain asked false [] = refl
 asked_plain asked term (Quote ∷ left) = refl
@@ -53,7 +53,7 @@ asked_plain asked term (Footnote ∷ left) = refl
 asked_plain asked term (TermDefinition definition ∷ left) = refl
 
 module _ (old : Between) (line : List ℕ) where
-  pub opening-first : (now : List Container) (count kept : ℕ) (rest : Rest) (s start : LineState) (asked : BlockExtensions) → count ≡ length now
+  pub opening-first : (now : List Container) (count kept : ℕ) (rest : Rest) (s start : LineState) (asked : Extensions) → count ≡ length now
       → kept ≡ (behind old.containers line).kept
       → now ≡ settled_last (take kept old.containers) → s ≡ (behind old.containers line).state → rest ≡ rest_at s → start ≡ after_space 4 s
       → asked ≡ asked_first old.extensions old.term (drop kept old.containers) → Opening old line now count rest start asked
@@ -74,7 +74,7 @@ module _ (old : Between) (line : List ℕ) where
       here = asks ∙ ap (λ n. asked_first old.extensions old.term (drop n old.containers)) keeps
 
   pub opening-next : (now more_now : List Container) (count : ℕ) (rest more : Rest) (start next after : LineState) (c : Container)
-      (asked : BlockExtensions) → Opening old line now count rest start asked → begun_behind asked rest.indent start ≡ Some (c, next)
+      (asked : Extensions) → Opening old line now count rest start asked → begun_behind asked rest.indent start ≡ Some (c, next)
       → more_now ≡ now ++ c ∷ [] → more ≡ rest_at next → after ≡ after_space 4 next
       → Opening old line more_now count more after (without_terms old.extensions)
   opening-next now more_now count rest left start next after c asked o found grown is state = record {
@@ -94,7 +94,7 @@ module _ (old : Between) (line : List ℕ) where
       here = subst (λ n. begun_behind asked n (after_space 4 o.place) ≡ Some (c, next)) (ap (λ (r : Rest). r.indent) o.is_rest)
           (subst (λ z. begun_behind asked rest.indent z ≡ Some (c, next)) o.state found)
 
-  pub opening-done : (now : List Container) (count : ℕ) (rest : Rest) (start : LineState) (asked : BlockExtensions)
+  pub opening-done : (now : List Container) (count : ℕ) (rest : Rest) (start : LineState) (asked : Extensions)
       → Opening old line now count rest start asked → begun_behind asked rest.indent start ≡ None → IsOpening old line now count rest
   opening-done now count rest start asked o none = record {
     kept = o.kept;

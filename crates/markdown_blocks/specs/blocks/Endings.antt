@@ -9,12 +9,12 @@ use Rattle.markdown_blocks.specs.declared.blocks.Ending.TheVariants.{Text, Parag
 use Rattle.markdown_blocks.specs.declared.blocks.NextLine.{NextLine}
 use Rattle.markdown_blocks.specs.declared.blocks.NextLine.TheVariants as next
 use Rattle.markdown_blocks.specs.declared.blocks.TextEnd.{TextEnd}
-use Rattle.markdown_blocks.specs.declared.containers.BlockExtensions.{BlockExtensions}
+use Rattle.markdown_values.specs.declared.values.extensions.Extensions.{Extensions}
 use Rattle.markdown_blocks.specs.blocks.Leaves.{IsBlank, EndsParagraph, ClosesFence, EndsHtml, In, Interrupts, OutOr, IsUnderline, DefinesTerm}
 use Rattle.markdown_blocks.specs.blocks.Leaves.{LeavesParagraph, LeavesBehind, Underlines}
 
 -- what a line has in the open containers where it ends the block
-abbrev pub Ends : BlockExtensions → Ending → Rest → Type 0
+abbrev pub Ends : Extensions → Ending → Rest → Type 0
 Ends asked Text rest = ¬ IsBlank rest
 Ends asked Paragraph rest = EndsParagraph asked rest
 Ends asked (Fence count byte) rest = ClosesFence count byte rest
@@ -26,7 +26,7 @@ IsEnd outer Paragraph line = LeavesParagraph outer line
 IsEnd outer ending line = OutOr outer.containers (Ends outer.extensions ending) line
 
 -- the rest of a line is an underline of this level, or without one the marker of a definition
-abbrev pub IsUnderOrDefines : BlockExtensions → Option HeadingLevel → Rest → Type 0
+abbrev pub IsUnderOrDefines : Extensions → Option HeadingLevel → Rest → Type 0
 IsUnderOrDefines asked (Some level) rest = IsUnderline level rest
 IsUnderOrDefines asked None rest = DefinesTerm asked rest
 

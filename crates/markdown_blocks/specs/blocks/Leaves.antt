@@ -1,5 +1,5 @@
 -- Where the blocks of a page begin and end, line by line, in their containers. (CommonMark 0.31.2, chapter 4)
-use Rattle.std.specs.Prelude.{ℕ, Bool, false, not, ◌&&◌, ◌||◌, ◌==◌, List, [], ◌∷◌, ◌++◌, ◌≡◌, ◌≢◌, ◌⊎◌, ⊤, Option, Some, None, drop, is_some}
+use Rattle.std.specs.Prelude.{ℕ, Bool, false, true, not, ◌&&◌, ◌||◌, ◌==◌, List, [], ◌∷◌, ◌++◌, ◌≡◌, ◌≢◌, ◌⊎◌, ⊤, Option, Some, None, drop, is_some}
 use Rattle.std.specs.Prelude.{IsTrue, MatchBool, if◌then◌else◌}
 use Rattle.std.specs.List.{AllByRecursion, prefix_len}
 use Rattle.markdown_values.specs.declared.values.HeadingLevel.{HeadingLevel}
@@ -20,7 +20,7 @@ use Rattle.markdown_blocks.specs.blank_lines.BlankLines.{is_blank}
 use Rattle.markdown_blocks.specs.containers.Containers.{Outer, Rest, rest_at, asked_in, begun_at, behind, IsInside, rest_in, item_of, without_terms}
 use Rattle.markdown_blocks.specs.containers.Footnotes.{footnote_label}
 use Rattle.markdown_blocks.specs.containers.ItemMarkers.{item_outcome}
-use Rattle.markdown_blocks.specs.declared.containers.BlockExtensions.{BlockExtensions}
+use Rattle.markdown_values.specs.declared.values.extensions.Extensions.{Extensions}
 use Rattle.markdown_blocks.specs.declared.blocks.BlockKind.{BlockKind}
 use Rattle.markdown_blocks.specs.declared.blocks.BlockKind.TheVariants.{Blank, Break, Heading, Setext, Indented}
 use Rattle.markdown_blocks.specs.declared.blocks.BlockKind.TheVariants.{Fenced, Html, Table, Definition, Paragraph}
@@ -90,27 +90,27 @@ unfoldable pub begins_filled_item : List ℕ → Bool
 begins_filled_item text = is_filled_item (item_of (item_outcome 0 (start_of text)))
 
 -- one does, or the marker of a footnote definition stands here and footnotes are on
-abbrev pub interrupts_by_marker : BlockExtensions → List ℕ → Bool
+abbrev pub interrupts_by_marker : Extensions → List ℕ → Bool
 interrupts_by_marker asked text =
     (asked.footnotes && is_some (footnote_label text)) || begins_filled_item text
 
 -- with these extensions on a text, after fewer than four columns of space, interrupts a paragraph (4.8)
-abbrev pub Interrupts : BlockExtensions → List ℕ → Type 0
+abbrev pub Interrupts : Extensions → List ℕ → Type 0
 Interrupts asked text =
     (IsTrue (not (has_fed_signs text)) × InterruptsParagraph text) ⊎ IsTrue (interrupts_by_marker asked text)
 
 -- it goes on with no paragraph: it is blank, an underline, or interrupts it (4.8)
-abbrev pub EndsParagraph : BlockExtensions → Rest → Type 0
+abbrev pub EndsParagraph : Extensions → Rest → Type 0
 EndsParagraph asked rest =
     IsBlank rest ⊎ (((level : HeadingLevel) × IsUnderline level rest) ⊎ ((¬ HasIndent rest) × Interrupts asked rest.text))
 
 -- where definition lists are on, it is the marker of a definition, whose term is the paragraph before it
-abbrev pub DefinesTerm : BlockExtensions → Rest → Type 0
+abbrev pub DefinesTerm : Extensions → Rest → Type 0
 DefinesTerm asked rest = (¬ HasIndent rest) × IsTrue (asked.definition_lists && begins_with (λ b. b == colon) rest.text)
 
 -- It goes on with no paragraph that has this content before it: it is blank, an underline after text, or the marker of a definition
 -- after it, or interrupts it. After link reference definitions alone an underline is text, and so is a marker. (4.3, 4.7)
-abbrev pub EndsContent : BlockExtensions → List ℕ → Rest → Type 0
+abbrev pub EndsContent : Extensions → List ℕ → Rest → Type 0
 EndsContent asked content rest =
     IsBlank rest
     ⊎ (((((level : HeadingLevel) × IsUnderline level rest) ⊎ DefinesTerm asked rest) × HasText content)
@@ -129,7 +129,7 @@ EndsHtml kind rest = IsTrue (ends_html kind rest.text)
 
 -- The line is lazy, with this rest after fewer containers than the paragraph before it stands in: the rest begins no container,
 -- and it is text that does not interrupt a paragraph. (5.1, laziness; 5.2, rule 5; "Parsing strategy", phase 1)
-abbrev pub IsLazy : BlockExtensions → LineState → Type 0
+abbrev pub IsLazy : Extensions → LineState → Type 0
 IsLazy asked s =
     (begun_at asked s ≡ None) × (¬ IsBlank (rest_at s)) × (HasIndent (rest_at s) ⊎ (¬ Interrupts asked (rest_at s).text))
 
@@ -160,11 +160,11 @@ LeavesBehind outer text before line =
 abbrev pub Underlines : List Container → List ℕ → List (List ℕ) → HeadingLevel → List ℕ → Type 0
 Underlines outer text before level line = In outer (IsUnderline level) line × HasText (content_of outer text before)
 
--- In them the line is the delimiter row of a table of so many columns, after a line with this text: tables are not left out, that has
+-- In them the line is the delimiter row of a table of so many columns, after a line with this text: tables are asked for, that has
 -- as many cells, and it would go on with a paragraph of that. (GitHub Flavored Markdown 0.29, section 4.10)
 abbrev pub IsHead : Outer → List ℕ → ℕ → List ℕ → Type 0
 IsHead outer text columns line =
-    (outer.extensions.no_tables ≡ false)
+    (outer.extensions.tables ≡ true)
     × (¬ LeavesParagraph outer line) × In outer.containers (IsDelimiter columns) line × (cells text ≡ columns)
 
 -- a row of a table, which is no term: it stands in the containers, is not blank, and begins no container and no other block (the same

@@ -7,7 +7,7 @@ use Rattle.markdown_blocks.specs.containers.Containers.{Between, Outer, Rest, re
 use Rattle.markdown_blocks.specs.declared.blocks.BlockKind.{BlockKind}
 use Rattle.markdown_blocks.specs.declared.blocks.BlockKind.TheVariants.{Blank, Paragraph}
 use Rattle.markdown_blocks.specs.declared.blocks.Block.{Block}
-use Rattle.markdown_blocks.specs.declared.containers.BlockExtensions.{BlockExtensions}
+use Rattle.markdown_values.specs.declared.values.extensions.Extensions.{Extensions}
 use Rattle.markdown_blocks.specs.declared.containers.Container.{Container}
 use Rattle.markdown_blocks.specs.blocks.Leaves.{IsLeaf}
 use Rattle.markdown_blocks.specs.blocks.Over.{IsOver}
@@ -46,7 +46,7 @@ outer_of before piece = record { extensions = before.extensions; containers = co
 
 -- a block of this kind with this content may be a term: where definition lists are on, a paragraph that is more than link reference
 -- definitions
-abbrev pub IsTerm : BlockExtensions → BlockKind → List ℕ → Type 0
+abbrev pub IsTerm : Extensions → BlockKind → List ℕ → Type 0
 IsTerm asked kind content = IsTrue asked.definition_lists × (kind ≡ Paragraph) × HasText content
 
 -- blank lines, which are no block
@@ -81,16 +81,16 @@ AreBlocks before (piece ∷ later) rest =
     IsPiece before piece (lines_in later ++ rest) × AreBlocks (open_behind before piece) later rest
 
 -- no container is open, and these extensions are on
-abbrev pub root : BlockExtensions → Between
+abbrev pub root : Extensions → Between
 root asked = record { extensions = asked; containers = []; term = false }
 
 -- with these extensions on the blocks, joined, are the lines of the text, and each of them is a block
-pub record IsPage (asked : BlockExtensions) (text : List ℕ) (pieces : List Piece) : Type 0 where
+pub record IsPage (asked : Extensions) (text : List ℕ) (pieces : List Piece) : Type 0 where
   pub joined : lines_in pieces ≡ lines_of text
   pub each : AreBlocks (root asked) pieces []
 
 -- the same of the lines at the front of the text, where these are after them
-pub record IsFront (asked : BlockExtensions) (text : List ℕ) (pieces : List Piece) (rest : List (List ℕ)) : Type 0 where
+pub record IsFront (asked : Extensions) (text : List ℕ) (pieces : List Piece) (rest : List (List ℕ)) : Type 0 where
   pub joined : lines_in pieces ++ rest ≡ lines_of text
   pub each : AreBlocks (root asked) pieces rest
 

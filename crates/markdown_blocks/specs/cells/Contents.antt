@@ -1,5 +1,5 @@
 -- The content of a cell. (GitHub Flavored Markdown 0.29, section 4.10, tables: "include a pipe in a cell's content by escaping it")
-use Rattle.std.specs.Prelude.{ℕ, suc, Bool, false, ◌&&◌, ◌==◌, ◌+◌, ◌-◌, List, [], ◌∷◌, ◌++◌, take, drop, if◌then◌else◌}
+use Rattle.std.specs.Prelude.{ℕ, suc, Bool, false, ◌&&◌, ◌==◌, ◌+◌, ◌-◌, List, [], ◌∷◌, ◌++◌, length, take, drop, if◌then◌else◌}
 use Rattle.markdown_scanners_tree.specs.Ascii.{backslash}
 use Rattle.markdown_scanners_tree.specs.Bytes.{begins_with}
 use Rattle.markdown_scanners_tree.specs.scanners.tables.DelimiterRow.{is_pipe}
@@ -26,14 +26,15 @@ unescaped_places place (b ∷ bs) =
 abbrev pub bytes_of_cell : List ℕ → Cell → List ℕ
 bytes_of_cell row cell = take (cell.end - cell.start) (drop cell.start row)
 
--- the content of a cell of the row: its bytes, but of a backslash and a pipe the pipe alone
-abbrev pub content_of_cell : List ℕ → Cell → Placed
-content_of_cell row cell = record {
-  text = unescaped (bytes_of_cell row cell);
-  places = unescaped_places cell.start (bytes_of_cell row cell);
-}
-
 -- how many bytes stand before the first such backslash
 abbrev pub escape_at : List ℕ → ℕ
 escape_at [] = 0
 escape_at (b ∷ bs) = if escapes_pipe (b ∷ bs) then 0 else suc (escape_at bs)
+
+-- the content of a cell of the row: its bytes, but of a backslash and a pipe the pipe alone; lent where no pipe is escaped
+abbrev pub content_of_cell : List ℕ → Cell → Placed
+content_of_cell row cell = record {
+  text = unescaped (bytes_of_cell row cell);
+  places = unescaped_places cell.start (bytes_of_cell row cell);
+  is_lent = escape_at (bytes_of_cell row cell) == length (bytes_of_cell row cell);
+}

@@ -10,7 +10,8 @@ use Rattle.markdown_scanners_tree.specs.line.State.{LineState, unscanned, space_
 use Rattle.markdown_blocks.specs.blank_lines.BlankLines.{is_blank}
 use Rattle.markdown_blocks.specs.containers.Footnotes.{footnote_label, behind_footnote}
 use Rattle.markdown_blocks.specs.containers.ItemMarkers.{item_outcome}
-use Rattle.markdown_blocks.specs.declared.containers.BlockExtensions.{BlockExtensions}
+use Rattle.markdown_values.specs.declared.values.extensions.Extensions.{Extensions}
+use Rattle.markdown_values.specs.values.Extensions.{commonmark}
 use Rattle.markdown_blocks.specs.declared.containers.Container.{Container}
 use Rattle.markdown_blocks.specs.declared.containers.Container.TheVariants.{Quote, Item, Footnote, TermDefinition}
 
@@ -38,7 +39,7 @@ item_of found =
 abbrev pub footnote_by : LineState → Option (List ℕ) → Option (Container × LineState)
 footnote_by s label = option_map (λ l. (Footnote, behind_footnote l s)) label
 
-abbrev pub footnote_of : BlockExtensions → LineState → Option (Container × LineState)
+abbrev pub footnote_of : Extensions → LineState → Option (Container × LineState)
 footnote_of asked s = if asked.footnotes then footnote_by s (footnote_label (unscanned s)) else None
 
 -- the definition of a term that a definition's marker begins, and what is left of the line after it
@@ -46,7 +47,7 @@ abbrev pub term_definition_by : Outcome ℕ → Option (Container × LineState)
 term_definition_by found =
     option_map (λ width. (TermDefinition (record { begun = is_blank (unscanned found.state); width = width }), found.state)) found.answer
 
-abbrev pub term_definition_of : BlockExtensions → ℕ → LineState → Option (Container × LineState)
+abbrev pub term_definition_of : Extensions → ℕ → LineState → Option (Container × LineState)
 term_definition_of asked indent s = if asked.definition_lists then term_definition_by (definition_outcome indent s) else None
 
 -- the first of two, if it is there, or the second
@@ -55,30 +56,27 @@ either_begun None second = second
 either_begun (Some begun) second = Some begun
 
 -- the container of these extensions whose marker stands here, after so much space, and what is left of the line after it
-abbrev pub extension_of : BlockExtensions → ℕ → LineState → Option (Container × LineState)
+abbrev pub extension_of : Extensions → ℕ → LineState → Option (Container × LineState)
 extension_of asked indent s = either_begun (footnote_of asked s) (term_definition_of asked indent s)
 
 -- with these extensions on the container whose marker stands here, after so much space, and what is left of the line after it
 -- (5.1, 5.2)
-abbrev pub begun_behind : BlockExtensions → ℕ → LineState → Option (Container × LineState)
+abbrev pub begun_behind : Extensions → ℕ → LineState → Option (Container × LineState)
 begun_behind asked indent s =
     if indent == 4 then None
     else if begins_with (λ b. b == greater_than_sign) (unscanned s) then Some (Quote, after_quote s)
     else either_begun (item_of (item_outcome indent s)) (extension_of asked indent s)
 
 -- the container that the rest of a line begins
-abbrev pub begun_at : BlockExtensions → LineState → Option (Container × LineState)
+abbrev pub begun_at : Extensions → LineState → Option (Container × LineState)
 begun_at asked s = begun_behind asked (space_within 4 s) (after_space 4 s)
 
--- no extension that begins containers, and all of them; tables begin with either
-abbrev pub no_extensions : BlockExtensions
-no_extensions = record { footnotes = false; definition_lists = false; no_tables = false }
-
-abbrev pub all_extensions : BlockExtensions
-all_extensions = record { footnotes = true; definition_lists = true; no_tables = false }
+-- the extensions with which containers begin, all of them on
+abbrev pub all_containers : Extensions
+all_containers = record commonmark { footnotes = true; definition_lists = true }
 
 -- these extensions where no term stands, so that no definition of one begins
-abbrev pub without_terms : BlockExtensions → BlockExtensions
+abbrev pub without_terms : Extensions → Extensions
 without_terms asked = record asked { definition_lists = false }
 
 -- The place in the line of that container's marker, and what is left of the line after the marker. It is the same whichever of
@@ -88,7 +86,7 @@ marker_place s = (after_space 4 s).place
 
 abbrev pub after_marker : LineState → LineState
 after_marker s =
-    elim (begun_at all_extensions s) [
+    elim (begun_at all_containers s) [
       | Some r ↦ r.1
       | None ↦ after_space 4 s
     ]
@@ -136,13 +134,13 @@ behind outer line = go_on (is_blank line) outer (start_of line)
 
 -- the containers that are open, the outermost first, and the extensions that are on
 pub record Outer : Type 0 where
-  pub extensions : BlockExtensions
+  pub extensions : Extensions
   pub containers : List Container
 
 -- The containers that are open between two blocks, the outermost first, the extensions that are on, and whether a term stands directly
 -- before the next line, or with one blank line between.
 pub record Between : Type 0 where
-  pub extensions : BlockExtensions
+  pub extensions : Extensions
   pub containers : List Container
   pub term : Bool
 
@@ -161,22 +159,22 @@ rest_in outer line = rest_at (behind outer line).state
 
 -- The extensions with which the rest of a line begins a container, where these are the open ones that the line ends: the definition of a
 -- term begins where none of them ends and a term stands, or where the outermost that ends is another definition.
-abbrev pub asked_first : BlockExtensions → Bool → List Container → BlockExtensions
+abbrev pub asked_first : Extensions → Bool → List Container → Extensions
 asked_first asked term [] = if term then asked else without_terms asked
 asked_first asked term (TermDefinition definition ∷ inner) = asked
 asked_first asked term (c ∷ inner) = without_terms asked
 
 -- the same of a line that comes next, and of a later line of a block
-abbrev pub asked_between : Between → List ℕ → BlockExtensions
+abbrev pub asked_between : Between → List ℕ → Extensions
 asked_between before line =
     asked_first before.extensions before.term (drop (behind before.containers line).kept before.containers)
 
-abbrev pub asked_in : Outer → List ℕ → BlockExtensions
+abbrev pub asked_in : Outer → List ℕ → Extensions
 asked_in outer line = asked_first outer.extensions false (drop (behind outer.containers line).kept outer.containers)
 
 -- With these extensions on the rest of a line begins these containers, one in the other, and no further one. In a container that begins
 -- there stands no term.
-abbrev pub Opens : BlockExtensions → LineState → List Container → LineState → Type 0
+abbrev pub Opens : Extensions → LineState → List Container → LineState → Type 0
 Opens asked s [] after = (begun_at asked s ≡ None) × (after ≡ s)
 Opens asked s (c ∷ inner) after =
     (next : LineState) × (begun_at asked s ≡ Some (c, next)) × Opens (without_terms asked) next inner after

@@ -1,22 +1,27 @@
 -- The content of leaf blocks, with the place of each byte. (CommonMark 0.31.2, sections 2.1, 2.2, 4.2 to 4.6 and 4.8)
-use Rattle.std.specs.Prelude.{ℕ, ◌||◌, ◌+◌, ◌-◌, ◌<◌, ◌≤◌, List, ◌++◌, ◌≡◌, ⊤, length, take, replicate, slice_index}
+use Rattle.std.specs.Prelude.{ℕ, Bool, ◌||◌, ◌==◌, ◌+◌, ◌-◌, ◌<◌, ◌≤◌, List, ◌++◌, ◌≡◌, ⊤, length, take, replicate, slice_index}
 use Rattle.std.specs.List.{flat_map, range_with_len, suffix_len}
 use Rattle.markdown_scanners_tree.specs.Ascii.{carriage_return}
 use Rattle.markdown_scanners_tree.specs.Bytes.{is_line_ending, is_space_or_tab}
-use Rattle.markdown_blocks.specs.content.Parts.{Part, AreParts}
+use Rattle.markdown_blocks.specs.content.Parts.{Part, AreParts, is_one_run}
 use Rattle.markdown_blocks.specs.declared.blocks.BlockKind.{BlockKind}
 use Rattle.markdown_blocks.specs.declared.blocks.BlockKind.TheVariants.{Indented, Fenced, Html}
 use Rattle.markdown_blocks.specs.declared.containers.Container.{Container}
 use Rattle.markdown_blocks.specs.declared.content.Run.{Run}
 
--- bytes, and of each its place in the block's lines
+-- bytes, of each its place in the block's lines, and whether all are lent from these
 pub record Placed : Type 0 where
   pub text : List ℕ
   pub places : List ℕ
+  pub is_lent : Bool
 
 -- the bytes stand in the block's lines one directly after another, from this place on
 abbrev pub StandsFrom : ℕ → Placed → Type 0
 StandsFrom place content = (offset : ℕ) → offset < length content.text → slice_index content.places offset ≡ place + offset
+
+-- they do so from some place on: the content is one run of the block's lines
+abbrev pub IsOneRun : Placed → Type 0
+IsOneRun content = (place : ℕ) × StandsFrom place content
 
 -- the bytes of the run stand in the block's lines one directly after another, the first of them at its place
 pub record IsRunOf (content : Placed) (run : Run) : Type 0 where
@@ -31,9 +36,9 @@ text_of p = replicate p.columns p.filler ++ p.bytes
 abbrev pub places_of : Part → List ℕ
 places_of p = replicate p.columns (p.place - 1) ++ range_with_len p.place (length p.bytes)
 
--- the parts, joined
+-- the parts, joined; they are lent where they are one run of the lines
 abbrev pub joined : List Part → Placed
-joined parts = record { text = flat_map text_of parts; places = flat_map places_of parts }
+joined parts = record { text = flat_map text_of parts; places = flat_map places_of parts; is_lent = is_one_run parts }
 
 -- without the spaces, tabs and line endings at its end
 abbrev pub words_len : List ℕ → ℕ
@@ -57,8 +62,9 @@ IsCodeOrHtml kind = ⊥
 abbrev pub HasNoReturn : List ℕ → Type 0
 HasNoReturn text = (offset : ℕ) → offset < length text → ¬ (slice_index text offset ≡ carriage_return)
 
+-- so many of its first bytes; no bytes at all are lent too
 abbrev pub front : ℕ → Placed → Placed
-front n content = record { text = take n content.text; places = take n content.places }
+front n content = record { text = take n content.text; places = take n content.places; is_lent = content.is_lent || n == 0 }
 
 abbrev pub content_with : BlockKind → List Part → Placed
 content_with kind parts = front (content_len kind (joined parts).text) (joined parts)

@@ -1,5 +1,5 @@
 -- What each line of a leaf block has of its content. (CommonMark 0.31.2, sections 2.1, 2.2, 4.2 to 4.6, 4.8, 5.1 and 5.2)
-use Rattle.std.specs.Prelude.{ℕ, zero, suc, Bool, true, false, ◌||◌, ◌==◌, ◌+◌, ◌-◌, nat_lt}
+use Rattle.std.specs.Prelude.{ℕ, zero, suc, Bool, true, false, ◌&&◌, ◌||◌, ◌==◌, ◌+◌, ◌-◌, nat_lt}
 use Rattle.std.specs.Prelude.{List, [], ◌∷◌, ◌++◌, ◌≡◌, ◌⊎◌, length, take, Some, None, ⊤}
 use Rattle.std.specs.Prelude.{if◌then◌else◌}
 use Rattle.std.specs.List.{list_any, suffix_len}
@@ -10,7 +10,7 @@ use Rattle.markdown_scanners_tree.specs.line.Outcome.{after_all_space}
 use Rattle.markdown_scanners_tree.specs.line.State.{LineState, unscanned, space_within, after_space}
 use Rattle.markdown_blocks.specs.blank_lines.BlankLines.{is_blank}
 use Rattle.markdown_blocks.specs.blocks.Leaves.{In, ClosesFence}
-use Rattle.markdown_blocks.specs.containers.Containers.{all_extensions, begun_at, behind, within}
+use Rattle.markdown_blocks.specs.containers.Containers.{all_containers, begun_at, behind, within}
 use Rattle.markdown_blocks.specs.declared.blocks.BlockKind.{BlockKind}
 use Rattle.markdown_blocks.specs.declared.blocks.BlockKind.TheVariants.{Blank, Break, Heading, Setext, Indented, Fenced, Html, Table}
 use Rattle.markdown_blocks.specs.declared.containers.Container.{Container}
@@ -63,7 +63,7 @@ written kind p = p ∷ []
 -- the place after the markers of so many containers that begin one in the other, as far as they do
 abbrev pub after_markers : ℕ → LineState → LineState
 after_markers zero s = s
-after_markers (suc n) s = elim (begun_at all_extensions s) [ Some r ↦ after_markers n r.1 | None ↦ s ]
+after_markers (suc n) s = elim (begun_at all_containers s) [ Some r ↦ after_markers n r.1 | None ↦ s ]
 
 -- the place in a block's first line after these containers: it goes on with the first of them, so many, and begins the others
 abbrev pub first_place : ℕ → List Container → List ℕ → LineState
@@ -173,3 +173,12 @@ GoOn place (p ∷ parts) = (p.columns ≡ 0) × (p.place ≡ place) × GoOn (pla
 -- they are one run of the page
 abbrev pub AreOneRun : List Part → Type 0
 AreOneRun parts = (place : ℕ) × GoOn place parts
+
+-- the same two, decided
+abbrev pub goes_on : ℕ → List Part → Bool
+goes_on from [] = true
+goes_on from (p ∷ parts) = (p.columns == 0) && ((p.place == from) && goes_on (from + length p.bytes) parts)
+
+abbrev pub is_one_run : List Part → Bool
+is_one_run [] = true
+is_one_run (p ∷ parts) = goes_on p.place (p ∷ parts)

@@ -9,7 +9,7 @@ use Rattle.markdown_blocks.specs.byte_order_mark.ByteOrderMark.{text_of, text_st
 use Rattle.markdown_blocks.specs.containers.Containers.{Rest, rest_in, behind, marker_place, after_marker}
 use Rattle.markdown_blocks.specs.declared.blocks.BlockKind.{BlockKind}
 use Rattle.markdown_blocks.specs.declared.blocks.BlockKind.TheVariants.{Definition}
-use Rattle.markdown_blocks.specs.declared.containers.BlockExtensions.{BlockExtensions}
+use Rattle.markdown_values.specs.declared.values.extensions.Extensions.{Extensions}
 use Rattle.markdown_blocks.specs.declared.containers.Container.{Container}
 use Rattle.markdown_blocks.specs.declared.events.BlockEvent.{BlockEvent}
 use Rattle.markdown_blocks.specs.declared.events.BlockEvent.TheVariants.{Start, Block, End}
@@ -140,7 +140,7 @@ open_after depth [] = depth
 open_after depth (piece ∷ later) = open_after (length (piece.kept ++ piece.begun)) later
 
 -- the events of a page with these extensions on: those of the pieces of its text, and then all containers end
-abbrev pub IsEventsOf : BlockExtensions → List ℕ → List Event → Type 0
+abbrev pub IsEventsOf : Extensions → List ℕ → List Event → Type 0
 IsEventsOf asked page events =
     (pieces : List Piece) × (blocks : List Event) × IsPage asked (text_of page) pieces
     × AreEvents [] 0 (text_start page) pieces blocks

@@ -5,7 +5,7 @@ use Rattle.markdown_scanners_tree.specs.scanners.TextLines.{lines_of}
 use Rattle.markdown_blocks.specs.blocks.Pages.{Piece, AreBlocks, lines_in}
 use Rattle.markdown_blocks.specs.declared.blocks.BlockKind.{BlockKind}
 use Rattle.markdown_blocks.specs.containers.Containers.{Between}
-use Rattle.markdown_blocks.specs.declared.containers.BlockExtensions.{BlockExtensions}
+use Rattle.markdown_values.specs.declared.values.extensions.Extensions.{Extensions}
 use Rattle.markdown_blocks.specs.declared.containers.Container.{Container}
 use Rattle.markdown_blocks.specs.declared.step.Step.{Step}
 use Rattle.markdown_blocks.specs.declared.taken.Taken.{Taken}
@@ -58,7 +58,7 @@ pub record Pending : Type 0 where
 -- block.
 pub record Left : Type 0 where
   pub text : List ℕ
-  pub extensions : BlockExtensions
+  pub extensions : Extensions
   pub containers : List Container
   pub term : Bool
   pub begun : ℕ

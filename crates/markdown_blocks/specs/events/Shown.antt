@@ -4,7 +4,7 @@ use Rattle.std.specs.List.{concat}
 use Rattle.markdown_scanners_tree.specs.declared.scanners.reference_definitions.ReferenceDefinition.{ReferenceDefinition}
 use Rattle.markdown_blocks.specs.blocks.Pages.{Piece, IsPage}
 use Rattle.markdown_blocks.specs.byte_order_mark.ByteOrderMark.{text_of, text_start}
-use Rattle.markdown_blocks.specs.declared.containers.BlockExtensions.{BlockExtensions}
+use Rattle.markdown_values.specs.declared.values.extensions.Extensions.{Extensions}
 use Rattle.markdown_blocks.specs.declared.containers.Container.{Container}
 use Rattle.markdown_blocks.specs.definitions.Definitions.{IsDefinition}
 use Rattle.markdown_blocks.specs.events.Events.{Event, starts, leaf, ends, LeafBlock, AreLeavesOf, piece_content, piece_events, open_after}
@@ -60,7 +60,7 @@ abbrev pub end_shown : Shown
 end_shown = record { event = ends; written = None }
 
 -- the same of the events of a page with these extensions on
-abbrev pub IsShownOf : BlockExtensions → List ℕ → List Shown → Type 0
+abbrev pub IsShownOf : Extensions → List ℕ → List Shown → Type 0
 IsShownOf asked page shown =
     (pieces : List Piece) × (blocks : List Shown) × IsPage asked (text_of page) pieces
     × AreShownOf [] 0 (text_start page) pieces blocks

@@ -7,7 +7,7 @@ use Rattle.markdown_values.specs.declared.values.BlockQuoteKind.{BlockQuoteKind}
 use Rattle.markdown_blocks.specs.declared.alerts.Alert.{Alert}
 use Rattle.markdown_blocks.specs.declared.blocks.BlockKind.{BlockKind}
 use Rattle.markdown_blocks.specs.declared.blocks.BlockKind.TheVariants.{Paragraph}
-use Rattle.markdown_blocks.specs.declared.containers.BlockExtensions.{BlockExtensions}
+use Rattle.markdown_values.specs.declared.values.extensions.Extensions.{Extensions}
 use Rattle.markdown_blocks.specs.declared.containers.Container.{Container}
 use Rattle.markdown_blocks.specs.declared.containers.Container.TheVariants.{Quote}
 use Rattle.markdown_blocks.specs.events.Events.{LeafBlock, IsEventsOf}
@@ -31,5 +31,5 @@ alert_at first = alert_in first.container first.block.kind first.block
 abbrev pub alerts_of : Nodes → List Alert
 alerts_of nodes = filter_map alert_at (firsts_of nodes)
 
-abbrev pub AreAlertsOf : BlockExtensions → List ℕ → List Alert → Type 0
+abbrev pub AreAlertsOf : Extensions → List ℕ → List Alert → Type 0
 AreAlertsOf asked page alerts = (nodes : Nodes) × IsEventsOf asked page (flatten nodes) × (alerts ≡ alerts_of nodes)

@@ -8,7 +8,7 @@ use Rattle.markdown_scanners_tree.specs.line.Outcome.{task_outcome}
 use Rattle.markdown_blocks.specs.blank_lines.BlankLines.{is_blank}
 use Rattle.markdown_blocks.specs.declared.blocks.BlockKind.{BlockKind}
 use Rattle.markdown_blocks.specs.declared.blocks.BlockKind.TheVariants.{Paragraph}
-use Rattle.markdown_blocks.specs.declared.containers.BlockExtensions.{BlockExtensions}
+use Rattle.markdown_values.specs.declared.values.extensions.Extensions.{Extensions}
 use Rattle.markdown_blocks.specs.declared.containers.Container.{Container}
 use Rattle.markdown_blocks.specs.declared.containers.Container.TheVariants.{Item}
 use Rattle.markdown_blocks.specs.declared.first_blocks.Task.{Task}
@@ -49,5 +49,5 @@ task_at first = task_in first.container first.block.kind first.block
 abbrev pub tasks_of : Nodes → List Task
 tasks_of nodes = filter_map task_at (firsts_of nodes)
 
-abbrev pub AreTasksOf : BlockExtensions → List ℕ → List Task → Type 0
+abbrev pub AreTasksOf : Extensions → List ℕ → List Task → Type 0
 AreTasksOf asked page tasks = (nodes : Nodes) × IsEventsOf asked page (flatten nodes) × (tasks ≡ tasks_of nodes)

@@ -10,7 +10,7 @@ use Rattle.markdown_scanners_tree.specs.scanners.list_items.ListItem.{IsListMark
 use Rattle.markdown_blocks.specs.blank_lines.BlankLines.{is_blank}
 use Rattle.markdown_blocks.specs.containers.Containers.{rest_at, without_terms}
 use Rattle.markdown_blocks.specs.declared.blocks.BlockKind.TheVariants.{Blank}
-use Rattle.markdown_blocks.specs.declared.containers.BlockExtensions.{BlockExtensions}
+use Rattle.markdown_values.specs.declared.values.extensions.Extensions.{Extensions}
 use Rattle.markdown_blocks.specs.declared.containers.Container.{Container}
 use Rattle.markdown_blocks.specs.declared.containers.Container.TheVariants.{Item}
 use Rattle.markdown_blocks.specs.blocks.Leaves.{HasIndent, IsLazy, OnFirst}
@@ -59,7 +59,7 @@ IsIndentedLine width line changed =
     ⊎ (IsTrue (is_blank line) × (changed ≡ line))
 
 -- A later line with fewer spaces, as paragraph continuation text. (rule 5)
-pub record IsLessIndented (asked : BlockExtensions) (width : ℕ) (line bare : List ℕ) : Type 0 where
+pub record IsLessIndented (asked : Extensions) (width : ℕ) (line bare : List ℕ) : Type 0 where
   pub spaces : ℕ
   pub left : ℕ
   pub rest : List ℕ
@@ -72,7 +72,7 @@ pub record IsLessIndented (asked : BlockExtensions) (width : ℕ) (line bare : L
 
 -- The blocks are one list item of these: their lines after a marker and its spaces, which stand before the first line, and as many
 -- spaces before the others. (rules 1, 2, 4 and 5)
-abbrev pub AreInItem : BlockExtensions → Lead → List Piece → List Piece → Type 0
+abbrev pub AreInItem : Extensions → Lead → List Piece → List Piece → Type 0
 AreInItem asked lead =
     AreIn (item_by lead) (IsItemLine lead) (IsIndentedLine (width_of lead)) (IsLessIndented asked (width_of lead))
 
@@ -95,7 +95,7 @@ pub record IsSingleBlank (piece : Piece) (pieces : List Piece) : Type 0 where
 
 -- The blocks are one list item of these, which begin with a single blank line: a marker stands before that, and one more space than
 -- the marker is wide before the others. (rule 3)
-abbrev pub AreInBlankItem : BlockExtensions → Lead → List Piece → List Piece → Type 0
+abbrev pub AreInBlankItem : Extensions → Lead → List Piece → List Piece → Type 0
 AreInBlankItem asked lead [] others = ⊥
 AreInBlankItem asked lead (piece ∷ pieces) [] = ⊥
 AreInBlankItem asked lead (piece ∷ pieces) (held ∷ others) =

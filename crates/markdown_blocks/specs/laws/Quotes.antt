@@ -5,7 +5,7 @@ use Rattle.markdown_scanners_tree.specs.Ascii.{space, greater_than_sign}
 use Rattle.markdown_scanners_tree.specs.Bytes.{begins_with, is_space_or_tab}
 use Rattle.markdown_scanners_tree.specs.line.ItemRules.{start_of}
 use Rattle.markdown_blocks.specs.containers.Containers.{without_terms}
-use Rattle.markdown_blocks.specs.declared.containers.BlockExtensions.{BlockExtensions}
+use Rattle.markdown_values.specs.declared.values.extensions.Extensions.{Extensions}
 use Rattle.markdown_blocks.specs.declared.containers.Container.TheVariants.{Quote}
 use Rattle.markdown_blocks.specs.blocks.Leaves.{IsLazy}
 use Rattle.markdown_blocks.specs.blocks.Pages.{Piece}
@@ -22,7 +22,7 @@ pub record IsQuoted (line quoted : List ℕ) : Type 0 where
   pub tabs : KeepsTabs (indent + 1 + gap) line
 
 -- the line without a marker, as paragraph continuation text: at most three spaces are left before it
-pub record IsBare (asked : BlockExtensions) (line bare : List ℕ) : Type 0 where
+pub record IsBare (asked : Extensions) (line bare : List ℕ) : Type 0 where
   pub indent : ℕ
   pub few : indent ≤ 3
   pub parts : bare ≡ replicate indent space ++ line
@@ -30,5 +30,5 @@ pub record IsBare (asked : BlockExtensions) (line bare : List ℕ) : Type 0 wher
 
 -- The blocks are one block quote of these: their lines with a marker before each, which may be left out before a paragraph's later
 -- lines, where they are paragraph continuation text. (rules 1 and 2)
-abbrev pub AreInQuote : BlockExtensions → List Piece → List Piece → Type 0
+abbrev pub AreInQuote : Extensions → List Piece → List Piece → Type 0
 AreInQuote asked = AreIn Quote IsQuoted IsQuoted (IsBare asked)

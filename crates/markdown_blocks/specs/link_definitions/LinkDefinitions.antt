@@ -10,7 +10,7 @@ use Rattle.markdown_scanners_tree.specs.linklabel.Key.{key_bytes}
 use Rattle.markdown_scanners_tree.specs.linklabel.Label.{Label, IsLabel}
 use Rattle.markdown_blocks.specs.blocks.Pages.{Piece, IsPage}
 use Rattle.markdown_blocks.specs.byte_order_mark.ByteOrderMark.{text_of}
-use Rattle.markdown_blocks.specs.declared.containers.BlockExtensions.{BlockExtensions}
+use Rattle.markdown_values.specs.declared.values.extensions.Extensions.{Extensions}
 use Rattle.markdown_blocks.specs.definitions.Definitions.{AreDefinitions}
 use Rattle.markdown_blocks.specs.events.Events.{piece_content}
 
@@ -63,7 +63,7 @@ AreNamedIn (piece ∷ later) named =
     (here : List Named) × (more : List Named) × Names (piece_content piece) here × AreNamedIn later more × (named ≡ here ++ more)
 
 -- what the definitions of a page name, with these extensions on
-pub record HasDefinitions (asked : BlockExtensions) (page : List ℕ) (named : List Named) : Type 0 where
+pub record HasDefinitions (asked : Extensions) (page : List ℕ) (named : List Named) : Type 0 where
   pub pieces : List Piece
   pub is_page : IsPage asked (text_of page) pieces
   pub are_named : AreNamedIn pieces named

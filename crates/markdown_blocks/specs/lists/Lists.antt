@@ -1,7 +1,7 @@
 -- The lists of a page. (CommonMark 0.31.2, section 5.3)
 use Rattle.std.specs.Prelude.{ℕ, suc, ◌+◌, Bool, true, false, not, ◌&&◌, ◌||◌, ◌==◌, ◌≡◌, List, [], ◌∷◌, ◌++◌, Option, Some, None, if◌then◌else◌}
 use Rattle.std.specs.Option.{option_to_list}
-use Rattle.markdown_blocks.specs.declared.containers.BlockExtensions.{BlockExtensions}
+use Rattle.markdown_values.specs.declared.values.extensions.Extensions.{Extensions}
 use Rattle.markdown_blocks.specs.declared.containers.Container.{Container}
 use Rattle.markdown_blocks.specs.declared.containers.Container.TheVariants.{Quote, Item, Footnote, TermDefinition}
 use Rattle.markdown_blocks.specs.blocks.Pages.{is_blank_kind}
@@ -155,5 +155,5 @@ children is_first depth line (container_then container place inner later) =
 abbrev pub lists_of : Nodes → List ListBlock
 lists_of nodes = lists_among 0 [] (children true 0 0 nodes)
 
-abbrev pub AreListsOf : BlockExtensions → List ℕ → List ListBlock → Type 0
+abbrev pub AreListsOf : Extensions → List ℕ → List ListBlock → Type 0
 AreListsOf asked page lists = (nodes : Nodes) × IsEventsOf asked page (flatten nodes) × (lists ≡ lists_of nodes)

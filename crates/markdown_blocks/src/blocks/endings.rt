@@ -11,7 +11,7 @@ ghost use Rattle.markdown_blocks.specs.containers.Containers.{asked_in, behind, 
 use crate::blank_lines::is_blank;
 use crate::blocks::{Ending, TextEnd};
 use crate::containers::item_markers::scan_item;
-use crate::containers::{BlockExtensions, Container, Outer, go_on};
+use crate::containers::{Container, Outer, go_on};
 use crate::footnotes::footnote_label;
 use crate::kinds::has_fed_signs;
 use crate::line::Line;
@@ -22,7 +22,7 @@ use markdown_scanners_tree::scanners::{
     HtmlBlockKind, ends_html_block, interrupts_paragraph, scan_ch_repeat, scan_closing_code_fence,
     scan_setext_heading,
 };
-use markdown_values::values::HeadingLevel;
+use markdown_values::values::{Extensions, HeadingLevel};
 
 /// Whether the line ends a block with this ending.
 #[inline(always)]
@@ -82,7 +82,7 @@ fn is_lazy(line: &Line) -> bool
 
 // Whether a line with this after its containers goes on with no paragraph.
 #[inline(always)]
-fn ends_paragraph(rest: &Rest, extensions: BlockExtensions) -> bool
+fn ends_paragraph(rest: &Rest, extensions: Extensions) -> bool
     ensures { IsTrue result ↔ EndsParagraph extensions rest.now }
 {
     if is_blank(rest.text) {
@@ -95,7 +95,7 @@ fn ends_paragraph(rest: &Rest, extensions: BlockExtensions) -> bool
 }
 
 // Whether the text interrupts a paragraph, after fewer than four columns of space.
-fn interrupts(text: &[u8], extensions: BlockExtensions) -> bool
+fn interrupts(text: &[u8], extensions: Extensions) -> bool
     ensures { IsTrue result ↔ Interrupts extensions text.now }
 {
     if interrupts_paragraph(text) && !has_fed_signs(text) {
@@ -105,7 +105,7 @@ fn interrupts(text: &[u8], extensions: BlockExtensions) -> bool
 }
 
 // Whether the marker of a footnote definition or of an item with text stands at the front.
-fn interrupts_by_marker(text: &[u8], extensions: BlockExtensions) -> bool
+fn interrupts_by_marker(text: &[u8], extensions: Extensions) -> bool
     ensures { result ≡ interrupts_by_marker extensions text.now }
 {
     (extensions.footnotes && footnote_label(text).is_some()) || begins_filled_item(text)

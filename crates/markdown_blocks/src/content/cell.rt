@@ -1,5 +1,5 @@
 //! The content of a table's cells. (GitHub Flavored Markdown 0.29, section 4.10)
-ghost use Rattle.std.specs.Prelude.{◌≡◌, ◌^◌, ◌++◌, ◌+◌, ◌<◌, ◌≤◌, [], ◌∷◌, length, IfOk, IsOk, OnOk};
+ghost use Rattle.std.specs.Prelude.{◌≡◌, ◌^◌, ◌++◌, ◌+◌, ◌<◌, ◌≤◌, [], ◌∷◌, true, false, length, IfOk, IsOk, OnOk};
 ghost use Rattle.markdown_blocks.specs.cells.Contents.{bytes_of_cell, content_of_cell, escape_at, escapes_pipe, unescaped, unescaped_places};
 ghost use Rattle.markdown_blocks.specs.content.Bytes.{AreBytesOf};
 
@@ -64,8 +64,11 @@ fn escapes_pipe(bytes: &[u8]) -> bool
 fn lent<'a>(alloc: Global, text: &'a [u8], place: usize) -> Content<'a>
     requires fits { place + length text.now < 2 ^ 64 }
     requires none { escape_at text.now ≡ length text.now }
-    ensures { result
-        ≡ record { text = unescaped text.now; places = unescaped_places place text.now } }
+    ensures { result ≡ record {
+      text = unescaped text.now;
+      places = unescaped_places place text.now;
+      is_lent = true;
+    } }
 {
     Content {
         lent: text,
@@ -82,9 +85,13 @@ fn lent<'a>(alloc: Global, text: &'a [u8], place: usize) -> Content<'a>
 // The content of a cell: what stands before the first backslash that escapes a pipe, and what
 // stands after each.
 fn built<'a>(alloc: Global, text: &[u8], place: usize) -> Result<Content<'a>, AllocError>
-    requires { place + length text.now < 2 ^ 64 }
-    ensures { IfOk result (λ content. content
-        ≡ record { text = unescaped text.now; places = unescaped_places place text.now }) }
+    requires fits { place + length text.now < 2 ^ 64 }
+    requires some { escape_at text.now < length text.now }
+    ensures { IfOk result (λ content. content ≡ record {
+      text = unescaped text.now;
+      places = unescaped_places place text.now;
+      is_lent = false;
+    }) }
 {
     let mut bytes = Vec::new(alloc);
     let mut segments = Vec::new(alloc);

@@ -2,7 +2,7 @@
 ghost use Rattle.std.specs.Prelude.{◌≡◌, ◌↔◌, ◌++◌, ◌+◌, ◌-◌, ◌<◌, ◌≤◌, List, ℕ, true, drop, length, take, IsTrue, None, Some};
 ghost use Rattle.markdown_scanners_tree.specs.scanners.TextLines.{lines_of};
 ghost use Rattle.markdown_blocks.specs.blocks.Leaves.{ClosesFence, In};
-ghost use Rattle.markdown_blocks.specs.containers.Containers.{all_extensions, begun_at};
+ghost use Rattle.markdown_blocks.specs.containers.Containers.{all_containers, begun_at};
 ghost use Rattle.markdown_blocks.specs.content.Parts.{AreInner, IsLeftOut, after_containers, after_indent, after_width, first_place, heading_part};
 ghost use Rattle.markdown_blocks.specs.content.Parts.{later_place, part_at};
 ghost use Rattle.markdown_blocks.specs.content.Parts.{place_inside, text_place, without_closing, without_signs};
@@ -12,13 +12,14 @@ ghost use Rattle.markdown_blocks.specs.declared.containers.Container.{Container}
 use crate::blank_lines::is_blank;
 use crate::blocks::BlockKind;
 use crate::blocks::endings::closes_fence;
-use crate::containers::{BlockExtensions, Container, Outer, go_on, pass, scan_container};
+use crate::containers::{Container, Outer, all_containers, go_on, pass, scan_container};
 use crate::content::line_endings::written;
 use crate::info::{without_end, without_front};
 use crate::line::Line;
 use crate::taken::Taken;
 use markdown_scanners_tree::line::LineStart;
 use markdown_scanners_tree::scanners::{line_head, scan_ch_repeat};
+use markdown_values::values::Extensions;
 
 /// A part of a line: so many columns of this filler, in place of the byte before this place, and the
 /// bytes from there on.
@@ -279,7 +280,7 @@ pub(crate) fn first_place<'a>(
     ensures bytes { result.bytes ≡ line.now }
 {
     let (before, begun) = containers.split_at(kept.min(containers.len()));
-    let (_, mut start) = go_on(line, &Outer::new(BlockExtensions::none(), before));
+    let (_, mut start) = go_on(line, &Outer::new(Extensions::none(), before));
     let mut left = begun.len();
     while left > 0 {
         if !pass_marker(line, &mut start) {
@@ -294,8 +295,8 @@ pub(crate) fn first_place<'a>(
 fn pass_marker<'a>(line: &'a [u8], start: &mut LineStart<'a>) -> bool
     requires { start.old.bytes ≡ line.now }
     ensures passed { IsTrue result → (container : Container)
-        × (begun_at all_extensions start.old ≡ Some (container, start.new)) }
-    ensures none { ¬ IsTrue result → (begun_at all_extensions start.old ≡ None) }
+        × (begun_at all_containers start.old ≡ Some (container, start.new)) }
+    ensures none { ¬ IsTrue result → (begun_at all_containers start.old ≡ None) }
     ensures unchanged { ¬ IsTrue result → (start.new ≡ start.old) }
     ensures bytes { start.new.bytes ≡ line.now }
 {
@@ -303,7 +304,7 @@ fn pass_marker<'a>(line: &'a [u8], start: &mut LineStart<'a>) -> bool
         return false;
     };
     let indent = start.scan_space_upto(4);
-    let Some(_) = scan_container(line, start, indent, BlockExtensions::all()) else {
+    let Some(_) = scan_container(line, start, indent, all_containers()) else {
         *start = before;
         return false;
     };

@@ -1,4 +1,5 @@
 use Rattle.std.proofs.Common.{sym, ◌∙◌}
+use Rattle.std.proofs.lemmas.Bool.{not-false}
 use Rattle.markdown_blocks.proofs.kinds.KindLemmas.{not_given}
 use Rattle.markdown_blocks.proofs.tables.TableLemmas.{no_delimiter, no_head}
 use Rattle.markdown_blocks.proofs.blocks.head_columns.Goals as goal
@@ -19,7 +20,7 @@ returns-then-ends c =
 
 pub returns : goal.returns
 returns c = (
-  rw (c.extensions.ensures, c.outer.ensures) at c.if-extensions.false,
+  not-false _ (rw (c.extensions.ensures, c.outer.ensures) at c.if-not-extensions.false),
   not_given c.if-ends.false c.ends.ensures.1,
   c.in_ok-columns.ensures,
   sym c.count_cells.ensures ∙ sym c.if-columns-count_cells.false,

@@ -26,7 +26,7 @@ invariant_of-result c =
     let all = l.invariant.3 (subst (AllByRecursion (IsIn c.args.later.lines.now)) (sym none) tt) in
     let within = subst (λ t. c.content_len-end.result ≤ length t) c.deref.ensures.value c.content_len-end.ensures.within in
     begun_held c.args.later.lines.now p later l.text.items c.truncate.new.self.items l.segments.items c.content_len-end.result
-    text segs c.truncate.ensures.items within (c.requires, all) c.ranges.later.0
+    text segs c.truncate.ensures.items within (c.requires.inside, all) c.ranges.later.0
 
 pub returns : goal.returns
 returns c =
@@ -38,5 +38,5 @@ returns c =
     let segs = segments_all l.segments.items _ _ (parts_left l.rest) none l.invariant.2 in
     let within = subst (λ t. c.content_len-end.result ≤ length t) c.deref.ensures.value c.content_len-end.ensures.within in
     begun_seen c.args.later.lines.now p later l.text.items c.truncate.new.self.items l.segments.items c.content_len-end.result
-    text segs c.truncate.ensures.items within
+    text segs c.truncate.ensures.items within c.requires.broken
     ∙ ap (λ m. front m (joined (p ∷ later))) (c.content_len-end.ensures.length ∙ ap (content_len c.args.kind) (c.deref.ensures.value ∙ text))

@@ -2,18 +2,24 @@
 use Rattle.std.proofs.Common.{ℕ, zero, suc, ◌+◌, ◌-◌, ◌^◌, ◌<◌, ◌≤◌, Bool, true, false, List, [], ◌∷◌, ◌++◌, length, take, drop, map, get_or, if◌then◌else◌}
 use Rattle.std.proofs.Common.{◌≡◌, ◌≢◌, refl, sym, ap, subst, inl, inr, min, ◌∙◌, arith, append-nil, append_assoc, length-append}
 use Rattle.std.specs.List.{flat_map, range_with_len}
-use Rattle.std.proofs.lemmas.Bool.Decides.{leb_tells}
+use Rattle.std.specs.Prelude.{◌==◌, ◌||◌}
+use Rattle.std.proofs.lemmas.Bool.{eqb-true}
+use Rattle.std.proofs.lemmas.Bool.Decides.{eqb_tells, leb_tells}
 use Rattle.std.proofs.lemmas.List.{drop_all, get_or-drop, get_or-take, drop_more, length-drop, length-take, length-take-le}
 use Rattle.std.proofs.lemmas.List.FromFn.{get_or-map-range_with_len, length-range_with_len}
 use Rattle.std.proofs.Math.Seq.{take-length}
 use Rattle.markdown_blocks.specs.cells.Contents.{bytes_of_cell, content_of_cell, escape_at, escapes_pipe, unescaped, unescaped_places}
-use Rattle.markdown_scanners_tree.specs.Ascii.{space}
+use Rattle.markdown_scanners_tree.specs.Ascii.{backslash, space, vertical_line}
+use Rattle.markdown_scanners_tree.specs.Bytes.{begins_with}
+use Rattle.markdown_scanners_tree.specs.scanners.tables.DelimiterRow.{is_pipe}
+use Rattle.markdown_scanners_tree.proofs.PrefixLemmas.{both_true}
 use Rattle.markdown_blocks.specs.content.Bytes.{AreBytesOf, IsByteAt}
 use Rattle.markdown_blocks.specs.content.Content.{Placed, places_of, text_of}
 use Rattle.markdown_blocks.specs.content.Parts.{Part}
 use Rattle.markdown_blocks.specs.content.Segments.{Held, Rising, place_at, segments_from}
 use Rattle.markdown_blocks.specs.declared.cells.Cell.{Cell}
 use Rattle.markdown_blocks.specs.declared.content.Segment.{Segment}
+use Rattle.markdown_blocks.proofs.content.RunLemmas.{is_run_decided}
 use Rattle.markdown_blocks.proofs.content.SegmentLemmas.{lent_seen, places_all, rising_parts, seen, start}
 
 -- the bytes before the first backslash that escapes a pipe, and those after each
@@ -149,6 +155,27 @@ places_below place limit (b ∷ bs) i fits = by (escapes_pipe (b ∷ bs)) refl i
     by false is zero here = rw is (omega (arith, fits))
     by false is (suc i) here = rw is (here i)
 
+-- where a pipe is escaped, that stays
+not_none : (n : ℕ) → 0 < n → (n == 0) ≡ false
+not_none n some = elim (eqb_tells n 0) [
+  | inl same ↦ absurd (omega (arith, some, same.1))
+  | inr apart ↦ apart.0
+]
+
+pipe_left : (bytes : List ℕ) → begins_with is_pipe bytes ≡ true → 0 < length (unescaped bytes)
+pipe_left [] begins = absurd (cc)
+pipe_left (b ∷ bs) begins =
+    let pipe : b ≡ vertical_line = eqb-true b vertical_line begins in
+    rw pipe (omega arith)
+
+some_left : (bytes : List ℕ) → escape_at bytes < length bytes → 0 < length (unescaped bytes)
+some_left [] low = absurd (omega (arith, low))
+some_left (b ∷ bs) low = by (escapes_pipe (b ∷ bs)) refl
+  where
+    by : (s : Bool) → escapes_pipe (b ∷ bs) ≡ s → 0 < length (unescaped (b ∷ bs))
+    by true is = rw is (pipe_left bs (both_true (b == backslash) (begins_with is_pipe bs) is).1)
+    by false is = rw is (omega arith)
+
 -- what is built of all runs
 module _ (place : ℕ) (bytes text : List ℕ) (segments : List Segment) (rest : List ℕ) (end : ℕ) (none : rest ≡ [])
     (texts : text ++ flat_map text_of (later_runs end rest) ≡ flat_map text_of (runs place bytes))
@@ -162,14 +189,22 @@ module _ (place : ℕ) (bytes text : List ℕ) (segments : List Segment) (rest :
   segments_are : segments ≡ segments_from 0 (runs place bytes)
   segments_are = sym (append-nil segments) ∙ ap (λ ps. segments ++ segments_from (length text) ps) (sym no_more) ∙ all
 
-  pub all_seen : seen text (start 0) segments ≡ record { text = unescaped bytes; places = unescaped_places place bytes }
-  all_seen =
+  all_placed : seen false text (start 0) segments ≡ record { text = unescaped bytes; places = unescaped_places place bytes; is_lent = false }
+  all_placed =
       let n = length (flat_map text_of (runs place bytes)) in
-      ap (λ t. record { text = t; places = map (place_at (start 0) segments) (range_with_len 0 (length t)) }) text_is
-      ∙ ap (λ ss. record { text = flat_map text_of (runs place bytes); places = map (place_at (start 0) ss) (range_with_len 0 n) }) segments_are
-      ∙ ap (λ ps. record { text = flat_map text_of (runs place bytes); places = ps }) (places_all (start 0) 0 (runs place bytes))
-      ∙ ap (λ t. record { text = t; places = flat_map places_of (runs place bytes) }) (runs_text place bytes)
-      ∙ ap (λ ps. record { text = unescaped bytes; places = ps }) (runs_places place bytes)
+      ap (λ t. record { text = t; places = map (place_at (start 0) segments) (range_with_len 0 (length t)); is_lent = false }) text_is
+      ∙ ap (λ ss. record { text = flat_map text_of (runs place bytes); places = map (place_at (start 0) ss) (range_with_len 0 n); is_lent = false })
+      segments_are
+      ∙ ap (λ ps. record { text = flat_map text_of (runs place bytes); places = ps; is_lent = false }) (places_all (start 0) 0 (runs place bytes))
+      ∙ ap (λ t. record { text = t; places = flat_map places_of (runs place bytes); is_lent = false }) (runs_text place bytes)
+      ∙ ap (λ ps. record { text = unescaped bytes; places = ps; is_lent = false }) (runs_places place bytes)
+
+  pub all_seen : escape_at bytes < length bytes
+      → seen (length text == 0) text (start 0) segments ≡ record { text = unescaped bytes; places = unescaped_places place bytes; is_lent = false }
+  all_seen some =
+      let text_left : text ≡ unescaped bytes = text_is ∙ runs_text place bytes in
+      let kept : (length text == 0) ≡ false = ap (λ t. length t == 0) text_left ∙ not_none (length (unescaped bytes)) (some_left bytes some) in
+      ap (λ q. seen q text (start 0) segments) kept ∙ all_placed
 
   pub all_held : place + length bytes < 2 ^ 64 → Held [] text (start 0) segments
   all_held fits = record {
@@ -180,47 +215,50 @@ module _ (place : ℕ) (bytes text : List ℕ) (segments : List Segment) (rest :
         let f = place_at (start 0) segments in
         let n = length text in
         let at : get_or (map f (range_with_len 0 n)) offset 0 ≡ f offset = get_or-map-range_with_len f 0 n offset offset 0 low (omega arith) in
-        let is : map f (range_with_len 0 n) ≡ unescaped_places place bytes = ap (λ (p : Placed). p.places) all_seen in
+        let is : map f (range_with_len 0 n) ≡ unescaped_places place bytes = ap (λ (p : Placed). p.places) all_placed in
         subst (λ m. m < 2 ^ 64) at (subst (λ ms. get_or ms offset 0 < 2 ^ 64) (sym is) (places_below place (2 ^ 64) bytes offset fits));
   }
 
 -- what is lent
-pub lent_runs : (bytes : List ℕ) (place : ℕ) → escape_at bytes ≡ length bytes
-    → seen bytes (start place) [] ≡ record { text = unescaped bytes; places = unescaped_places place bytes }
-lent_runs bytes place none =
+pub lent_runs : (bytes : List ℕ) (from : ℕ) → escape_at bytes ≡ length bytes
+    → seen true bytes (start from) [] ≡ record { text = unescaped bytes; places = unescaped_places from bytes; is_lent = true }
+lent_runs bytes from none =
     let n = length bytes in
-    let run : Part = record { columns = 0; filler = space; place = place; bytes = bytes } in
+    let run : Part = record { columns = 0; filler = space; place = from; bytes = bytes } in
     let whole : take (escape_at bytes) bytes ≡ bytes = ap (λ k. take k bytes) none ∙ take-length bytes in
-    let no_more : later_runs place bytes ≡ [] =
-    runs_on place bytes ∙ ap (later_runs (place + escape_at bytes)) (drop_all (escape_at bytes) bytes (omega (arith, none))) in
-    let alone : runs place bytes ≡ run ∷ [] =
-    ap (λ ps. run_part place bytes ∷ ps) no_more ∙ ap (λ bs. record { columns = 0; filler = space; place = place; bytes = bs } ∷ []) whole in
-    let text : flat_map text_of (run ∷ []) ≡ unescaped bytes = ap (flat_map text_of) (sym alone) ∙ runs_text place bytes in
-    let places : flat_map places_of (run ∷ []) ≡ unescaped_places place bytes = ap (flat_map places_of) (sym alone) ∙ runs_places place bytes in
+    let no_more : later_runs from bytes ≡ [] =
+    runs_on from bytes ∙ ap (later_runs (from + escape_at bytes)) (drop_all (escape_at bytes) bytes (omega (arith, none))) in
+    let alone : runs from bytes ≡ run ∷ [] =
+    ap (λ ps. run_part from bytes ∷ ps) no_more ∙ ap (λ bs. record { columns = 0; filler = space; place = from; bytes = bs } ∷ []) whole in
+    let text : flat_map text_of (run ∷ []) ≡ unescaped bytes = ap (flat_map text_of) (sym alone) ∙ runs_text from bytes in
+    let places : flat_map places_of (run ∷ []) ≡ unescaped_places from bytes = ap (flat_map places_of) (sym alone) ∙ runs_places from bytes in
     let joined_text : bytes ++ [] ≡ bytes = append-nil bytes in
-    let count : length (range_with_len place n ++ []) ≡ n = ap length (append-nil (range_with_len place n)) ∙ length-range_with_len place n in
-    ap (λ t. seen t (start place) []) (sym (take-length bytes))
-    ∙ lent_seen bytes place n (run ∷ []) (omega arith) (joined_text, (refl, refl, tt))
-    ∙ ap (λ t. record { text = t; places = take n (range_with_len place n ++ []) })
+    let count : length (range_with_len from n ++ []) ≡ n = ap length (append-nil (range_with_len from n)) ∙ length-range_with_len from n in
+    ap (λ t. seen true t (start from) []) (sym (take-length bytes))
+    ∙ lent_seen bytes from n (run ∷ []) (omega arith) (joined_text, (refl, refl, tt))
+    ∙ ap (λ q. record { text = take n (bytes ++ []); places = take n (range_with_len from n ++ []); is_lent = q || n == 0 })
+    (is_run_decided from (run ∷ []) (refl, refl, tt))
+    ∙ ap (λ t. record { text = t; places = take n (range_with_len from n ++ []); is_lent = true })
     (ap (take n) joined_text ∙ take-length bytes ∙ sym joined_text ∙ text)
-    ∙ ap (λ ps. record { text = unescaped bytes; places = ps })
-    (ap (λ k. take k (range_with_len place n ++ [])) (sym count) ∙ take-length (range_with_len place n ++ []) ∙ places)
+    ∙ ap (λ ps. record { text = unescaped bytes; places = ps; is_lent = true })
+    (ap (λ k. take k (range_with_len from n ++ [])) (sym count) ∙ take-length (range_with_len from n ++ []) ∙ places)
 
 pub no_bytes : (bytes : List ℕ) → length bytes < 1 → bytes ≡ []
 no_bytes [] few = refl
 no_bytes (b ∷ bs) few = absurd (omega arith)
 
 -- where a cell begins in its row, or after it
-pub content_is : (row : List ℕ) (cell : Cell) (place : ℕ) (bytes : List ℕ) → bytes ≡ bytes_of_cell row cell → place ≡ min cell.start (length row)
-    → (length row ≤ cell.start → bytes ≡ [])
-    → record { text = unescaped bytes; places = unescaped_places place bytes } ≡ content_of_cell row cell
-content_is row cell place bytes is at none =
+pub content_is : (row : List ℕ) (cell : Cell) (place : ℕ) (bytes : List ℕ) (lent : Bool) → bytes ≡ bytes_of_cell row cell → place ≡ min cell.start (length row)
+    → (length row ≤ cell.start → bytes ≡ []) → (escape_at bytes == length bytes) ≡ lent
+    → record { text = unescaped bytes; places = unescaped_places place bytes; is_lent = lent } ≡ content_of_cell row cell
+content_is row cell place bytes lent is at none whole =
     let same : unescaped_places place bytes ≡ unescaped_places cell.start bytes = elim (leb_tells (length row) cell.start) [
       | inl past ↦ (let empty = none past.1 in ap (unescaped_places place) empty ∙ sym (ap (unescaped_places cell.start) empty))
       | inr inside ↦ ap (λ p. unescaped_places p bytes) (omega (arith, at, inside.1))
     ] in
-    ap (λ ps. record { text = unescaped bytes; places = ps }) same
-    ∙ ap (λ b. record { text = unescaped b; places = unescaped_places cell.start b }) is
+    ap (λ ps. record { text = unescaped bytes; places = ps; is_lent = lent }) same
+    ∙ ap (λ q. record { text = unescaped bytes; places = unescaped_places cell.start bytes; is_lent = q }) (sym whole)
+    ∙ ap (λ b. record { text = unescaped b; places = unescaped_places cell.start b; is_lent = escape_at b == length b }) is
 
 -- each byte stands in the row at its place
 abbrev Stands : List ℕ → ℕ → List ℕ → Type 0
@@ -277,3 +315,10 @@ not_same bytes cell n is at low other same =
     let small : escape_at bytes < length bytes = omega (arith, at, low, other) in
     let size : length (unescaped bytes) ≡ length bytes = ap (λ b. length (unescaped b)) is ∙ ap length same ∙ ap length (sym is) in
     absurd (omega (arith, fewer bytes small, size))
+
+-- a pipe is escaped
+pub escaped_apart : (bytes : List ℕ) (n : ℕ) → n ≡ escape_at bytes → n ≢ length bytes → (escape_at bytes == length bytes) ≡ false
+escaped_apart bytes n at other = elim (eqb_tells (escape_at bytes) (length bytes)) [
+  | inl same ↦ absurd (other (at ∙ same.1))
+  | inr apart ↦ apart.0
+]

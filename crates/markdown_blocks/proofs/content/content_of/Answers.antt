@@ -13,6 +13,7 @@ use Rattle.markdown_blocks.proofs.content.ByteLemmas.{content_bytes}
 use Rattle.markdown_blocks.proofs.content.Utf8Lemmas.{content_utf8}
 use Rattle.markdown_blocks.proofs.content.NoReturn.{content_none}
 use Rattle.markdown_blocks.proofs.content.OneContent.{one_list_of_parts}
+use Rattle.markdown_blocks.proofs.content.RunLemmas.{no_one_run}
 use Rattle.markdown_blocks.proofs.content.content_of.Goals as goal
 
 pub returns-in-Err-clause-lent : goal.returns-in-Err-clause-lent
@@ -140,3 +141,6 @@ returns-in-Err-clause-utf8 c = built_utf8 c.built.result c.args.kind c.args.cont
 
 pub returns-in-Err-clause-endings : goal.returns-in-Err-clause-endings
 returns-in-Err-clause-endings c = built_endings c.built.result c.args.kind c.args.containers.now c.args.kept c.args.lines.now (returns-in-Err-clause-content c)
+
+pub built-requires-clause-broken : goal.built-requires-clause-broken
+built-requires-clause-broken c = ap (λ (p : Placed). p.is_lent) c.in-Err.ensures.joined ∙ no_one_run (parts_left c.of-parts.result) c.in-Err.ensures.none

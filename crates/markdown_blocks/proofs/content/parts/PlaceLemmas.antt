@@ -10,7 +10,7 @@ use Rattle.markdown_scanners_tree.specs.Bytes.{begins_with, is_at_line_end, is_s
 use Rattle.markdown_scanners_tree.specs.line.State.{LineState, unscanned, rest_of, leading_spaces, space_within, after_space, columns_further}
 use Rattle.markdown_scanners_tree.proofs.line.SpaceLemmas.{none_at_front}
 use Rattle.markdown_scanners_tree.proofs.line.StepLemmas.{no_space_taken, rest-none}
-use Rattle.markdown_blocks.specs.containers.Containers.{all_extensions, begun_at, begun_behind, behind, behind_quote, within, within_quote, within_width}
+use Rattle.markdown_blocks.specs.containers.Containers.{all_containers, begun_at, begun_behind, behind, behind_quote, within, within_quote, within_width}
 use Rattle.markdown_blocks.specs.content.Parts.{after_containers, after_indent, after_markers, after_width, first_place}
 use Rattle.markdown_blocks.specs.declared.containers.Container.{Container}
 use Rattle.markdown_blocks.specs.declared.containers.Container.TheVariants.{Quote, Item, Footnote, TermDefinition}
@@ -33,18 +33,18 @@ goes-some blank more c inner s t some = ap (goes blank c inner s) some
 marks : ℕ → LineState → Option (Container × LineState) → LineState
 marks n s found = elim found [ Some r ↦ after_markers n r.1 | None ↦ s ]
 
-pub marks-none : (n : ℕ) (s : LineState) → begun_at all_extensions s ≡ None → after_markers (suc n) s ≡ s
+pub marks-none : (n : ℕ) (s : LineState) → begun_at all_containers s ≡ None → after_markers (suc n) s ≡ s
 unfolding marks
 marks-none n s none = ap (marks n s) none
 
-pub marks-some : (n : ℕ) (s t : LineState) (c : Container) → begun_at all_extensions s ≡ Some (c, t) → after_markers (suc n) s ≡ after_markers n t
+pub marks-some : (n : ℕ) (s t : LineState) (c : Container) → begun_at all_containers s ≡ Some (c, t) → after_markers (suc n) s ≡ after_markers n t
 unfolding marks
 marks-some n s t c some = ap (marks n s) some
 
 pub marker_here : (s t : LineState) (indent : ℕ) (found : Option (Container × LineState)) → indent ≡ space_within 4 s → t ≡ after_space 4 s
-    → begun_behind all_extensions indent t ≡ found → begun_at all_extensions s ≡ found
+    → begun_behind all_containers indent t ≡ found → begun_at all_containers s ≡ found
 marker_here s t indent found columns is here =
-    subst (λ n. begun_behind all_extensions n (after_space 4 s) ≡ found) columns (subst (λ z. begun_behind all_extensions indent z ≡ found) is here)
+    subst (λ n. begun_behind all_containers n (after_space 4 s) ≡ found) columns (subst (λ z. begun_behind all_containers indent z ≡ found) is here)
 
 pub first_is : (kept few begun : ℕ) (outer before : List Container) (line : List ℕ) (s : LineState) → few ≡ min kept (length outer)
     → before ≡ take few outer → begun ≡ length outer - few → s ≡ (behind before line).state

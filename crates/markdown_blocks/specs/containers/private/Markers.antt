@@ -5,14 +5,14 @@ use Rattle.markdown_scanners_tree.specs.Bytes.{is_digit, is_blank as is_white}
 use Rattle.markdown_scanners_tree.specs.line.State.{LineState, unscanned}
 use Rattle.markdown_scanners_tree.specs.scanners.list_items.ListMarker.{is_bullet}
 use Rattle.markdown_blocks.specs.containers.ItemMarkers.{further_spaces}
-use Rattle.markdown_blocks.specs.declared.containers.BlockExtensions.{BlockExtensions}
+use Rattle.markdown_values.specs.declared.values.extensions.Extensions.{Extensions}
 
 -- the first byte of the marker of an item
 abbrev pub is_item_byte : ℕ → Bool
 is_item_byte b = is_bullet b || is_digit b
 
 -- that of a block quote, or with these extensions on of a footnote definition or the definition of a term
-abbrev pub is_other_byte : BlockExtensions → ℕ → Bool
+abbrev pub is_other_byte : Extensions → ℕ → Bool
 is_other_byte asked b =
     b == greater_than_sign || ((asked.footnotes && b == left_bracket) || (asked.definition_lists && b == colon))
 

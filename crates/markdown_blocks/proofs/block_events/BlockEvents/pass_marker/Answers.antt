@@ -5,6 +5,7 @@ use Rattle.markdown_blocks.proofs.block_events.BlockEvents.pass_marker.Goals as 
 pub returns-clause-passed : goal.returns-clause-passed
 returns-clause-passed c =
     let after = marker_passed c.self.inside.start c.scan_space_upto-indent.new.self c.scan_container.new.start c.scan_space_upto-indent.result
-    c.scan_container.result c.scan_space_upto-indent.ensures.answer c.scan_space_upto-indent.ensures.state (rw c.all.ensures at c.scan_container.ensures.found)
-    (rw c.all.ensures at c.scan_container.ensures.none) c.scan_container.ensures.unchanged in
+    c.scan_container.result c.scan_space_upto-indent.ensures.answer c.scan_space_upto-indent.ensures.state
+    (rw c.all_containers.ensures at c.scan_container.ensures.found)
+    (rw c.all_containers.ensures at c.scan_container.ensures.none) c.scan_container.ensures.unchanged in
     rw (← c.self.view_is, after) refl

@@ -1,5 +1,5 @@
 use Rattle.std.proofs.Common.{ℕ, ◌+◌, ◌-◌, ◌≤◌, ap, length, sym, subst, refl, arith}
-use Rattle.std.specs.Prelude.{◌++◌}
+use Rattle.std.specs.Prelude.{◌++◌, ◌==◌}
 use Rattle.markdown_blocks.specs.content.Content.{IsRunOf, Placed}
 use Rattle.markdown_blocks.specs.declared.content.Run.{Run}
 use Rattle.markdown_blocks.proofs.content.SegmentLemmas.{byte_run, column_run, seen}
@@ -11,10 +11,11 @@ returns-then-further-segment-clause-run c =
     let e = c.segment_at-end.ensures in
     let within : c.segment_at-end.result.1 ≤ length (i.lent.now ++ i.built.items) = omega (arith, e.within, ap length c.text.ensures, ap (λ (v : Placed). length v.text) c.self.view_is) in
     let text = i.lent.now ++ i.built.items in
+    let lent = length i.built.items == 0 in
     let run : ℕ → Run = λ place. record { start = c.args.offset; end = c.args.offset + 1; place = place } in
     subst (λ (v : Placed). IsRunOf v (run c.saturating_sub.result)) c.self.view_is
-    (subst (λ place. IsRunOf (seen text i.first i.later.items) (run place)) (sym c.saturating_sub.ensures)
-    (column_run (i.lent.now ++ i.built.items) i.first i.later.items c.args.offset c.segment_at-end.result.0 c.segment_at-end.result.1
+    (subst (λ place. IsRunOf (seen lent text i.first i.later.items) (run place)) (sym c.saturating_sub.ensures)
+    (column_run lent (i.lent.now ++ i.built.items) i.first i.later.items c.args.offset c.segment_at-end.result.0 c.segment_at-end.result.1
     e.begins e.ends within (rw c.deref.ensures.value at e.places) c.if-further-segment.true))
 
 pub returns-clause-run : goal.returns-clause-run
@@ -26,5 +27,5 @@ returns-clause-run c =
     let begin = c.args.offset - (c.args.offset - s.offset - s.columns) in
     let run : Run = record { start = begin; end = c.segment_at-end.result.1; place = s.place } in
     subst (λ (v : Placed). IsRunOf v run) c.self.view_is
-    (byte_run (i.lent.now ++ i.built.items) i.first i.later.items c.args.offset c.segment_at-end.result.0 c.segment_at-end.result.1
+    (byte_run (length i.built.items == 0) (i.lent.now ++ i.built.items) i.first i.later.items c.args.offset c.segment_at-end.result.0 c.segment_at-end.result.1
     e.begins e.ends within (rw c.deref.ensures.value at e.places) begin refl c.if-further-segment.false)

@@ -65,10 +65,10 @@ pub invariant_of-result : goal.invariant_of-result
 invariant_of-result c =
     let l = c.loop-rest in
     all_held c.args.place c.args.text.now l.bytes.items l.segments.items l.rest.now l.end (no_bytes l.rest.now c.in_default.len_below)
-    l.invariant.0 l.invariant.1 c.requires
+    l.invariant.0 l.invariant.1 c.requires.fits
 
 pub returns : goal.returns
 returns c =
     let l = c.loop-rest in
     all_seen c.args.place c.args.text.now l.bytes.items l.segments.items l.rest.now l.end (no_bytes l.rest.now c.in_default.len_below)
-    l.invariant.0 l.invariant.1
+    l.invariant.0 l.invariant.1 c.requires.some

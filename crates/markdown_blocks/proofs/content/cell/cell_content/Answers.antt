@@ -1,13 +1,18 @@
-use Rattle.std.proofs.Common.{sym, ◌∙◌, subst}
+use Rattle.std.specs.Prelude.{true, false, length}
+use Rattle.std.proofs.lemmas.Bool.{eq-eqb}
+use Rattle.markdown_blocks.specs.cells.Contents.{escape_at}
+use Rattle.std.proofs.Common.{sym, ◌∙◌, subst, arith}
 use Rattle.std.proofs.lemmas.Result.{IfOk-weaker}
 use Rattle.markdown_blocks.specs.content.Bytes.{AreBytesOf}
-use Rattle.markdown_blocks.proofs.content.cell.EscapeLemmas.{cell_bytes, content_is, not_same}
+use Rattle.markdown_blocks.proofs.content.cell.EscapeLemmas.{cell_bytes, content_is, escaped_apart, not_same}
 use Rattle.markdown_blocks.proofs.content.cell.cell_content.Goals as goal
 
 pub returns-then-escape_at-text-clause-content : goal.returns-then-escape_at-text-clause-content
 returns-then-escape_at-text-clause-content c =
-    c.lent.ensures ∙ content_is c.args.row.now c.args.cell c.min-place.result c.bytes_of_cell-text.result.now c.bytes_of_cell-text.ensures.bytes
+    c.lent.ensures ∙ content_is c.args.row.now c.args.cell c.min-place.result c.bytes_of_cell-text.result.now true c.bytes_of_cell-text.ensures.bytes
     c.min-place.ensures c.bytes_of_cell-text.ensures.none
+    (eq-eqb (escape_at c.bytes_of_cell-text.result.now) (length c.bytes_of_cell-text.result.now)
+    (omega (arith, c.escape_at.ensures.length, c.if-escape_at-text.true)))
 
 pub returns-then-escape_at-text-clause-bytes : goal.returns-then-escape_at-text-clause-bytes
 returns-then-escape_at-text-clause-bytes c =
@@ -15,8 +20,9 @@ returns-then-escape_at-text-clause-bytes c =
 
 pub returns-clause-content : goal.returns-clause-content
 returns-clause-content c =
-    IfOk-weaker c.built.result _ _ (λ content is. is ∙ content_is c.args.row.now c.args.cell c.min-place.result c.bytes_of_cell-text.result.now
-    c.bytes_of_cell-text.ensures.bytes c.min-place.ensures c.bytes_of_cell-text.ensures.none) c.built.ensures
+    IfOk-weaker c.built.result _ _ (λ content is. is ∙ content_is c.args.row.now c.args.cell c.min-place.result c.bytes_of_cell-text.result.now false
+    c.bytes_of_cell-text.ensures.bytes c.min-place.ensures c.bytes_of_cell-text.ensures.none
+    (escaped_apart c.bytes_of_cell-text.result.now c.escape_at.result c.escape_at.ensures.length c.if-escape_at-text.false)) c.built.ensures
 
 pub returns-clause-lent : goal.returns-clause-lent
 returns-clause-lent c = λ same. absurd (not_same c.bytes_of_cell-text.result.now _ c.escape_at.result c.bytes_of_cell-text.ensures.bytes
