@@ -11,7 +11,7 @@ use Rattle.ucd_category.specs.declared.GeneralCategory.TheVariants.{SpaceSeparat
 use Rattle.ucd_category.specs.declared.GeneralCategoryGroup.TheVariants.{Punctuation, Symbol}
 use Rattle.markdown_scanners_tree.specs.Ascii.{asterisk, underscore, tilde}
 use Rattle.markdown_inlines.specs.declared.delimiter_runs.DelimiterRun.{DelimiterRun}
-use Rattle.markdown_inlines.specs.declared.extensions.InlineExtensions.{InlineExtensions}
+use Rattle.markdown_values.specs.declared.values.extensions.Extensions.{Extensions}
 
 abbrev pub is_space_separator : GeneralCategory → Bool
 is_space_separator SpaceSeparator = true
@@ -78,5 +78,5 @@ pub record IsTildeRun (text : List ℕ) (place : ℕ) (run : DelimiterRun) : Typ
   pub closes : run.can_close ≡ is_right_flanking (char_before text place) (char_after text (place + run.count))
 
 -- a delimiter run begins there, or a run of tildes where strikethrough is asked for
-abbrev pub IsRunOf : InlineExtensions → List ℕ → ℕ → DelimiterRun → Type 0
+abbrev pub IsRunOf : Extensions → List ℕ → ℕ → DelimiterRun → Type 0
 IsRunOf asked text place run = IsDelimiterRun text place run ⊎ (IsTrue asked.strikethrough × IsTildeRun text place run)

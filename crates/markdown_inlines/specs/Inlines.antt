@@ -10,7 +10,7 @@ use Rattle.markdown_inlines.specs.WikiLinks.{IsHead}
 use Rattle.markdown_inlines.specs.declared.delimiter_runs.DelimiterRun.{DelimiterRun}
 use Rattle.markdown_inlines.specs.declared.emphasis.Delimiters.{Delimiters}
 use Rattle.markdown_inlines.specs.declared.emphasis.Emphasis.{Emphasis}
-use Rattle.markdown_inlines.specs.declared.extensions.InlineExtensions.{InlineExtensions}
+use Rattle.markdown_values.specs.declared.values.extensions.Extensions.{Extensions}
 use Rattle.markdown_inlines.specs.declared.links.Link.{Link}
 use Rattle.markdown_inlines.specs.declared.links.LinkTarget.{LinkTarget}
 use Rattle.markdown_inlines.specs.declared.links.LinkTarget.TheVariants.{Wiki}
@@ -121,18 +121,18 @@ IsClosed known (opener ∷ outer) reading close end next =
     EndsLink known opener outer reading close end next ⊎ EndsNone known opener outer reading close end next
 
 -- Text stands from one place up to another, and ends where another piece begins, or with the whole.
-pub record IsTextPiece (asked : InlineExtensions) (text : List ℕ) (from to : ℕ) : Type 0 where
+pub record IsTextPiece (asked : Extensions) (text : List ℕ) (from to : ℕ) : Type 0 where
   pub some : from < to
   pub only_text : HasOnlyText asked text from to
   pub ends : (to ≡ length text) ⊎ ((kind : PieceKind) × (len : ℕ) × BeginsAt asked text from to kind len)
 
 -- what a text is read with: the extensions that are asked for, and the labels that are defined
 pub record Setting : Type 0 where
-  pub asked : InlineExtensions
+  pub asked : Extensions
   pub known : Known
 
 -- a piece that begins where it is read
-pub record IsPieceAt (asked : InlineExtensions) (text : List ℕ) (piece : Piece) : Type 0 where
+pub record IsPieceAt (asked : Extensions) (text : List ℕ) (piece : Piece) : Type 0 where
   pub len : ℕ
   pub begins : BeginsAt asked text piece.start piece.start piece.kind len
   pub end_is : piece.end ≡ piece.start + len

@@ -16,7 +16,7 @@ use Rattle.markdown_inlines.specs.LineBreaks.{IsLineBreak}
 use Rattle.markdown_inlines.specs.Searches.{Searched}
 use Rattle.markdown_inlines.specs.WikiLinks.{IsOpenerEnd}
 use Rattle.markdown_inlines.specs.declared.code_spans.CodeSpan.{CodeSpan}
-use Rattle.markdown_inlines.specs.declared.extensions.InlineExtensions.{InlineExtensions}
+use Rattle.markdown_values.specs.declared.values.extensions.Extensions.{Extensions}
 use Rattle.markdown_inlines.specs.declared.pieces.Piece.{Piece}
 use Rattle.markdown_inlines.specs.declared.pieces.PieceKind.{PieceKind}
 use Rattle.markdown_inlines.specs.declared.pieces.PieceKind.TheVariants.{Text, Escape, HardBreak, SoftBreak, Reference, Code, Uri, Email, Html}
@@ -81,7 +81,7 @@ IsNoEmail rest = (len : ℕ) → ¬ IsEmailPiece rest len
 
 -- With these extensions, a piece of this kind and length begins at a place of a text, of which what stands before `from` is in other
 -- pieces. Of a code span the backtick string isn't preceded by a backtick from there on.
-abbrev pub BeginsAt : InlineExtensions → List ℕ → ℕ → ℕ → PieceKind → ℕ → Type 0
+abbrev pub BeginsAt : Extensions → List ℕ → ℕ → ℕ → PieceKind → ℕ → Type 0
 BeginsAt asked text from place Text len = ⊥
 BeginsAt asked text from place Escape len = IsEscape (drop place text) len
 BeginsAt asked text from place HardBreak len = IsLineBreak (drop place text) (record { is_hard = true; len = len })
@@ -100,12 +100,12 @@ BeginsAt asked text from place ImageOpener len =
 BeginsAt asked text from place Closer len = (occurs_at text (codes "]") place ≡ true) × (len ≡ 1)
 
 -- nothing but text begins from one place up to another
-abbrev pub HasOnlyText : InlineExtensions → List ℕ → ℕ → ℕ → Type 0
+abbrev pub HasOnlyText : Extensions → List ℕ → ℕ → ℕ → Type 0
 HasOnlyText asked text from to =
     (place : ℕ) → from ≤ place → place < to → (kind : PieceKind) (len : ℕ) → ¬ BeginsAt asked text from place kind len
 
 -- This is the next piece that is not text.
-pub record IsNext (asked : InlineExtensions) (text : List ℕ) (from : ℕ) (piece : Piece) : Type 0 where
+pub record IsNext (asked : Extensions) (text : List ℕ) (from : ℕ) (piece : Piece) : Type 0 where
   pub len : ℕ
   pub later : from ≤ piece.start
   pub only_text : HasOnlyText asked text from piece.start
@@ -115,6 +115,6 @@ pub record IsNext (asked : InlineExtensions) (text : List ℕ) (from : ℕ) (pie
 -- a text, the extensions that are asked for, a place up to which it has been read, and what has been searched up to there
 pub record ReadText : Type 0 where
   pub text : List ℕ
-  pub asked : InlineExtensions
+  pub asked : Extensions
   pub place : ℕ
   pub searched : Searched

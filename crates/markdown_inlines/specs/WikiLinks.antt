@@ -6,7 +6,7 @@ use Rattle.std.specs.declared.ops.Range.{Range}
 use Rattle.memchr.specs.Find.{occurs_at}
 use Rattle.markdown_scanners_tree.specs.Ascii.{left_bracket, right_bracket, vertical_line}
 use Rattle.markdown_scanners_tree.specs.Bytes.{is_line_ending}
-use Rattle.markdown_inlines.specs.declared.extensions.InlineExtensions.{InlineExtensions}
+use Rattle.markdown_values.specs.declared.values.extensions.Extensions.{Extensions}
 
 -- a target has no bracket, no pipe and no line ending
 abbrev pub is_target_byte : ℕ → Bool
@@ -31,7 +31,7 @@ HasNoHead text place = (target : Range ℕ) (end : ℕ) → ¬ IsHead text place
 
 -- An opener whose left bracket stands at a place ends after that bracket; where wikilinks are asked for and the head of one stands
 -- there, it ends with that.
-abbrev pub IsOpenerEnd : InlineExtensions → List ℕ → ℕ → ℕ → Type 0
+abbrev pub IsOpenerEnd : Extensions → List ℕ → ℕ → ℕ → Type 0
 IsOpenerEnd asked text place end =
     (IsTrue asked.wikilinks × (target : Range ℕ) × IsHead text place target end)
     ⊎ ((IsTrue asked.wikilinks → HasNoHead text place) × (end ≡ place + 1))

@@ -2,7 +2,7 @@
 ghost use Rattle.std.specs.Prelude.{ℕ, ◌≡◌, ◌+◌, ◌<◌, ◌≤◌, length, slice_index, IfSome, IfNone};
 ghost use Rattle.markdown_scanners_tree.specs.Ascii.{less_than_sign};
 ghost use Rattle.markdown_scanners_tree.specs.SomeExactly.{SomeExactly};
-ghost use Rattle.markdown_inlines.specs.declared.extensions.InlineExtensions.{InlineExtensions};
+ghost use Rattle.markdown_values.specs.declared.values.extensions.Extensions.{Extensions};
 ghost use Rattle.markdown_inlines.specs.Pieces.{BeginsAt, IsUriPiece, IsEmailPiece, IsTagPiece, IsHtmlPiece};
 ghost use Rattle.markdown_inlines.specs.Searches.{IsSearchedTo, html_searched, kind_searched};
 
@@ -23,7 +23,7 @@ pub(crate) fn angle_at(
     requires opens { slice_index bytes.now place ≡ less_than_sign }
     requires same { searches.old.html.text ≡ bytes.now }
     requires searched { IsSearchedTo place searches.old }
-    ensures found { (asked : InlineExtensions) (from : ℕ)
+    ensures found { (asked : Extensions) (from : ℕ)
         → SomeExactly (λ r. BeginsAt asked bytes.now from place r.0 r.1) result }
     ensures counts { IfSome result (λ r. searches.new
         ≡ kind_searched r.0 bytes.now place (place + r.1) searches.old) }

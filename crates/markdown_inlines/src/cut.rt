@@ -9,12 +9,12 @@ ghost use Rattle.markdown_inlines.specs.Sources.{AreSources, AreLinkSources, IsS
 ghost use Rattle.markdown_inlines.specs.Written.{have_runs, is_run, piece_of, pieces_of, written, written_as};
 
 use crate::emphasis::Emphasis;
-use crate::extensions::InlineExtensions;
 use crate::inlines::Inline;
 use crate::links::{Labels, Link};
 use crate::piece_scanner::PieceScanner;
 use crate::pieces::{Piece, PieceKind};
 use crate::reading::Reader;
+use markdown_values::values::Extensions;
 use std::alloc::{AllocError, Global};
 
 /// A text cut into its pieces, and what they make together.
@@ -45,7 +45,7 @@ pub fn cut_inlines<L: Labels>(
     alloc: Global,
     text: &str,
     labels: &L,
-    extensions: InlineExtensions,
+    extensions: Extensions,
 ) -> Result<Cut, AllocError>
     // It is cut as the definition has it.
     ensures cut { IfOk result (λ cut.
@@ -136,7 +136,7 @@ pub(crate) fn cut_within<L: Labels>(
     strings: &mut Vec<usize>,
     text: &str,
     labels: &L,
-    extensions: InlineExtensions,
+    extensions: Extensions,
 ) -> Result<bool, AllocError>
     ensures cut { OnOk result (
         IsCut text.now (record { asked = extensions; known = L.known labels.now })
@@ -197,7 +197,7 @@ fn read_piece<L: Labels>(
     alloc: Global,
     text: &str,
     labels: &L,
-    extensions: InlineExtensions,
+    extensions: Extensions,
     buffers: &mut CutBuffers,
     piece: Piece,
 ) -> Result<usize, AllocError>

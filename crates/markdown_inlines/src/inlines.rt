@@ -10,10 +10,10 @@ ghost use Rattle.markdown_inlines.specs.Written.{IsWithin, counted_in, is_opener
 
 use crate::cut::{CutBuffers, cut_within};
 use crate::emphasis::Emphasis;
-use crate::extensions::InlineExtensions;
 use crate::links::{Labels, Link};
 use crate::marks::{Mark, put_marks};
 use crate::pieces::{Piece, PieceKind};
+use markdown_values::values::Extensions;
 use std::alloc::{AllocError, Global};
 use std::marker::Model;
 use std::mem;
@@ -62,7 +62,7 @@ pub fn find_inlines<L: Labels>(
     alloc: Global,
     text: &str,
     labels: &L,
-    extensions: InlineExtensions,
+    extensions: Extensions,
 ) -> Result<Inlines, AllocError>
     ensures inlines { IfOk result (λ r.
         AreInlines text.now (record { asked = extensions; known = L.known labels.now })
@@ -130,7 +130,7 @@ impl InlineFinder {
         alloc: Global,
         text: &str,
         labels: &L,
-        extensions: InlineExtensions,
+        extensions: Extensions,
     ) -> Result<(), AllocError>
         ensures inlines { OnOk result (
             AreInlines text.now (record { asked = extensions; known = L.known labels.now })
@@ -162,7 +162,7 @@ impl InlineFinder {
         alloc: Global,
         text: &str,
         labels: &L,
-        extensions: InlineExtensions,
+        extensions: Extensions,
     ) -> Result<(), AllocError>
         ensures inlines { OnOk result (
             AreInlines text.now (record { asked = extensions; known = L.known labels.now })

@@ -10,7 +10,6 @@ pub mod cut;
 pub mod delimiter_runs;
 pub mod emails;
 pub mod emphasis;
-pub mod extensions;
 pub mod guarded_code_spans;
 pub mod inlines;
 pub mod line_breaks;

@@ -4,19 +4,19 @@ ghost use Rattle.memchr.specs.Find.{occurs_at};
 ghost use Rattle.markdown_scanners_tree.specs.Ascii.{ampersand, asterisk, backslash, backtick, tilde, underscore};
 ghost use Rattle.markdown_scanners_tree.specs.SomeExactly.{SomeExactly};
 ghost use Rattle.markdown_inlines.specs.Pieces.{BeginsAt, IsEscape};
-ghost use Rattle.markdown_inlines.specs.declared.extensions.InlineExtensions.{InlineExtensions};
+ghost use Rattle.markdown_values.specs.declared.values.extensions.Extensions.{Extensions};
 ghost use Rattle.markdown_inlines.specs.PieceBytes.{opens_break, opens_bracket, opens_long, run_length};
 ghost use Rattle.markdown_inlines.specs.Searches.{IsSearchedTo, backticks_searched, kind_searched, text_searched};
 
 use crate::angles::angle_at;
 use crate::delimiter_runs::{scan_delimiter_run, scan_tilde_run};
-use crate::extensions::InlineExtensions;
 use crate::line_breaks::scan_line_break;
 use crate::pieces::PieceKind;
 use crate::searches::Searches;
 use crate::wiki_links::opener_len;
 use html_entities::HtmlEntities;
 use markdown_scanners_tree::scanners::{is_ascii_punctuation, scan_entity};
+use markdown_values::values::Extensions;
 use std::alloc::{AllocError, Global};
 
 // The kind and the length of what begins at the place, which stands within no backtick string.
@@ -24,7 +24,7 @@ use std::alloc::{AllocError, Global};
 pub(crate) fn piece_at(
     alloc: Global,
     text: &str,
-    extensions: InlineExtensions,
+    extensions: Extensions,
     searches: &mut Searches,
     place: usize,
 ) -> Result<Option<(PieceKind, usize)>, AllocError>
@@ -58,11 +58,7 @@ pub(crate) fn piece_at(
 
 // What begins with a byte other than `<`, a backtick, a delimiter or a tilde.
 #[inline(always)]
-fn short_piece_at(
-    bytes: &[u8],
-    extensions: InlineExtensions,
-    place: usize,
-) -> Option<(PieceKind, usize)>
+fn short_piece_at(bytes: &[u8], extensions: Extensions, place: usize) -> Option<(PieceKind, usize)>
     requires within { place < length bytes.now }
     requires short { opens_long (slice_index bytes.now place) ≡ false }
     ensures found { (from : ℕ)
@@ -101,7 +97,7 @@ fn code_at(searches: &mut Searches, place: usize) -> Result<Option<(PieceKind, u
     requires within { place < length searches.old.html.text }
     requires opens { slice_index searches.old.html.text place ≡ backtick }
     requires searched { IsSearchedTo place searches.old }
-    ensures found { IfOk result (λ found. (asked : InlineExtensions) (from : ℕ)
+    ensures found { IfOk result (λ found. (asked : Extensions) (from : ℕ)
         → (from < place → get_or searches.old.html.text (place - 1) 0 ≢ backtick)
         → SomeExactly (λ r. BeginsAt asked searches.old.html.text from place r.0 r.1) found) }
     ensures counts { IfOk result (λ found. IfSome found (λ r. searches.new
@@ -127,7 +123,7 @@ fn delimiters_at(text: &str, place: usize) -> Option<(PieceKind, usize)>
     requires within { place < length text.now }
     requires opens { (slice_index text.now place ≡ asterisk)
         ⊎ (slice_index text.now place ≡ underscore) }
-    ensures found { (asked : InlineExtensions) (from : ℕ)
+    ensures found { (asked : Extensions) (from : ℕ)
         → SomeExactly (λ r. BeginsAt asked text.now from place r.0 r.1) result }
 {
     let run = scan_delimiter_run(text, place)?;
@@ -138,7 +134,7 @@ fn delimiters_at(text: &str, place: usize) -> Option<(PieceKind, usize)>
 //
 // It is not inlined: tildes are few, and other pieces take fewer instructions without it in their loop.
 #[inline(never)]
-fn tildes_at(text: &str, extensions: InlineExtensions, place: usize) -> Option<(PieceKind, usize)>
+fn tildes_at(text: &str, extensions: Extensions, place: usize) -> Option<(PieceKind, usize)>
     requires within { place < length text.now }
     requires opens { slice_index text.now place ≡ tilde }
     ensures found { (from : ℕ)
@@ -155,7 +151,7 @@ fn tildes_at(text: &str, extensions: InlineExtensions, place: usize) -> Option<(
 fn escape_at(bytes: &[u8], place: usize) -> Option<(PieceKind, usize)>
     requires within { place < length bytes.now }
     requires opens { slice_index bytes.now place ≡ backslash }
-    ensures found { (asked : InlineExtensions) (from : ℕ)
+    ensures found { (asked : Extensions) (from : ℕ)
         → SomeExactly (λ r. BeginsAt asked bytes.now from place r.0 r.1) result }
 {
     if is_escape(&bytes[place..]) {
@@ -181,7 +177,7 @@ fn break_at(bytes: &[u8], place: usize) -> Option<(PieceKind, usize)>
     requires within { place < length bytes.now }
     requires opens { IsTrue (opens_break (slice_index bytes.now place)) }
     requires no_escape { ¬ IsEscape (drop place bytes.now) 2 }
-    ensures found { (asked : InlineExtensions) (from : ℕ)
+    ensures found { (asked : Extensions) (from : ℕ)
         → SomeExactly (λ r. BeginsAt asked bytes.now from place r.0 r.1) result }
 {
     let line_break = scan_line_break(&bytes[place..])?;
@@ -196,7 +192,7 @@ fn break_at(bytes: &[u8], place: usize) -> Option<(PieceKind, usize)>
 fn reference_at(bytes: &[u8], place: usize) -> Option<(PieceKind, usize)>
     requires within { place < length bytes.now }
     requires opens { slice_index bytes.now place ≡ ampersand }
-    ensures found { (asked : InlineExtensions) (from : ℕ)
+    ensures found { (asked : Extensions) (from : ℕ)
         → SomeExactly (λ r. BeginsAt asked bytes.now from place r.0 r.1) result }
 {
     let len = scan_entity(&bytes[place..], &HtmlEntities).0;
@@ -207,11 +203,7 @@ fn reference_at(bytes: &[u8], place: usize) -> Option<(PieceKind, usize)>
 }
 
 // What a bracket at the place begins, or an exclamation mark there.
-fn bracket_at(
-    bytes: &[u8],
-    extensions: InlineExtensions,
-    place: usize,
-) -> Option<(PieceKind, usize)>
+fn bracket_at(bytes: &[u8], extensions: Extensions, place: usize) -> Option<(PieceKind, usize)>
     requires within { place < length bytes.now }
     requires opens { IsTrue (opens_bracket (slice_index bytes.now place)) }
     ensures found { (from : ℕ)

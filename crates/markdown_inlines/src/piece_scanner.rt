@@ -7,15 +7,15 @@ ghost use Rattle.markdown_scanners_tree.specs.Bytes.{begins_with, is_line_ending
 ghost use Rattle.markdown_inlines.specs.Pieces.{BeginsAt, ReadText, IsNext, HasOnlyText};
 ghost use Rattle.markdown_inlines.specs.PieceBytes.{is_plain_or_space, plain_length, run_length};
 ghost use Rattle.markdown_inlines.specs.Searches.{Searched, IsSearchedTo, bytes_passed, next_searched, text_searched, unsearched};
-ghost use Rattle.markdown_inlines.specs.declared.extensions.InlineExtensions.{InlineExtensions};
+ghost use Rattle.markdown_values.specs.declared.values.extensions.Extensions.{Extensions};
 ghost use Rattle.markdown_inlines.specs.declared.pieces.PieceKind.{PieceKind};
 
-use crate::extensions::InlineExtensions;
 use crate::piece_at::piece_at;
 use crate::pieces::Piece;
 use crate::searches::Searches;
 use markdown_scanners_tree::byte_sets::ByteSet;
 use markdown_scanners_tree::scanners::scan_ch_repeat;
+use markdown_values::values::Extensions;
 use std::alloc::{AllocError, Global};
 use std::marker::Model;
 
@@ -29,7 +29,7 @@ const NEITHER_PLAIN_NOR_SPACE: ByteSet = ByteSet {
 #[derive(Drop)]
 pub(crate) struct PieceScanner<'a> {
     text: &'a str,
-    extensions: InlineExtensions,
+    extensions: Extensions,
     place: usize,
     searches: Searches<'a>,
 }
@@ -53,7 +53,7 @@ impl<'a> PieceScanner<'a> {
     pub(crate) fn within(
         buffer: &'a mut Vec<usize>,
         text: &'a str,
-        extensions: InlineExtensions,
+        extensions: Extensions,
     ) -> PieceScanner<'a>
         ensures start { result ≡ record {
           text = text.now;
@@ -144,7 +144,7 @@ impl<'a> PieceScanner<'a> {
 fn next_piece(
     alloc: Global,
     text: &str,
-    extensions: InlineExtensions,
+    extensions: Extensions,
     searches: &mut Searches,
     from: usize,
 ) -> Result<Option<Piece>, AllocError>
@@ -190,7 +190,7 @@ fn past_text(bytes: &[u8], place: usize) -> usize
     requires within { place < length bytes.now }
     ensures later { place < result }
     ensures within { result ≤ length bytes.now }
-    ensures text { (asked : InlineExtensions) (from : ℕ) → from ≤ place
+    ensures text { (asked : Extensions) (from : ℕ) → from ≤ place
         → HasOnlyText asked bytes.now from place
         → ((kind : PieceKind) (len : ℕ) → ¬ BeginsAt asked bytes.now from place kind len)
         → HasOnlyText asked bytes.now from result }

@@ -8,12 +8,12 @@ ghost use Rattle.markdown_inlines.specs.Inlines.{IsWikiTarget};
 ghost use Rattle.markdown_inlines.specs.Sources.{IsTargetSource};
 ghost use Rattle.markdown_inlines.specs.WikiLinks.{is_target_byte, IsHead, IsOpenerEnd};
 
-use crate::extensions::InlineExtensions;
 use crate::links::LinkTarget;
+use markdown_values::values::Extensions;
 use std::ops::Range;
 
 // How long an opener is from its left bracket on, which stands at the place.
-pub(crate) fn opener_len(bytes: &[u8], extensions: InlineExtensions, place: usize) -> usize
+pub(crate) fn opener_len(bytes: &[u8], extensions: Extensions, place: usize) -> usize
     requires { place < length bytes.now }
     ensures ends { IsOpenerEnd extensions bytes.now place (place + result) }
     ensures within { (0 < result) × (place + result ≤ length bytes.now) }

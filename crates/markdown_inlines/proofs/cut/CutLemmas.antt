@@ -5,7 +5,7 @@ use Rattle.std.proofs.lemmas.List.{append_assoc}
 use Rattle.std.proofs.lemmas.Bool.{ltb-true, ltb-false}
 use Rattle.markdown_inlines.specs.Links.{Known}
 use Rattle.markdown_inlines.specs.Readings.{AreBefore}
-use Rattle.markdown_inlines.specs.declared.extensions.InlineExtensions.{InlineExtensions}
+use Rattle.markdown_values.specs.declared.values.extensions.Extensions.{Extensions}
 use Rattle.markdown_inlines.specs.declared.reading.Opener.{Opener}
 use Rattle.markdown_inlines.specs.Inlines.{IsClosed, with_opener, with_piece, Setting, Reading, at_start, AreRead, IsRead, IsPieceAt, text_between}
 use Rattle.markdown_inlines.specs.Pieces.{BeginsAt, HasOnlyText, IsNext}
@@ -20,7 +20,7 @@ ReadsOn setting text place reading pieces =
     → AreRead setting 0 (at_start text) (pieces ++ later) last
 
 -- a piece that begins at a place begins there where the text before it has been read
-begins_here : (asked : InlineExtensions) (text : List ℕ) (from place : ℕ) (kind : PieceKind) (len : ℕ) → BeginsAt asked text from place kind len
+begins_here : (asked : Extensions) (text : List ℕ) (from place : ℕ) (kind : PieceKind) (len : ℕ) → BeginsAt asked text from place kind len
     → BeginsAt asked text place place kind len
 begins_here asked text from place K.Text len is = is
 begins_here asked text from place K.Escape len is = is
@@ -36,7 +36,7 @@ begins_here asked text from place K.LinkOpener len is = is
 begins_here asked text from place K.ImageOpener len is = is
 begins_here asked text from place K.Closer len is = is
 
-pub next_piece_at : (asked : InlineExtensions) (text : List ℕ) (from : ℕ) (piece : Piece) → IsNext asked text from piece → IsPieceAt asked text piece
+pub next_piece_at : (asked : Extensions) (text : List ℕ) (from : ℕ) (piece : Piece) → IsNext asked text from piece → IsPieceAt asked text piece
 next_piece_at asked text from piece is = record {
   len = is.len;
   begins = begins_here asked text from piece.start piece.kind is.len is.begins;

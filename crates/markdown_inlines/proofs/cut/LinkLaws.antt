@@ -9,7 +9,7 @@ use Rattle.markdown_inlines.specs.Inlines.{Setting, IsClosed, AreRead, IsCut}
 use Rattle.markdown_inlines.specs.Links.{Known, IsTarget}
 use Rattle.markdown_inlines.specs.Pieces.{BeginsAt}
 use Rattle.markdown_inlines.specs.declared.emphasis.Emphasis.{Emphasis}
-use Rattle.markdown_inlines.specs.declared.extensions.InlineExtensions.{InlineExtensions}
+use Rattle.markdown_values.specs.declared.values.extensions.Extensions.{Extensions}
 use Rattle.markdown_inlines.specs.declared.links.Link.{Link}
 use Rattle.markdown_inlines.specs.declared.links.LinkTarget.{LinkTarget}
 use Rattle.markdown_inlines.specs.declared.links.LinkTarget.TheVariants.{Inline, Full, Collapsed, Shortcut, Wiki}
@@ -103,7 +103,7 @@ module _ (piece : Piece) (reading : Reading) (holds : Holds reading piece.start)
       old : (n : ℕ) (a : Link) → IsLinkOf (reading.links ++ None ∷ []) n a → IsLinkOf reading.links n a
       old n a is = (added_in reading.links n a is.0, is.1)
 
-  with_piece_holds : (asked : InlineExtensions) (text : List ℕ) (kind : PieceKind) (len : ℕ)
+  with_piece_holds : (asked : Extensions) (text : List ℕ) (kind : PieceKind) (len : ℕ)
       → BeginsAt asked text piece.start piece.start kind len → piece.end ≡ piece.start + len
       → Holds (with_piece kind piece reading) piece.end
   with_piece_holds asked text K.Text len begins end = moved piece.end (omega (arith, end))

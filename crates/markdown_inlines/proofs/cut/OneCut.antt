@@ -11,7 +11,7 @@ use Rattle.markdown_inlines.specs.Inlines.{Setting, IsTextPiece, IsPieceAt, IsRe
 use Rattle.markdown_inlines.specs.Pieces.{BeginsAt}
 use Rattle.markdown_inlines.specs.WikiLinks.{IsHead}
 use Rattle.markdown_inlines.specs.declared.emphasis.Emphasis.{Emphasis}
-use Rattle.markdown_inlines.specs.declared.extensions.InlineExtensions.{InlineExtensions}
+use Rattle.markdown_values.specs.declared.values.extensions.Extensions.{Extensions}
 use Rattle.markdown_inlines.specs.declared.links.Link.{Link}
 use Rattle.markdown_inlines.specs.declared.links.LinkTarget.{LinkTarget}
 use Rattle.markdown_inlines.specs.declared.links.LinkTarget.TheVariants.{Wiki}
@@ -25,7 +25,7 @@ use Rattle.markdown_inlines.proofs.pieces.Openings.{begins_class, byte_class, no
 use Rattle.markdown_inlines.proofs.wiki_links.WikiLinkLemmas.{head_ends, one_head}
 
 -- a piece begins within the text
-pub begins_within : (asked : InlineExtensions) (text : List ℕ) (from place : ℕ) (kind : PieceKind) (len : ℕ)
+pub begins_within : (asked : Extensions) (text : List ℕ) (from place : ℕ) (kind : PieceKind) (len : ℕ)
     → BeginsAt asked text from place kind len → place < length text
 begins_within asked text from place kind len begins = elim (cases_lt place (length text)) [
   | inl inside ↦ inside
@@ -89,20 +89,20 @@ one_closed known (opener ∷ outer) reading close end end' next next' is is' =
 
 -- ---- text
 
-text_within : (asked : InlineExtensions) (text : List ℕ) (from to : ℕ) → IsTextPiece asked text from to → to ≤ length text
+text_within : (asked : Extensions) (text : List ℕ) (from to : ℕ) → IsTextPiece asked text from to → to ≤ length text
 text_within asked text from to is = elim is.ends [
   | inl whole ↦ omega (arith, whole)
   | inr begins ↦ omega (arith, begins_within asked text from to begins.0 begins.1 begins.2)
 ]
 
 -- text does not end within text
-not_shorter : (asked : InlineExtensions) (text : List ℕ) (from to to' : ℕ) → IsTextPiece asked text from to → IsTextPiece asked text from to' → ¬ (to < to')
+not_shorter : (asked : Extensions) (text : List ℕ) (from to to' : ℕ) → IsTextPiece asked text from to → IsTextPiece asked text from to' → ¬ (to < to')
 not_shorter asked text from to to' is is' less = elim is.ends [
   | inl whole ↦ omega (arith, whole, less, text_within asked text from to' is')
   | inr begins ↦ is'.only_text to (omega (arith, is.some)) less begins.0 begins.1 begins.2
 ]
 
-one_text : (asked : InlineExtensions) (text : List ℕ) (from to to' : ℕ) → IsTextPiece asked text from to → IsTextPiece asked text from to' → to ≡ to'
+one_text : (asked : Extensions) (text : List ℕ) (from to to' : ℕ) → IsTextPiece asked text from to → IsTextPiece asked text from to' → to ≡ to'
 one_text asked text from to to' is is' = elim (cases_lt to to') [
   | inl less ↦ absurd (not_shorter asked text from to to' is is' less)
   | inr not_less ↦ elim (cases_lt to' to) [

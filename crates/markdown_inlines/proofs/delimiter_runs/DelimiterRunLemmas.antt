@@ -12,7 +12,7 @@ use Rattle.std.proofs.Math.Utf8.{encode}
 use Rattle.std.proofs.Math.Seq.{take-append_seam, drop-append_seam}
 use Rattle.markdown_scanners_tree.specs.Ascii.{asterisk, tilde, underscore}
 use Rattle.markdown_inlines.specs.declared.delimiter_runs.DelimiterRun.{DelimiterRun}
-use Rattle.markdown_inlines.specs.declared.extensions.InlineExtensions.{InlineExtensions}
+use Rattle.markdown_values.specs.declared.values.extensions.Extensions.{Extensions}
 use Rattle.markdown_inlines.specs.DelimiterRuns.{IsDelimiterRun, IsTildeRun, IsRunOf, can_open, can_close, char_before, char_after}
 use Rattle.markdown_inlines.specs.DelimiterRuns.{is_left_flanking, is_right_flanking}
 
@@ -159,7 +159,7 @@ no_other_run text place run there is = elim (delimiter_there text place run is) 
 ]
 
 -- whatever is asked for, one run begins at a place
-pub one_run_of : (asked : InlineExtensions) (text : List ℕ) (place : ℕ) (a b : DelimiterRun) → IsRunOf asked text place a → IsRunOf asked text place b
+pub one_run_of : (asked : Extensions) (text : List ℕ) (place : ℕ) (a b : DelimiterRun) → IsRunOf asked text place a → IsRunOf asked text place b
     → a ≡ b
 one_run_of asked text place a b (inl is_a) (inl is_b) = one_delimiter_run text place a b is_a is_b
 one_run_of asked text place a b (inl is_a) (inr is_b) = absurd (no_tilde_run text place b (delimiter_there text place a is_a) is_b.1)

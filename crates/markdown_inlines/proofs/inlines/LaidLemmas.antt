@@ -13,7 +13,7 @@ use Rattle.markdown_inlines.specs.Pieces.{BeginsAt}
 use Rattle.markdown_inlines.specs.declared.delimiter_runs.DelimiterRun.{DelimiterRun}
 use Rattle.markdown_inlines.specs.declared.emphasis.Delimiters.{Delimiters}
 use Rattle.markdown_inlines.specs.declared.emphasis.Emphasis.{Emphasis}
-use Rattle.markdown_inlines.specs.declared.extensions.InlineExtensions.{InlineExtensions}
+use Rattle.markdown_values.specs.declared.values.extensions.Extensions.{Extensions}
 use Rattle.markdown_inlines.specs.declared.links.Link.{Link}
 use Rattle.markdown_inlines.specs.declared.pieces.Piece.{Piece}
 use Rattle.markdown_inlines.specs.declared.pieces.PieceKind.{PieceKind}
@@ -199,7 +199,7 @@ module _ (all : List (ℕ × Piece)) where
         old (inl e) is = is
         old (inr link) is = added_in reading.links link.0 link.1 is
 
-    with_piece_kept : (asked : InlineExtensions) (text : List ℕ) (kind : PieceKind) (len : ℕ) → piece.kind ≡ kind
+    with_piece_kept : (asked : Extensions) (text : List ℕ) (kind : PieceKind) (len : ℕ) → piece.kind ≡ kind
         → BeginsAt asked text piece.start piece.start kind len
         → piece.end ≡ piece.start + len → IsKept (with_piece kind piece reading) piece.end (counted kind number)
     with_piece_kept asked text K.Text len is begins end = moved piece.end (omega (arith, end))

@@ -20,7 +20,7 @@ use Rattle.markdown_scanners_tree.specs.scanners.links.Autolink.{IsUriAutolink}
 use Rattle.markdown_inlines.specs.Emails.{IsEmailAutolink}
 use Rattle.markdown_inlines.specs.LineBreaks.{IsLineBreak}
 use Rattle.markdown_inlines.specs.Pieces.{BeginsAt, HasOnlyText, IsEscape, IsHtmlPiece, IsNext, IsTagPiece}
-use Rattle.markdown_inlines.specs.declared.extensions.InlineExtensions.{InlineExtensions}
+use Rattle.markdown_values.specs.declared.values.extensions.Extensions.{Extensions}
 use Rattle.markdown_inlines.specs.declared.line_breaks.LineBreak.{LineBreak}
 use Rattle.markdown_inlines.specs.declared.pieces.Piece.{Piece}
 use Rattle.markdown_inlines.specs.declared.pieces.PieceKind.{PieceKind}
@@ -117,7 +117,7 @@ one_html text place n n' (inr found) (inr found') =
 
 -- ---- all kinds
 
-module _ (asked : InlineExtensions) (text : List ℕ) (from place len' : ℕ) where
+module _ (asked : Extensions) (text : List ℕ) (from place len' : ℕ) where
   abbrev Is : PieceKind → ℕ → PieceKind → Type 0
   Is kind len kind' = BeginsAt asked text from place kind' len' → (kind ≡ kind') × (len ≡ len')
 
@@ -200,7 +200,7 @@ module _ (asked : InlineExtensions) (text : List ℕ) (from place len' : ℕ) wh
       (λ is. (refl, b.1 ∙ sym is.1)) b'
 
 -- the next piece begins at one place
-same_start : (asked : InlineExtensions) (text : List ℕ) (from start start' : ℕ) (kind kind' : PieceKind) (len len' : ℕ) → from ≤ start → from ≤ start'
+same_start : (asked : Extensions) (text : List ℕ) (from start start' : ℕ) (kind kind' : PieceKind) (len len' : ℕ) → from ≤ start → from ≤ start'
     → HasOnlyText asked text from start → HasOnlyText asked text from start' → BeginsAt asked text from start kind len
     → BeginsAt asked text from start' kind' len' → start ≡ start'
 same_start asked text from start start' kind kind' len len' low low' only only' begins begins' = elim (cases_lt start start') [
@@ -215,7 +215,7 @@ pub same_piece : {kind kind' : PieceKind} {start start' end end' : ℕ} → kind
     → ◌≡◌ {A = Piece} (record { kind = kind; start = start; end = end }) (record { kind = kind'; start = start'; end = end' })
 same_piece kinds starts ends = λ i. record { kind = kinds i; start = starts i; end = ends i }
 
-pub one_next : (asked : InlineExtensions) (text : List ℕ) (from : ℕ) (a b : Piece) → IsNext asked text from a → IsNext asked text from b → a ≡ b
+pub one_next : (asked : Extensions) (text : List ℕ) (from : ℕ) (a b : Piece) → IsNext asked text from a → IsNext asked text from b → a ≡ b
 one_next asked text from a b is_a is_b =
     let start : a.start ≡ b.start =
     same_start asked text from a.start b.start a.kind b.kind is_a.len is_b.len is_a.later is_b.later is_a.only_text is_b.only_text

@@ -17,7 +17,7 @@ use Rattle.markdown_scanners_tree.proofs.ForCallers.{first-line_ending}
 use Rattle.markdown_inlines.specs.LineBreaks.{IsLineBreak}
 use Rattle.markdown_inlines.specs.PieceBytes.{is_plain, opens_break, opens_bracket, opens_long}
 use Rattle.markdown_inlines.specs.Pieces.{BeginsAt, IsEscape, IsHtmlPiece, IsTagPiece}
-use Rattle.markdown_inlines.specs.declared.extensions.InlineExtensions.{InlineExtensions}
+use Rattle.markdown_values.specs.declared.values.extensions.Extensions.{Extensions}
 use Rattle.markdown_inlines.specs.declared.line_breaks.LineBreak.{LineBreak}
 use Rattle.markdown_inlines.specs.declared.pieces.PieceKind.{PieceKind}
 use Rattle.markdown_inlines.specs.declared.pieces.PieceKind.TheVariants.{Text, Escape, HardBreak, SoftBreak, Reference, Code, Uri, Email, Html}
@@ -268,7 +268,7 @@ pub run_class : (byte : ℕ) → (byte ≡ asterisk) ⊎ (byte ≡ underscore) �
 run_class byte (inl is) = ap byte_class is
 run_class byte (inr is) = ap byte_class is
 
-pub begins_class : (asked : InlineExtensions) (text : List ℕ) (from place : ℕ) (kind : PieceKind) (len : ℕ) → BeginsAt asked text from place kind len
+pub begins_class : (asked : Extensions) (text : List ℕ) (from place : ℕ) (kind : PieceKind) (len : ℕ) → BeginsAt asked text from place kind len
     → byte_class (get_or text place 0) ≡ kind_class kind
 begins_class asked text from place Text len begins = absurd begins
 begins_class asked text from place Escape len begins = ap byte_class (front text place _ _ begins.parts)
@@ -307,7 +307,7 @@ bracket_class b opens = elim (cases_Bool (b == exclamation_mark)) [
 ]
 
 -- no piece begins with a plain byte
-pub plain_begins_none : (asked : InlineExtensions) (text : List ℕ) (from place : ℕ) → is_plain (get_or text place 0) ≡ true → (kind : PieceKind) (len : ℕ)
+pub plain_begins_none : (asked : Extensions) (text : List ℕ) (from place : ℕ) → is_plain (get_or text place 0) ≡ true → (kind : PieceKind) (len : ℕ)
     → ¬ BeginsAt asked text from place kind len
 plain_begins_none asked text from place plain kind len begins =
     no_kind kind (sym (plain_class (get_or text place 0) plain) ∙ begins_class asked text from place kind len begins)

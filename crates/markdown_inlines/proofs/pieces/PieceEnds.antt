@@ -27,7 +27,7 @@ use Rattle.markdown_inlines.specs.LineBreaks.{IsLineBreak}
 use Rattle.markdown_inlines.specs.Pieces.{BeginsAt, IsCodePiece, IsHtmlPiece}
 use Rattle.markdown_inlines.specs.WikiLinks.{IsOpenerEnd}
 use Rattle.markdown_inlines.specs.declared.delimiter_runs.DelimiterRun.{DelimiterRun}
-use Rattle.markdown_inlines.specs.declared.extensions.InlineExtensions.{InlineExtensions}
+use Rattle.markdown_values.specs.declared.values.extensions.Extensions.{Extensions}
 use Rattle.markdown_inlines.specs.declared.line_breaks.LineBreak.{LineBreak}
 use Rattle.markdown_inlines.specs.declared.pieces.PieceKind.{PieceKind}
 use Rattle.markdown_inlines.specs.declared.pieces.PieceKind.TheVariants.{Text, Escape, HardBreak, SoftBreak, Reference, Code, Uri, Email, Html}
@@ -157,7 +157,7 @@ some_break text before [] ending len parts ends counted goes_on =
 some_break text before (c ∷ after) ending len parts ends counted goes_on =
     omega (arith, counted, some_ending (c == 10) (c == 13) (begins_with (λ b. b == 10) after) ending ends)
 
-front_ascii : (asked : InlineExtensions) (text : List ℕ) (from place : ℕ) (kind : PieceKind) (len : ℕ) → BeginsAt asked text from place kind len
+front_ascii : (asked : Extensions) (text : List ℕ) (from place : ℕ) (kind : PieceKind) (len : ℕ) → BeginsAt asked text from place kind len
     → get_or text place 0 < 128
 front_ascii asked text from place kind len begins = elim (cases_lt (get_or text place 0) 128) [
   | inl low ↦ low
@@ -172,13 +172,13 @@ front_ascii asked text from place kind len begins = elim (cases_lt (get_or text 
         (rw (other 95 (omega arith), other 33 (omega arith), other 91 (omega arith), other 93 (omega arith), other 126 (omega arith)) refl))
 
 -- a piece begins where a text may be cut
-pub starts_cut : (asked : InlineExtensions) (text : List ℕ) (from place : ℕ) (kind : PieceKind) (len : ℕ) → BeginsAt asked text from place kind len
+pub starts_cut : (asked : Extensions) (text : List ℕ) (from place : ℕ) (kind : PieceKind) (len : ℕ) → BeginsAt asked text from place kind len
     → place ≤ length text → IsCharBoundary text place
 starts_cut asked text from place kind len begins within =
     let low = front_ascii asked text from place kind len begins in
     (within, λ inside high. absurd (omega (arith, low, high)))
 
-break_part : (asked : InlineExtensions) (text : List ℕ) (from place : ℕ) (kind : PieceKind) (break : LineBreak) → BeginsAt asked text from place kind break.len
+break_part : (asked : Extensions) (text : List ℕ) (from place : ℕ) (kind : PieceKind) (break : LineBreak) → BeginsAt asked text from place kind break.len
     → place ≤ length text → IsLineBreak (drop place text) break → IsPart text place break.len
 break_part asked text from place kind break begins inside is =
     let rest = drop place text in
@@ -223,7 +223,7 @@ run_part text place len run ascii some longest counted =
           (run_ends text place run.count run.byte longest some ascii within utf8);
     }
 
-run_of_part : (asked : InlineExtensions) (text : List ℕ) (place len : ℕ) (run : DelimiterRun) → IsRunOf asked text place run → len ≡ run.count
+run_of_part : (asked : Extensions) (text : List ℕ) (place len : ℕ) (run : DelimiterRun) → IsRunOf asked text place run → len ≡ run.count
     → IsPart text place len
 run_of_part asked text place len run (inl is) counted =
     let ascii : run.byte < 128 = elim is.delimiter [ inl b ↦ omega (arith, b) | inr b ↦ omega (arith, b) ] in
@@ -232,7 +232,7 @@ run_of_part asked text place len run (inr is) counted =
     run_part text place len run (omega (arith, is.1.delimiter)) is.1.some is.1.longest counted
 
 -- an opener from a place on, whose left bracket stands at another, and which is so long without wikilinks
-opener_part : (asked : InlineExtensions) (text : List ℕ) (place bracket len single : ℕ) → IsOpenerEnd asked text bracket (place + len)
+opener_part : (asked : Extensions) (text : List ℕ) (place bracket len single : ℕ) → IsOpenerEnd asked text bracket (place + len)
     → place + single ≡ bracket + 1 → IsPart text place single → IsPart text place len
 opener_part asked text place bracket len single (inl is) ends part =
     let head = head_ends text bracket is.1 (place + len) is.2 in
@@ -240,7 +240,7 @@ opener_part asked text place bracket len single (inl is) ends part =
 opener_part asked text place bracket len single (inr is) ends part =
     subst (IsPart text place) (omega (arith, is.1, ends)) part
 
-pub piece_part : (asked : InlineExtensions) (text : List ℕ) (from place : ℕ) (kind : PieceKind) (len : ℕ) → place ≤ length text
+pub piece_part : (asked : Extensions) (text : List ℕ) (from place : ℕ) (kind : PieceKind) (len : ℕ) → place ≤ length text
     → BeginsAt asked text from place kind len → IsPart text place len
 piece_part asked text from place Text len inside begins = absurd begins
 piece_part asked text from place Escape len inside begins =

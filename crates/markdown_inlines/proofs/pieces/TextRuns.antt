@@ -13,7 +13,7 @@ use Rattle.markdown_scanners_tree.proofs.PrefixLemmas.{from_place}
 use Rattle.markdown_inlines.specs.LineBreaks.{IsLineBreak}
 use Rattle.markdown_inlines.specs.PieceBytes.{is_before_ending, is_plain, is_word_space, plain_length, run_length}
 use Rattle.markdown_inlines.specs.Pieces.{BeginsAt, HasOnlyText}
-use Rattle.markdown_inlines.specs.declared.extensions.InlineExtensions.{InlineExtensions}
+use Rattle.markdown_values.specs.declared.values.extensions.Extensions.{Extensions}
 use Rattle.markdown_inlines.specs.declared.line_breaks.LineBreak.{LineBreak}
 use Rattle.markdown_inlines.specs.declared.pieces.PieceKind.{PieceKind}
 use Rattle.markdown_inlines.specs.declared.pieces.PieceKind.TheVariants.{HardBreak, SoftBreak}
@@ -68,7 +68,7 @@ no_break text rest parts goes_on break is =
     let lost : true ≡ false = sym (ending_begins is.after is.ending is.ends some) ∙ ap (begins_with is_line_ending) after ∙ goes_on in
     cc
 
-word_space_none : (asked : InlineExtensions) (bytes : List ℕ) (from p : ℕ) → get_or bytes p 0 ≡ 32 → is_before_ending (drop (p + 1) bytes) ≡ false
+word_space_none : (asked : Extensions) (bytes : List ℕ) (from p : ℕ) → get_or bytes p 0 ≡ 32 → is_before_ending (drop (p + 1) bytes) ≡ false
     → (kind : PieceKind) (len : ℕ) → ¬ BeginsAt asked bytes from p kind len
 word_space_none asked bytes from p here goes_on kind len begins =
     let inside : p < length bytes = elim (cases_lt p (length bytes)) [
@@ -126,7 +126,7 @@ module _ (bytes : List ℕ) (place plain : ℕ) (counted : plain ≡ plain_lengt
         | inr is ↦ inr (sym here ∙ is.0, ap is_before_ending (sym after) ∙ is.1)
       ]
 
-  plain_none : (asked : InlineExtensions) (from p : ℕ) → place ≤ p → p < place + plain → (kind : PieceKind) (len : ℕ) → ¬ BeginsAt asked bytes from p kind len
+  plain_none : (asked : Extensions) (from p : ℕ) → place ≤ p → p < place + plain → (kind : PieceKind) (len : ℕ) → ¬ BeginsAt asked bytes from p kind len
   plain_none asked from p low high kind len =
       let next : p + 1 ≡ suc p = omega arith in
       elim (case_at p low high) [
@@ -144,7 +144,7 @@ module _ (bytes : List ℕ) (place plain : ℕ) (counted : plain ≡ plain_lengt
     | inr is ↦ (λ tick. omega (arith, tick, is.0), λ angle. omega (arith, angle, is.0))
   ]
 
-  pub plain_text : (asked : InlineExtensions) → HasOnlyText asked bytes place (place + plain)
+  pub plain_text : (asked : Extensions) → HasOnlyText asked bytes place (place + plain)
   plain_text asked p low high kind len = plain_none asked place p low high kind len
 
   pub plain_apart : 0 < plain → get_or bytes (place + plain - 1) 0 ≡ 96 → ⊥
@@ -154,20 +154,20 @@ module _ (bytes : List ℕ) (place plain : ℕ) (counted : plain ≡ plain_lengt
   ]
 
 -- ---- the rest of a backtick string
-code_none : (asked : InlineExtensions) (bytes : List ℕ) (from p : ℕ) → from < p → get_or bytes p 0 ≡ 96 → get_or bytes (p - 1) 0 ≡ 96
+code_none : (asked : Extensions) (bytes : List ℕ) (from p : ℕ) → from < p → get_or bytes p 0 ≡ 96 → get_or bytes (p - 1) 0 ≡ 96
     → (kind : PieceKind) (len : ℕ) → ¬ BeginsAt asked bytes from p kind len
 code_none asked bytes from p later here before kind len begins =
     only_code (λ k. BeginsAt asked bytes from p k len → ⊥) kind (sym (ap byte_class here) ∙ begins_class asked bytes from p kind len begins)
     (λ backticks is. is.0 later before) begins
 
 -- ---- the rest of spaces
-either_break : (asked : InlineExtensions) (bytes : List ℕ) (from place len : ℕ) (is_hard : Bool)
+either_break : (asked : Extensions) (bytes : List ℕ) (from place len : ℕ) (is_hard : Bool)
     → ((kind : PieceKind) (n : ℕ) → ¬ BeginsAt asked bytes from place kind n)
     → IsLineBreak (drop place bytes) (record { is_hard = is_hard; len = len }) → ⊥
 either_break asked bytes from place len true none is = none HardBreak len is
 either_break asked bytes from place len false none is = none SoftBreak len is
 
-module _ (asked : InlineExtensions) (bytes : List ℕ) (from place run q : ℕ) (counted : run ≡ prefix_len (λ b. b == 32) (drop place bytes))
+module _ (asked : Extensions) (bytes : List ℕ) (from place run q : ℕ) (counted : run ≡ prefix_len (λ b. b == 32) (drop place bytes))
     (none : (kind : PieceKind) (n : ℕ) → ¬ BeginsAt asked bytes from place kind n) (low : place < q) (high : q < place + run) where
   run_within : run ≤ length (drop place bytes)
   run_within = omega (arith, counted, prefix_len-le-length (λ b. b == 32) (drop place bytes))
@@ -259,7 +259,7 @@ module _ (bytes : List ℕ) (place run plain : ℕ) (low : place < length bytes)
         | inr (inr is) ↦ inr (inr is)
       ]
 
-  run_none : (asked : InlineExtensions) (from p : ℕ) → from ≤ place → place < p → p < place + run
+  run_none : (asked : Extensions) (from p : ℕ) → from ≤ place → place < p → p < place + run
       → ((kind : PieceKind) (len : ℕ) → ¬ BeginsAt asked bytes from place kind len)
       → (kind : PieceKind) (len : ℕ) → ¬ BeginsAt asked bytes from p kind len
   run_none asked from p below above inside none kind len = elim case_of_run [
@@ -270,7 +270,7 @@ module _ (bytes : List ℕ) (place run plain : ℕ) (low : place < length bytes)
     | inr (inr is) ↦ λ begins. omega (arith, is.1, above, inside)
   ]
 
-  pub passed_text : (asked : InlineExtensions) (from : ℕ) → from ≤ place → HasOnlyText asked bytes from place
+  pub passed_text : (asked : Extensions) (from : ℕ) → from ≤ place → HasOnlyText asked bytes from place
       → ((kind : PieceKind) (len : ℕ) → ¬ BeginsAt asked bytes from place kind len) → HasOnlyText asked bytes from (place + run + plain)
   passed_text asked from below only none p above inside kind len = elim (cases_lt p place) [
     | inl before ↦ only p above before kind len

@@ -21,7 +21,7 @@ use Rattle.markdown_inlines.specs.Pieces.{BeginsAt}
 use Rattle.markdown_inlines.specs.Readings.{AreBefore, AreOpen, IsKept}
 use Rattle.markdown_inlines.specs.Sources.{IsLinkSource, IsSource, IsTargetSource}
 use Rattle.markdown_inlines.specs.declared.delimiter_runs.DelimiterRun.{DelimiterRun}
-use Rattle.markdown_inlines.specs.declared.extensions.InlineExtensions.{InlineExtensions}
+use Rattle.markdown_values.specs.declared.values.extensions.Extensions.{Extensions}
 use Rattle.markdown_inlines.specs.declared.pieces.Piece.{Piece}
 use Rattle.markdown_inlines.specs.declared.pieces.PieceKind.{PieceKind}
 use Rattle.markdown_inlines.specs.declared.pieces.PieceKind.TheVariants as K
@@ -90,12 +90,12 @@ module _ (reading : Reading) (piece : Piece) (source : IsSource reading.text pie
       added : Delimiters
       added = record { start = piece.start; end = piece.end; run = run }
 
-  is_delimiter : (asked : InlineExtensions) (text : List ℕ) (s : ℕ) (run : DelimiterRun) → IsRunOf asked text s run → IsOfDelimiters run
+  is_delimiter : (asked : Extensions) (text : List ℕ) (s : ℕ) (run : DelimiterRun) → IsRunOf asked text s run → IsOfDelimiters run
   is_delimiter asked text s run (inl is) = inl is.delimiter
   is_delimiter asked text s run (inr is) = inr is.1.delimiter
 
   -- where a piece is read
-  pub piece_kept : (asked : InlineExtensions) (text : List ℕ) (from s len : ℕ) (kind : PieceKind) → BeginsAt asked text from s kind len
+  pub piece_kept : (asked : Extensions) (text : List ℕ) (from s len : ℕ) (kind : PieceKind) → BeginsAt asked text from s kind len
       → IsKept (with_piece kind piece reading)
   piece_kept asked text from s len K.Text is = kept
   piece_kept asked text from s len K.Escape is = kept

@@ -17,7 +17,7 @@ use Rattle.markdown_inlines.specs.PieceBytes.{run_length}
 use Rattle.markdown_inlines.specs.Pieces.{BeginsAt}
 use Rattle.markdown_inlines.specs.Searches.{Searched, IsSearchedTo, backticks_searched, bytes_passed, bytes_read, byte_searched, html_searched, kind_searched}
 use Rattle.markdown_inlines.specs.Searches.{next_searched, pieces_searched, text_searched}
-use Rattle.markdown_inlines.specs.declared.extensions.InlineExtensions.{InlineExtensions}
+use Rattle.markdown_values.specs.declared.values.extensions.Extensions.{Extensions}
 use Rattle.markdown_inlines.specs.declared.pieces.Piece.{Piece}
 use Rattle.markdown_inlines.specs.declared.pieces.PieceKind.{PieceKind}
 use Rattle.markdown_inlines.specs.declared.pieces.PieceKind.TheVariants as K
@@ -320,7 +320,7 @@ module _ (text : List ℕ) (place : ℕ) (low : place < length text) where
 
 -- ---- piece by piece
 -- a piece that begins with neither
-pub kind_quiet : (asked : InlineExtensions) (text : List ℕ) (from place start end : ℕ) (kind : PieceKind) (len : ℕ) (s : Searched)
+pub kind_quiet : (asked : Extensions) (text : List ℕ) (from place start end : ℕ) (kind : PieceKind) (len : ℕ) (s : Searched)
     → BeginsAt asked text from place kind len → (get_or text place 0 ≡ 96 → ⊥) → (get_or text place 0 ≡ 60 → ⊥)
     → kind_searched kind text start end s ≡ s
 kind_quiet asked text from place start end K.Text len s begins no_tick no_angle = absurd begins
@@ -357,7 +357,7 @@ between_searched text from to s = by (nat_lt from to) refl
         let nothing : 0 ≡ to - from = omega (arith, ltb-false from to none) in ap (λ n. text_searched text from n s) nothing
 
 -- what is answered, where a piece that begins with neither is found
-pub some_quiet : (asked : InlineExtensions) (text : List ℕ) (place : ℕ) (answer : Option (PieceKind × ℕ)) (s : Searched)
+pub some_quiet : (asked : Extensions) (text : List ℕ) (place : ℕ) (answer : Option (PieceKind × ℕ)) (s : Searched)
     → SomeExactly (λ r. BeginsAt asked text place place r.0 r.1) answer → (get_or text place 0 ≡ 96 → ⊥) → (get_or text place 0 ≡ 60 → ⊥)
     → IfSome answer (λ r. s ≡ kind_searched r.0 text place (place + r.1) s)
 some_quiet asked text place None s found no_tick no_angle = tt

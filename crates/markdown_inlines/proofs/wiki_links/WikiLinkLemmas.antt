@@ -10,7 +10,7 @@ use Rattle.memchr.proofs.lemmas.MatchLemmas.{OccursAt-true}
 use Rattle.markdown_scanners_tree.proofs.ForCallers.{cut_behind_ascii}
 use Rattle.markdown_scanners_tree.specs.scanners.reference_definitions.ReferenceDefinition.{IsCutAt}
 use Rattle.markdown_inlines.specs.WikiLinks.{is_target_byte, IsHeadEnd, IsHead, IsOpenerEnd}
-use Rattle.markdown_inlines.specs.declared.extensions.InlineExtensions.{InlineExtensions}
+use Rattle.markdown_values.specs.declared.values.extensions.Extensions.{Extensions}
 use Rattle.markdown_inlines.proofs.link_tails.OneLinkTail.{same_range}
 
 -- the byte that stands where some bytes occur
@@ -45,7 +45,7 @@ one_head text place target target' end end' is is' =
     let moved = subst (λ n. IsHeadEnd text n end') (sym ends) is'.ends in
     (same_range starts ends, one_head_end text target.end end end' is.ends moved)
 
-pub one_opener_end : (asked : InlineExtensions) (text : List ℕ) (place end end' : ℕ) → IsOpenerEnd asked text place end
+pub one_opener_end : (asked : Extensions) (text : List ℕ) (place end end' : ℕ) → IsOpenerEnd asked text place end
     → IsOpenerEnd asked text place end' → end ≡ end'
 one_opener_end asked text place end end' (inl is) (inl is') = (one_head text place is.1 is'.1 end end' is.2 is'.2).1
 one_opener_end asked text place end end' (inl is) (inr is') = absurd (is'.0 is.0 is.1 end is.2)
@@ -100,7 +100,7 @@ head_ends text place target end is = elim is.ends [
 ]
 
 -- an opener ends after its left bracket
-pub opener_later : (asked : InlineExtensions) (text : List ℕ) (place end : ℕ) → IsOpenerEnd asked text place end → place < end
+pub opener_later : (asked : Extensions) (text : List ℕ) (place end : ℕ) → IsOpenerEnd asked text place end → place < end
 opener_later asked text place end (inl is) = omega (arith, (head_ends text place is.1 end is.2).later)
 opener_later asked text place end (inr is) = omega (arith, is.1)
 

@@ -4,12 +4,12 @@ use Rattle.markdown_scanners_tree.specs.Ascii.{asterisk, underscore}
 use Rattle.markdown_inlines.specs.DelimiterRuns.{IsDelimiterRun, IsRunOf}
 use Rattle.markdown_inlines.specs.Pieces.{BeginsAt}
 use Rattle.markdown_inlines.specs.declared.delimiter_runs.DelimiterRun.{DelimiterRun}
-use Rattle.markdown_inlines.specs.declared.extensions.InlineExtensions.{InlineExtensions}
+use Rattle.markdown_values.specs.declared.values.extensions.Extensions.{Extensions}
 use Rattle.markdown_inlines.proofs.delimiter_runs.DelimiterRunLemmas.{no_tilde_run}
 use Rattle.markdown_inlines.proofs.pieces.Openings.{begins_class, run_class, only_delimiters}
 use Rattle.markdown_inlines.proofs.piece_at.delimiters_at.Goals as goal
 
-no_run : (asked : InlineExtensions) (text : List ℕ) (place : ℕ) → (get_or text place 0 ≡ asterisk) ⊎ (get_or text place 0 ≡ underscore)
+no_run : (asked : Extensions) (text : List ℕ) (place : ℕ) → (get_or text place 0 ≡ asterisk) ⊎ (get_or text place 0 ≡ underscore)
     → ((run : DelimiterRun) → ¬ IsDelimiterRun text place run) → (run : DelimiterRun) → ¬ IsRunOf asked text place run
 no_run asked text place opens none run (inl is) = none run is
 no_run asked text place opens none run (inr is) = no_tilde_run text place run opens is.1

@@ -4,14 +4,14 @@ use Rattle.markdown_scanners_tree.proofs.SomeExactlyLemmas.{SomeExactly-from_non
 use Rattle.markdown_inlines.specs.DelimiterRuns.{IsRunOf, IsTildeRun}
 use Rattle.markdown_inlines.specs.Pieces.{BeginsAt}
 use Rattle.markdown_inlines.specs.declared.delimiter_runs.DelimiterRun.{DelimiterRun}
-use Rattle.markdown_inlines.specs.declared.extensions.InlineExtensions.{InlineExtensions}
+use Rattle.markdown_values.specs.declared.values.extensions.Extensions.{Extensions}
 use Rattle.markdown_inlines.specs.declared.pieces.PieceKind.{PieceKind}
 use Rattle.markdown_inlines.proofs.delimiter_runs.DelimiterRunLemmas.{no_other_run}
 use Rattle.markdown_inlines.proofs.pieces.Openings.{begins_class, byte_class, only_delimiters}
 use Rattle.markdown_inlines.proofs.piece_at.tildes_at.Goals as goal
 
 -- where a tilde stands nothing begins without a run of tildes that is asked for
-none_there : (asked : InlineExtensions) (text : List ℕ) (from place : ℕ) → get_or text place 0 ≡ tilde
+none_there : (asked : Extensions) (text : List ℕ) (from place : ℕ) → get_or text place 0 ≡ tilde
     → (IsTrue asked.strikethrough → (run : DelimiterRun) → ¬ IsTildeRun text place run) → (kind : PieceKind) (len : ℕ)
     → ¬ BeginsAt asked text from place kind len
 none_there asked text from place there none kind len begins =
