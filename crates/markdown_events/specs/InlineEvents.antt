@@ -13,7 +13,7 @@ use Rattle.markdown_scanners_tree.specs.scanners.entities.CharacterReference.{St
 use Rattle.markdown_inlines.specs.CodeContent.{code_text}
 use Rattle.markdown_inlines.specs.Output.{AreInlines}
 use Rattle.markdown_inlines.specs.Sources.{source_of}
-use Rattle.markdown_inlines.specs.declared.extensions.InlineExtensions.{InlineExtensions}
+use Rattle.markdown_values.specs.declared.values.extensions.Extensions.{Extensions}
 use Rattle.markdown_inlines.specs.declared.inlines.Inline.{Inline}
 use Rattle.markdown_inlines.specs.declared.inlines.Inline.TheVariants as I
 use Rattle.markdown_inlines.specs.declared.links.Link.{Link}
@@ -131,7 +131,7 @@ AreEvents source targets links elements (inline ∷ later) events =
 
 -- what a text is read with: the extensions that are asked for, and where the labels lead that are defined
 pub record EventSetting : Type 0 where
-  pub asked : InlineExtensions
+  pub asked : Extensions
   pub targets : Targets
 
 -- These are the events of a text.

@@ -7,6 +7,7 @@ pub mod Levels
 pub mod OpenElements
 pub mod PageEvents
 pub mod Places
+pub mod Readings
 pub mod Ready
 pub mod Settings
 pub mod Spans

@@ -6,9 +6,10 @@ ghost use Rattle.markdown_events.specs.Nesting.{AreNested, without_ranges};
 ghost use Rattle.markdown_blocks.specs.events.Events.{ends, leaf, seen_event as seen_block, seen_leaf, starts};
 ghost use Rattle.markdown_events.specs.page.Given.{AlwaysGivesOnly, Gives, GivesOnly, GivesOnlyWith, GivesWith, IsDone, IsPassed, events_left, left_with, setting_with};
 ghost use Rattle.markdown_events.specs.page.OpenElements.{begun, end_events, ended, next_span, passed, place_in, start_events};
-ghost use Rattle.markdown_events.specs.page.PageEvents.{AreDefinitionsOf, ArePageEvents, ArePageEventsWith, commonmark};
+ghost use Rattle.markdown_values.specs.values.Extensions.{asked_by, commonmark};
+ghost use Rattle.markdown_events.specs.page.PageEvents.{AreDefinitionsOf, ArePageEvents, ArePageEventsWith};
 ghost use Rattle.markdown_events.specs.Targets.{Targets};
-ghost use Rattle.markdown_events.specs.page.Settings.{Explains, asked_by, not_built};
+ghost use Rattle.markdown_events.specs.page.Settings.{Explains, not_built};
 ghost use Rattle.markdown_events.specs.page.TaskEvents.{AreBlockEvents, task_here};
 
 use crate::definitions::{Definitions, NoBrokenLinks, PageDefinitions};
@@ -18,16 +19,16 @@ use crate::page::blocks_of::read_page;
 use crate::page::definitions::WithBrokenLinks;
 use crate::page::leaf_events::leaf_events;
 use crate::page::open_elements::OpenElements;
+use crate::page::reading::Reading;
 use crate::page::ready::ReadyEvents;
 use crate::page::spans::spans_of;
 use crate::page::task_events::task_events;
-use crate::settings::setting_of;
-pub use crate::settings::{NewError, PageSetting};
+pub use crate::settings::NewError;
+use crate::settings::{built, setting_of};
 use markdown_blocks::containers::Container;
 use markdown_blocks::events::{BlockEvent, Leaf};
 use markdown_blocks::first_blocks::{FirstBlock, Task};
-use markdown_inlines::extensions::InlineExtensions;
-use markdown_values::values::{Event, Options};
+use markdown_values::values::{Event, Extensions, Options};
 use std::alloc::{AllocError, Global};
 use std::collections::VecDeque;
 use std::marker::Model;
@@ -38,8 +39,7 @@ use std::ops::Range;
 pub struct EventReader<'a> {
     alloc: Global,
     page: &'a str,
-    tasks: bool,
-    extensions: InlineExtensions,
+    extensions: Extensions,
     definitions: PageDefinitions<'a>,
     blocks: BlocksLeft<'a>,
     elements: OpenElements,
@@ -56,7 +56,6 @@ impl<'a> Model for EventReader<'a> {
 
     ghost view = { λ p. record {
       page = p.page.now;
-      tasks = p.tasks;
       extensions = p.extensions;
       known = p.definitions;
       ready = p.ready.events;
@@ -92,7 +91,7 @@ impl<'a> EventReader<'a> {
         ensures broken_within { IfOk result (AlwaysGivesOnly (AreWithin text.now)) }
         ensures broken_boundaries { IfOk result (AlwaysGivesOnly (AreAtBoundaries text.now)) }
     {
-        EventReader::with_setting(alloc, text, PageSetting::commonmark())
+        EventReader::with_setting(alloc, text, Extensions::none())
     }
 
     /// The events of a page with these options. Memory is asked for as by `EventReader::new`.
@@ -138,7 +137,7 @@ impl<'a> EventReader<'a> {
     pub fn with_setting(
         alloc: Global,
         page: &'a str,
-        setting: PageSetting,
+        setting: Extensions,
     ) -> Result<EventReader<'a>, AllocError>
         ensures page { IfOk result (GivesOnly (ArePageEvents page.now setting)) }
         ensures balanced { IfOk result (GivesOnly AreBalanced) }
@@ -155,14 +154,12 @@ impl<'a> EventReader<'a> {
         ensures broken_within { IfOk result (AlwaysGivesOnly (AreWithin page.now)) }
         ensures broken_boundaries { IfOk result (AlwaysGivesOnly (AreAtBoundaries page.now)) }
     {
-        let asked = setting.blocks();
-        let (blocks, definitions) = read_page(alloc, page, asked)?;
+        let (blocks, definitions) = read_page(alloc, page, built(setting))?;
         let spans = spans_of(alloc, &blocks)?;
         Ok(EventReader {
             alloc,
             page,
-            tasks: setting.tasks,
-            extensions: setting.inlines,
+            extensions: setting,
             definitions,
             blocks: BlocksLeft::all(blocks),
             elements: OpenElements::new(alloc, spans),
@@ -370,40 +367,27 @@ impl<'a> EventReader<'a> {
         ensures unchanged { self.new ≡ self.old }
     {
         let task = self.task(block);
+        let (alloc, page, asked) = (self.alloc, self.page, self.extensions);
         let definitions = WithBrokenLinks::new(&self.definitions, broken);
+        let reading = Reading {
+            alloc,
+            page,
+            asked,
+            definitions: &definitions,
+        };
+        let here = self.elements.place();
         if let Some(task) = task {
-            return task_events(
-                self.alloc,
-                &mut self.memory,
-                self.page,
-                self.extensions,
-                &definitions,
-                self.elements.containers(),
-                self.elements.kept(),
-                self.elements.is_tight(),
-                block,
-                task,
-            );
+            return task_events(&reading, &mut self.memory, here, block, task);
         }
-        leaf_events(
-            self.alloc,
-            &mut self.memory,
-            self.page,
-            self.extensions,
-            &definitions,
-            self.elements.containers(),
-            self.elements.kept(),
-            self.elements.is_tight(),
-            block,
-        )
+        leaf_events(&reading, &mut self.memory, here, block)
     }
 
     // The task list marker that a leaf block begins with that comes next, if they are asked for.
     fn task(&self, block: Leaf) -> Option<Task>
         ensures { result
-            ≡ task_here self.now.tasks self.now.elements.waiting (seen_leaf block.entry) }
+            ≡ task_here self.now.extensions.tasks self.now.elements.waiting (seen_leaf block.entry) }
     {
-        if !self.tasks {
+        if !self.extensions.tasks {
             return None;
         }
         let container = self.elements.waiting()?;

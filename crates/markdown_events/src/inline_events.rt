@@ -26,13 +26,12 @@ use crate::parts::part;
 use crate::writer::Writer;
 use html_entities::HtmlEntities;
 use markdown_inlines::code_content::{code_text, lent_code_text};
-use markdown_inlines::extensions::InlineExtensions;
 use markdown_inlines::inlines::Inline;
 use markdown_inlines::links::{Link, LinkTarget};
 use markdown_inlines::pieces::{Piece, PieceKind};
 use markdown_scanners_tree::scanners::scan_entity;
 use markdown_values::strings::CowStr;
-use markdown_values::values::{Event, LinkType, Tag};
+use markdown_values::values::{Event, Extensions, LinkType, Tag};
 use std::alloc::{AllocError, Global};
 use std::marker::PhantomData;
 use std::mem;
@@ -56,7 +55,7 @@ pub fn inline_events<'a, D: Definitions<'a>>(
     alloc: Global,
     text: &'a str,
     definitions: &D,
-    extensions: InlineExtensions,
+    extensions: Extensions,
 ) -> Result<Vec<(Event<'a>, Range<usize>)>, AllocError>
     ensures events { IfOk result (λ events. AreInlineEvents text.now
         (record { asked = extensions; targets = D.targets definitions.now })
@@ -84,7 +83,7 @@ pub(crate) fn source_events<'a, D: Definitions<'a>>(
     memory: &mut InlineMemory<'a>,
     source: &Source<'a, '_>,
     definitions: &D,
-    extensions: InlineExtensions,
+    extensions: Extensions,
 ) -> Result<Vec<(Event<'a>, Range<usize>)>, AllocError>
     ensures events { IfOk result (λ events. AreInlineEvents source.now
         (record { asked = extensions; targets = D.targets definitions.now })
@@ -262,7 +261,7 @@ fn push_piece<'a>(
     }
 }
 
-// Adds what stands from one place up to another as a text. Most texts are lent from a run.
+// Adds what stands from one offset up to another as a text. Most texts are lent from a run.
 #[inline(always)]
 fn push_words<'a>(
     alloc: Global,
@@ -417,7 +416,7 @@ fn meaning_at(text: &str, place: usize) -> CowStr<'static>
     }
 }
 
-// The text of the code span whose content stands from one place up to another, where it is lent.
+// The text of the code span whose content stands from one offset up to another, where it is lent.
 #[inline(always)]
 fn lent_code<'a>(source: &Source<'a, '_>, start: usize, end: usize) -> Option<&'a str>
     requires begins { IsCharBoundary source.now start }

@@ -14,7 +14,7 @@ mod link_tags;
 mod page;
 pub mod parser;
 mod parts;
-mod settings;
+pub mod settings;
 pub mod text_merge;
 pub mod text_merge_stream;
 mod writer;

@@ -7,6 +7,7 @@ pub(crate) mod leaf_content;
 pub(crate) mod leaf_events;
 pub(crate) mod levels;
 pub(crate) mod open_elements;
+pub(crate) mod reading;
 pub(crate) mod ready;
 pub(crate) mod source;
 pub(crate) mod spans;

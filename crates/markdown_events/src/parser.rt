@@ -6,8 +6,9 @@ ghost use Rattle.markdown_events.specs.Nesting.{AreNested, without_ranges};
 ghost use Rattle.markdown_events.specs.Targets.{Targets};
 ghost use Rattle.markdown_events.specs.page.Given.{AlwaysGivesOnly, GivesOnly, GivesOnlyWith};
 ghost use Rattle.markdown_events.specs.page.Iterated.{GivesNext, GivesNextEvent, GivesNextEventWith, GivesNextWith, Iterated, items_left, without_range};
-ghost use Rattle.markdown_events.specs.page.PageEvents.{AreDefinitionsOf, ArePageEvents, ArePageEventsWith, commonmark};
-ghost use Rattle.markdown_events.specs.page.Settings.{Explains, asked_by, not_built};
+ghost use Rattle.markdown_events.specs.page.PageEvents.{AreDefinitionsOf, ArePageEvents, ArePageEventsWith};
+ghost use Rattle.markdown_values.specs.values.Extensions.{asked_by, commonmark};
+ghost use Rattle.markdown_events.specs.page.Settings.{Explains, not_built};
 
 use crate::definitions::{Definitions, NoBrokenLinks, PageDefinitions};
 use crate::event_reader::{EventReader, NewError};

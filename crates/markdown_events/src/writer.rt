@@ -53,7 +53,7 @@ impl<'a> Writer<'a> {
         (self.events, self.opened)
     }
 
-    /// Adds an event from one place of the text up to another.
+    /// Adds an event from one offset of the text up to another.
     #[inline(always)]
     pub(crate) fn push(
         &mut self,

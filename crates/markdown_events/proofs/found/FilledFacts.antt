@@ -12,7 +12,7 @@ use Rattle.markdown_inlines.specs.Marks.{ends_link, marks_by}
 use Rattle.markdown_inlines.specs.Output.{AreInlines, begins_link, counted, delimiter_at, delimiter_with, inlines_at, inlines_from}
 use Rattle.markdown_inlines.specs.Pieces.{BeginsAt}
 use Rattle.markdown_inlines.specs.declared.emphasis.Emphasis.{Emphasis}
-use Rattle.markdown_inlines.specs.declared.extensions.InlineExtensions.{InlineExtensions}
+use Rattle.markdown_values.specs.declared.values.extensions.Extensions.{Extensions}
 use Rattle.markdown_inlines.specs.declared.inlines.Inline.{Inline}
 use Rattle.markdown_inlines.specs.declared.inlines.Inline.TheVariants as I
 use Rattle.markdown_inlines.specs.declared.links.Link.{Link}
@@ -42,7 +42,7 @@ pub record HasBytes (piece : Piece) : Type 0 where
   pub some : piece.start < piece.end
   pub inner : HasInner piece.kind piece
 
-inner_of : (asked : InlineExtensions) (text : List ℕ) (piece : Piece) (len : ℕ) → piece.end ≡ piece.start + len → (kind : PieceKind)
+inner_of : (asked : Extensions) (text : List ℕ) (piece : Piece) (len : ℕ) → piece.end ≡ piece.start + len → (kind : PieceKind)
     → BeginsAt asked text piece.start piece.start kind len → HasInner kind piece
 inner_of asked text piece len ends K.Text begins = tt
 inner_of asked text piece len ends K.Escape begins = tt

@@ -14,7 +14,7 @@ use Rattle.markdown_inlines.specs.DelimiterRuns.{IsRunOf}
 use Rattle.markdown_inlines.specs.Pieces.{BeginsAt, IsCodePiece}
 use Rattle.markdown_inlines.specs.Sources.{IsSource}
 use Rattle.markdown_inlines.specs.declared.delimiter_runs.DelimiterRun.{DelimiterRun}
-use Rattle.markdown_inlines.specs.declared.extensions.InlineExtensions.{InlineExtensions}
+use Rattle.markdown_values.specs.declared.values.extensions.Extensions.{Extensions}
 use Rattle.markdown_inlines.specs.declared.pieces.Piece.{Piece}
 use Rattle.markdown_inlines.specs.declared.pieces.PieceKind.{PieceKind}
 use Rattle.markdown_inlines.specs.declared.pieces.PieceKind.TheVariants as K
@@ -87,7 +87,7 @@ module _ (text : List ℕ) (piece : Piece) (len : ℕ) (utf8 : IsUtf8 text) (end
         low_cut text (piece.end - backticks) (omega (arith, within, end_is)) (omega (arith, last)),
       )
 
-  parts_of : (asked : InlineExtensions) (kind : PieceKind) → BeginsAt asked text piece.start piece.start kind len → HasParts kind text piece
+  parts_of : (asked : Extensions) (kind : PieceKind) → BeginsAt asked text piece.start piece.start kind len → HasParts kind text piece
   parts_of asked K.Text begins = tt
   parts_of asked K.Escape begins =
       let second : get_or text (piece.start + 1) 0 ≡ begins.escaped = byte_in text piece.start 1 _ begins.parts in
@@ -111,7 +111,7 @@ module _ (text : List ℕ) (piece : Piece) (len : ℕ) (utf8 : IsUtf8 text) (end
   parts_of asked K.ImageOpener begins = tt
   parts_of asked K.Closer begins = tt
 
-  run_low : (asked : InlineExtensions) (run : DelimiterRun) → IsRunOf asked text piece.start run → len ≡ run.count
+  run_low : (asked : Extensions) (run : DelimiterRun) → IsRunOf asked text piece.start run → len ≡ run.count
       → (place : ℕ) → piece.start ≤ place → place < piece.end → get_or text place 0 < 128
   run_low asked run is counted place least less =
       let there = longest is in
@@ -131,7 +131,7 @@ module _ (text : List ℕ) (piece : Piece) (len : ℕ) (utf8 : IsUtf8 text) (end
       low (inl it) = elim it.delimiter [ inl b ↦ omega (arith, b) | inr b ↦ omega (arith, b) ]
       low (inr it) = omega (arith, it.1.delimiter)
 
-  delimiters_of : (asked : InlineExtensions) (kind : PieceKind) → BeginsAt asked text piece.start piece.start kind len
+  delimiters_of : (asked : Extensions) (kind : PieceKind) → BeginsAt asked text piece.start piece.start kind len
       → HasDelimiters kind text piece
   delimiters_of asked K.Text begins = tt
   delimiters_of asked K.Escape begins = tt
@@ -148,7 +148,7 @@ module _ (text : List ℕ) (piece : Piece) (len : ℕ) (utf8 : IsUtf8 text) (end
   delimiters_of asked K.Closer begins = tt
 
 -- a piece that begins where it is read, and is no right bracket
-pub known_other : (asked : InlineExtensions) (text : List ℕ) (piece : Piece) (len : ℕ) → IsUtf8 text → piece.start ≤ length text
+pub known_other : (asked : Extensions) (text : List ℕ) (piece : Piece) (len : ℕ) → IsUtf8 text → piece.start ≤ length text
     → piece.end ≡ piece.start + len → BeginsAt asked text piece.start piece.start piece.kind len → IsKnown text piece
 known_other asked text piece len utf8 inside end_is begins =
     let part = piece_part asked text piece.start piece.start piece.kind len inside begins in

@@ -5,7 +5,7 @@ use Rattle.std.specs.Str.{IsUtf8}
 use Rattle.markdown_inlines.specs.Nesting.{Nest, StandFrom}
 use Rattle.markdown_inlines.specs.Output.{AreInlines}
 use Rattle.markdown_inlines.specs.Sources.{AreLinkSources}
-use Rattle.markdown_inlines.specs.declared.extensions.InlineExtensions.{InlineExtensions}
+use Rattle.markdown_values.specs.declared.values.extensions.Extensions.{Extensions}
 use Rattle.markdown_inlines.specs.declared.inlines.Inline.{Inline}
 use Rattle.markdown_inlines.specs.declared.links.Link.{Link}
 use Rattle.markdown_events.proofs.found.FilledFacts.{inlines_filled}
@@ -18,7 +18,7 @@ use Rattle.markdown_events.proofs.inline_events.Facts.{IsFact, all_found, all_kn
 use Rattle.markdown_events.proofs.inline_events.Filled.{filled_rise}
 use Rattle.markdown_events.proofs.inline_events.Rise.{all_rise}
 
-module _ (text : List ℕ) (asked : InlineExtensions) (targets : Targets) (inlines : List Inline) (links : List (Option Link))
+module _ (text : List ℕ) (asked : Extensions) (targets : Targets) (inlines : List Inline) (links : List (Option Link))
     (utf8 : IsUtf8 text) (sources : AreLinkSources text links)
     (are : AreInlines text (record { asked = asked; known = leads targets }) inlines links) where
   facts : AllByRecursion (IsFact text targets links) inlines

@@ -13,7 +13,7 @@ use Rattle.markdown_blocks.specs.blocks.Pages.{AreBlocks, Piece, lines_in, open_
 use Rattle.markdown_blocks.specs.containers.Containers.{Between, Outer, Rest, after_marker, behind, settled}
 use Rattle.markdown_blocks.specs.declared.blocks.BlockKind.{BlockKind}
 use Rattle.markdown_blocks.specs.declared.blocks.BlockKind.TheVariants.{Blank, Break, Heading, Setext, Indented, Fenced, Html, Paragraph, Definition, Table}
-use Rattle.markdown_blocks.specs.declared.containers.BlockExtensions.{BlockExtensions}
+use Rattle.markdown_values.specs.declared.values.extensions.Extensions.{Extensions}
 use Rattle.markdown_blocks.specs.declared.containers.Container.{Container}
 use Rattle.markdown_blocks.specs.events.Events.{AreEvents, AreLeaves, Event, IsEventsOf, LeafBlock, Part, block_end, ends, leaf, open_after}
 use Rattle.markdown_blocks.specs.events.Events.{later_lines, lines_taken, part_of, piece_content, started, starts}
@@ -94,7 +94,7 @@ pieces_have (piece ∷ later) before line start events each (leaves, more, are, 
     (pieces_have later (open_behind before piece) (line + length (piece.first ∷ piece.later))
     (start + length (concat (piece.first ∷ piece.later))) more each.1 after))
 
-page_fences : (asked : BlockExtensions) (page : List ℕ) (events : List Event) → IsEventsOf asked page events → HaveFences events
+page_fences : (asked : Extensions) (page : List ℕ) (events : List Event) → IsEventsOf asked page events → HaveFences events
 page_fences asked page events (pieces, blocks, is_page, are, is) =
     subst HaveFences (sym is)
     (both_have blocks (replicate (open_after 0 pieces) ends) (pieces_have pieces (root asked) 0 (text_start page) blocks is_page.each are)
@@ -135,7 +135,7 @@ module _ (page : List ℕ) where
       (record { cut = more.cut; fences = more.fences; plain = more.plain }) follow)))
 
 -- Each leaf block of a page stands in it.
-pub page_leaves_in : (asked : BlockExtensions) (page : List ℕ) (events : List Event) → IsEventsOf asked page events → IsUtf8 page
+pub page_leaves_in : (asked : Extensions) (page : List ℕ) (events : List Event) → IsEventsOf asked page events → IsUtf8 page
     → AreInPage page [] 0 None events
 page_leaves_in asked page events of_page utf8 =
     let tree = events_of_nodes asked page events of_page in

@@ -14,7 +14,7 @@ use Rattle.markdown_blocks.specs.first_blocks.Waiting.{waiting_behind}
 use Rattle.markdown_blocks.specs.laws.Characters.{IsCutOut}
 use Rattle.markdown_blocks.specs.lists.Lists.{Nodes, nothing, leaf_then, container_then}
 use Rattle.markdown_events.specs.EventLaws.{AreAtBoundaries}
-use Rattle.markdown_events.specs.InlineEvents.{RangedEvent}
+use Rattle.markdown_events.specs.InlineEvents.{EventSetting, RangedEvent}
 use Rattle.markdown_events.specs.declared.elements.Element.{Element}
 use Rattle.markdown_events.specs.declared.page.levels.ItemList.{ItemList}
 use Rattle.markdown_events.specs.page.LeafEvents.{Place}
@@ -22,10 +22,10 @@ use Rattle.markdown_events.specs.page.PageEvents.{AreNodeEvents, OpenList, after
 use Rattle.markdown_events.specs.page.PageEvents.{list_in, list_start, starting}
 use Rattle.markdown_events.specs.page.Spans.{block_end, container_end, first_place, front_list, is_parted}
 use Rattle.markdown_events.specs.page.Spans.{is_set_off, last_end, list_alone, list_with, span_of}
-use Rattle.markdown_events.specs.page.TaskEvents.{AreBlockEvents, BlockSetting}
+use Rattle.markdown_events.specs.page.TaskEvents.{AreBlockEvents}
 use Rattle.markdown_events.proofs.inline_events.Boundaries.{both_at}
 
-module _ (page : List ℕ) (setting : BlockSetting) where
+module _ (page : List ℕ) (setting : EventSetting) where
   abbrev Cut : ℕ → Type 0
   Cut = IsCharBoundary page
 

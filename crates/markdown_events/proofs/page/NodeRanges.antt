@@ -18,11 +18,11 @@ use Rattle.markdown_blocks.specs.first_blocks.Waiting.{waiting_behind}
 use Rattle.markdown_blocks.specs.laws.Order.{passed_after}
 use Rattle.markdown_blocks.specs.lists.Lists.{Nodes, nothing, leaf_then, container_then}
 use Rattle.markdown_events.specs.EventLaws.{AreWithin, RiseIn}
-use Rattle.markdown_events.specs.InlineEvents.{RangedEvent, ranged}
+use Rattle.markdown_events.specs.InlineEvents.{EventSetting, RangedEvent, ranged}
 use Rattle.markdown_events.specs.TagEnds.{tag_end}
 use Rattle.markdown_events.specs.declared.page.levels.ItemList.{ItemList}
 use Rattle.markdown_events.specs.page.LeafEvents.{AreLeafEventsOf, Place}
-use Rattle.markdown_events.specs.page.TaskEvents.{AreBlockEvents, AreEventsWith, BlockSetting, task_here}
+use Rattle.markdown_events.specs.page.TaskEvents.{AreBlockEvents, AreEventsWith, task_here}
 use Rattle.markdown_events.specs.page.PageEvents.{AreNodeEvents, OpenList, after_block, container_tag, inside, list_after, list_end, list_in, list_tag}
 use Rattle.markdown_events.specs.page.PageEvents.{outermost}
 use Rattle.markdown_events.specs.page.Places.{element}
@@ -57,7 +57,7 @@ abbrev pub AreSome : Nodes → Type 0
 AreSome nothing = ⊥
 AreSome nodes = ⊤
 
-module _ (page : List ℕ) (setting : BlockSetting) where
+module _ (page : List ℕ) (setting : EventSetting) where
   -- After so many bytes of the page the events of a block rise in these containers, with the first of which its first line goes on.
   abbrev pub LeafRises : ℕ → List Container → ℕ → LeafBlock → Type 0
   LeafRises passed outer kept block = (is_tight : Bool) (waiting : Option Container) (events : List RangedEvent)
@@ -208,7 +208,7 @@ module _ (page : List ℕ) (setting : BlockSetting) where
 
   -- a blank line has none
   blank_has_none : (block : LeafBlock) (kind : BlockKind) (here : Place) (events : List RangedEvent) → is_blank_kind kind ≡ true
-      → AreLeafEventsOf kind page setting.texts here block events → events ≡ []
+      → AreLeafEventsOf kind page setting here block events → events ≡ []
   blank_has_none block Blank here events blank are = are
   blank_has_none block Break here events blank are = absurd (cc)
   blank_has_none block Definition here events blank are = are
@@ -247,7 +247,7 @@ module _ (page : List ℕ) (setting : BlockSetting) where
       → AreBlockEvents page setting here waiting block events → events ≡ []
   blank_block block here waiting events blank are =
       blank_has_none block block.kind here events blank
-      (subst (λ (task : Option Task). AreEventsWith task page setting.texts here block events) (none_here setting.tasks waiting block blank) are)
+      (subst (λ (task : Option Task). AreEventsWith task page setting here block events) (none_here setting.asked.tasks waiting block blank) are)
 
   -- These elements are open, and end there: a list with which the nodes go on up to its end, and those around it; or those alone.
   abbrev AreOpenTo : Option OpenList → Nodes → List ℕ → List ℕ → Type 0
@@ -411,7 +411,7 @@ module _ (page : List ℕ) (setting : BlockSetting) where
 
 -- The ranges of a page's events rise, and lie within those of the elements that hold them, where its nodes stand in order and the events of
 -- each leaf block rise.
-pub page_events_rise : (page : List ℕ) (setting : BlockSetting) (passed : ℕ) (nodes : Nodes) (events : List RangedEvent)
+pub page_events_rise : (page : List ℕ) (setting : EventSetting) (passed : ℕ) (nodes : Nodes) (events : List RangedEvent)
     → Stand page setting [] 0 passed nodes → passed_after passed nodes ≤ length page → AreNodeEvents page setting outermost None None nodes events
     → AreWithin page events
 page_events_rise page setting passed nodes events stand within are =

@@ -8,13 +8,13 @@ use Rattle.markdown_blocks.specs.events.Events.{Event, starts, leaf, ends, LeafB
 use Rattle.markdown_blocks.specs.first_blocks.Waiting.{waiting_behind}
 use Rattle.markdown_blocks.specs.link_definitions.LinkDefinitions.{Named, first_of}
 use Rattle.markdown_blocks.specs.lists.Lists.{Nodes, nothing, leaf_then, container_then, flatten}
-use Rattle.markdown_events.specs.InlineEvents.{RangedEvent}
-use Rattle.markdown_events.specs.declared.settings.PageSetting.{PageSetting}
+use Rattle.markdown_events.specs.InlineEvents.{EventSetting, RangedEvent}
+use Rattle.markdown_values.specs.declared.values.extensions.Extensions.{Extensions}
 use Rattle.markdown_events.specs.page.LeafEvents.{Place}
-use Rattle.markdown_events.specs.page.PageEvents.{ArePageEvents, AreNodeEvents, OpenList, after_block, block_setting, blocks_of, container_tag, element_of}
+use Rattle.markdown_events.specs.page.PageEvents.{ArePageEvents, AreNodeEvents, OpenList, after_block, event_setting, container_tag, element_of}
+use Rattle.markdown_events.specs.page.Settings.{built}
 use Rattle.markdown_events.specs.page.PageEvents.{ending, inside, list_after, list_end, list_in, list_start, outermost, starting}
 use Rattle.markdown_events.specs.page.Spans.{container_end, span_of}
-use Rattle.markdown_events.specs.page.TaskEvents.{BlockSetting}
 use Rattle.markdown_events.proofs.page.task_events.TaskLaws.{one_list_of_block_events}
 use Rattle.markdown_values.specs.values.Tags.{item}
 
@@ -93,14 +93,14 @@ one_tree_of_events n m e = (one_tree n m [] [] tt tt (append-nil (flatten n) ∙
 -- ---- a tree has one list of events
 
 -- of a container that is no item, where what it holds and what follows it have one list
-abbrev pub OtherEvents : List ℕ → BlockSetting → Container → ℕ → Nodes → Nodes → Place → List RangedEvent → Type 0
+abbrev pub OtherEvents : List ℕ → EventSetting → Container → ℕ → Nodes → Nodes → Place → List RangedEvent → Type 0
 OtherEvents page setting container place inner later here events =
     (held : List RangedEvent) × (rest : List RangedEvent) × AreNodeEvents page setting (inside container false here) (Some container) None inner held
     × AreNodeEvents page setting (after_block here) None None later rest
     × (events ≡ starting (container_tag container) place (container_end inner) ++ held
     ++ ending (element_of (container_tag container) place (container_end inner)) ++ rest)
 
-one_of_other : (page : List ℕ) (setting : BlockSetting) (container : Container) (place : ℕ) (inner later : Nodes) (here : Place)
+one_of_other : (page : List ℕ) (setting : EventSetting) (container : Container) (place : ℕ) (inner later : Nodes) (here : Place)
     → (events others : List RangedEvent) → (h : OtherEvents page setting container place inner later here events)
     → (k : OtherEvents page setting container place inner later here others) → h.0 ≡ k.0 → h.1 ≡ k.1 → events ≡ others
 one_of_other page setting container place inner later here events others h k held rest =
@@ -109,7 +109,7 @@ one_of_other page setting container place inner later here events others h k hel
     h.4 ∙ (ap (λ es. starting tag place to ++ es ++ ending (element_of tag place to) ++ h.1) held
     ∙ (ap (λ es. starting tag place to ++ k.0 ++ ending (element_of tag place to) ++ es) rest ∙ sym k.4))
 
-one_list_of_node_events : (page : List ℕ) (setting : BlockSetting) (nodes : Nodes) (here : Place) (waiting : Option Container)
+one_list_of_node_events : (page : List ℕ) (setting : EventSetting) (nodes : Nodes) (here : Place) (waiting : Option Container)
     → (current : Option OpenList)
     → (events others : List RangedEvent) → AreNodeEvents page setting here waiting current nodes events
     → AreNodeEvents page setting here waiting current nodes others → events ≡ others
@@ -141,12 +141,13 @@ one_list_of_node_events page setting (container_then (TermDefinition one) place 
     (one_list_of_node_events page setting later (after_block here) None None h.1 k.1 h.3 k.3)
 
 -- a page has one list of events
-pub one_list_of_page_events : (page : List ℕ) (setting : PageSetting) (events others : List RangedEvent) → ArePageEvents page setting events
+pub one_list_of_page_events : (page : List ℕ) (setting : Extensions) (events others : List RangedEvent) → ArePageEvents page setting events
     → ArePageEvents page setting others → events ≡ others
 one_list_of_page_events page setting events others h k =
     let nodes = one_tree_of_events h.nodes k.nodes
-    (one_list_of_events (blocks_of setting) page (flatten h.nodes) (flatten k.nodes) h.are_blocks k.are_blocks) in
-    let named = one_list_of_named (blocks_of setting) page h.named k.named h.are_defined k.are_defined in
-    let first = subst (λ n. AreNodeEvents page (block_setting setting (λ label. first_of label h.named)) outermost None None n events) nodes h.are_events in
-    let second = subst (λ (all : List Named). AreNodeEvents page (block_setting setting (λ label. first_of label all)) outermost None None k.nodes events) named first in
-    one_list_of_node_events page (block_setting setting (λ label. first_of label k.named)) k.nodes outermost None None events others second k.are_events
+    (one_list_of_events (built setting) page (flatten h.nodes) (flatten k.nodes) h.are_blocks k.are_blocks) in
+    let named = one_list_of_named (built setting) page h.named k.named h.are_defined k.are_defined in
+    let first = subst (λ n. AreNodeEvents page (event_setting setting (λ label. first_of label h.named)) outermost None None n events) nodes h.are_events in
+    let second = subst (λ (all : List Named). AreNodeEvents page (event_setting setting (λ label. first_of label all)) outermost None None k.nodes events)
+    named first in
+    one_list_of_node_events page (event_setting setting (λ label. first_of label k.named)) k.nodes outermost None None events others second k.are_events

@@ -12,18 +12,18 @@ use Rattle.markdown_blocks.specs.first_blocks.Waiting.{waiting_behind}
 use Rattle.markdown_blocks.specs.link_definitions.LinkDefinitions.{first_of}
 use Rattle.markdown_blocks.specs.lists.Lists.{Nodes, nothing, leaf_then, container_then}
 use Rattle.markdown_events.specs.EventLaws.{AreBalanced, Started}
-use Rattle.markdown_events.specs.InlineEvents.{RangedEvent}
+use Rattle.markdown_events.specs.InlineEvents.{EventSetting, RangedEvent}
 use Rattle.markdown_events.specs.Nesting.{AreNested, without_ranges}
 use Rattle.markdown_events.specs.TagEnds.{tag_end}
 use Rattle.markdown_events.specs.declared.elements.Element.{Element}
-use Rattle.markdown_events.specs.declared.settings.PageSetting.{PageSetting}
+use Rattle.markdown_values.specs.declared.values.extensions.Extensions.{Extensions}
 use Rattle.markdown_events.specs.declared.page.levels.ItemList.{ItemList}
 use Rattle.markdown_events.specs.page.LeafEvents.{Place}
-use Rattle.markdown_events.specs.page.PageEvents.{AreNodeEvents, ArePageEvents, ArePageEventsWith, OpenList, after_block, block_setting, container_tag, ending, inside}
+use Rattle.markdown_events.specs.page.PageEvents.{AreNodeEvents, ArePageEvents, ArePageEventsWith, OpenList, after_block, event_setting}
+use Rattle.markdown_events.specs.page.PageEvents.{container_tag, ending, inside}
 use Rattle.markdown_events.specs.page.PageEvents.{list_after, list_end, list_in, list_tag, outermost}
 use Rattle.markdown_events.specs.Targets.{Targets, or_else}
 use Rattle.markdown_events.specs.page.Places.{element}
-use Rattle.markdown_events.specs.page.TaskEvents.{BlockSetting}
 use Rattle.markdown_events.specs.page.Spans.{container_end, front_list, is_alike, span_of}
 use Rattle.markdown_events.proofs.page.OnePage.{OtherEvents}
 use Rattle.markdown_events.proofs.inline_events.NoTables.{IsOther}
@@ -80,7 +80,7 @@ other_container (Item one) = refl
 other_container Footnote = refl
 other_container (TermDefinition one) = refl
 
-module _ (page : List ℕ) (setting : BlockSetting) where
+module _ (page : List ℕ) (setting : EventSetting) where
   -- with these elements open, of which the nodes end their list, what stands after them does so after their events
   abbrev NodesStand : Nodes → Type 0
   NodesStand nodes = (here : Place) (waiting : Option Container) (current : Option OpenList) (elements outer : List Started) (events more : List RangedEvent)
@@ -171,32 +171,32 @@ module _ (page : List ℕ) (setting : BlockSetting) where
 
 -- ---- the page
 
-page_events_stand : (page : List ℕ) (setting : PageSetting) (events : List RangedEvent) → ArePageEvents page setting events → Stand events
+page_events_stand : (page : List ℕ) (setting : Extensions) (events : List RangedEvent) → ArePageEvents page setting events → Stand events
 page_events_stand page setting events are =
-    let read_with = block_setting setting (λ label. first_of label are.named) in
+    let read_with = event_setting setting (λ label. first_of label are.named) in
     alone page read_with are.nodes (nodes_stand page read_with are.nodes) outermost None events are.are_events
 
 -- also where labels that the page does not define lead as these say
-page_events_with_stand : (page : List ℕ) (setting : PageSetting) (more : Targets) (events : List RangedEvent)
+page_events_with_stand : (page : List ℕ) (setting : Extensions) (more : Targets) (events : List RangedEvent)
     → ArePageEventsWith page setting more events → Stand events
 page_events_with_stand page setting more events are =
-    let read_with = block_setting setting (or_else (λ label. first_of label are.named) more) in
+    let read_with = event_setting setting (or_else (λ label. first_of label are.named) more) in
     alone page read_with are.nodes (nodes_stand page read_with are.nodes) outermost None events are.are_events
 
 -- starts and ends balance
-pub page_events_balance : (page : List ℕ) (setting : PageSetting) (events : List RangedEvent) → ArePageEvents page setting events
+pub page_events_balance : (page : List ℕ) (setting : Extensions) (events : List RangedEvent) → ArePageEvents page setting events
     → AreBalanced events
 page_events_balance page setting events are = alone_balance events (page_events_stand page setting events are)
 
-pub page_events_with_balance : (page : List ℕ) (setting : PageSetting) (more : Targets) (events : List RangedEvent)
+pub page_events_with_balance : (page : List ℕ) (setting : Extensions) (more : Targets) (events : List RangedEvent)
     → ArePageEventsWith page setting more events → AreBalanced events
 page_events_with_balance page setting more events are = alone_balance events (page_events_with_stand page setting more events are)
 
 -- rows stand in tables, cells in rows, and no table in another
-pub page_events_nest : (page : List ℕ) (setting : PageSetting) (events : List RangedEvent) → ArePageEvents page setting events
+pub page_events_nest : (page : List ℕ) (setting : Extensions) (events : List RangedEvent) → ArePageEvents page setting events
     → AreNested (without_ranges events)
 page_events_nest page setting events are = alone_nested events (page_events_stand page setting events are)
 
-pub page_events_with_nest : (page : List ℕ) (setting : PageSetting) (more : Targets) (events : List RangedEvent)
+pub page_events_with_nest : (page : List ℕ) (setting : Extensions) (more : Targets) (events : List RangedEvent)
     → ArePageEventsWith page setting more events → AreNested (without_ranges events)
 page_events_with_nest page setting more events are = alone_nested events (page_events_with_stand page setting more events are)

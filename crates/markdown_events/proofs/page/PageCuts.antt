@@ -13,15 +13,15 @@ use Rattle.markdown_blocks.specs.link_definitions.LinkDefinitions.{first_of}
 use Rattle.markdown_blocks.specs.lists.Lists.{Nodes, nothing, leaf_then, container_then, flatten}
 use Rattle.markdown_blocks.proofs.ForCallers.{page_contents_stand, page_cut_out, page_firsts_begin_plain}
 use Rattle.markdown_events.specs.EventLaws.{AreAtBoundaries}
-use Rattle.markdown_events.specs.InlineEvents.{RangedEvent}
+use Rattle.markdown_events.specs.InlineEvents.{EventSetting, RangedEvent}
 use Rattle.markdown_events.specs.Targets.{Targets, or_else}
-use Rattle.markdown_events.specs.declared.settings.PageSetting.{PageSetting}
-use Rattle.markdown_events.specs.page.PageEvents.{AreNodeEvents, ArePageEvents, ArePageEventsWith, block_setting, blocks_of, outermost}
-use Rattle.markdown_events.specs.page.TaskEvents.{BlockSetting}
+use Rattle.markdown_values.specs.declared.values.extensions.Extensions.{Extensions}
+use Rattle.markdown_events.specs.page.PageEvents.{AreNodeEvents, ArePageEvents, ArePageEventsWith, event_setting, outermost}
+use Rattle.markdown_events.specs.page.Settings.{built}
 use Rattle.markdown_events.proofs.page.NodeCuts.{NodesAt, nodes_at}
 use Rattle.markdown_events.proofs.page.task_events.TaskCuts.{block_at}
 
-module _ (page : List ℕ) (setting : BlockSetting) where
+module _ (page : List ℕ) (setting : EventSetting) where
   -- nodes whose events are cut out, and after them other events
   cut_nodes : (nodes : Nodes) (outer : List Container) (kept passed : ℕ) (waiting : Option Container) (rest : List Event)
       → ContentsStand page outer kept passed nodes → AreCutOut page (flatten nodes ++ rest) → FirstsBeginPlain waiting (flatten nodes ++ rest)
@@ -46,13 +46,13 @@ module _ (page : List ℕ) (setting : BlockSetting) where
 
 -- ---- the page
 
-module _ (page : List ℕ) (setting : PageSetting) (utf8 : IsUtf8 page) where
+module _ (page : List ℕ) (setting : Extensions) (utf8 : IsUtf8 page) where
   -- wherever labels lead
-  tree_at_boundaries : (targets : Targets) (nodes : Nodes) (events : List RangedEvent) → IsEventsOf (blocks_of setting) page (flatten nodes)
-      → AreNodeEvents page (block_setting setting targets) outermost None None nodes events → AreAtBoundaries page events
+  tree_at_boundaries : (targets : Targets) (nodes : Nodes) (events : List RangedEvent) → IsEventsOf (built setting) page (flatten nodes)
+      → AreNodeEvents page (event_setting setting targets) outermost None None nodes events → AreAtBoundaries page events
   tree_at_boundaries targets nodes events are_blocks are_events =
-      let read_with = block_setting setting targets in
-      let asked = blocks_of setting in
+      let read_with = event_setting setting targets in
+      let asked = built setting in
       let all = sym (append-nil (flatten nodes)) in
       let at = cut_nodes page read_with nodes [] 0 (text_start page) None [] (page_contents_stand asked page nodes are_blocks)
       (subst (AreCutOut page) all (page_cut_out asked page (flatten nodes) are_blocks utf8))

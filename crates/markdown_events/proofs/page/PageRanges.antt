@@ -11,14 +11,14 @@ use Rattle.markdown_blocks.specs.link_definitions.LinkDefinitions.{first_of}
 use Rattle.markdown_blocks.specs.lists.Lists.{Nodes, nothing, leaf_then, container_then, flatten}
 use Rattle.markdown_blocks.proofs.ForCallers.{HasInlines, containers_hold_some, content_sizes, page_contents_stand, page_nodes_stand}
 use Rattle.markdown_events.specs.EventLaws.{AreWithin}
-use Rattle.markdown_events.specs.InlineEvents.{RangedEvent}
+use Rattle.markdown_events.specs.InlineEvents.{EventSetting, RangedEvent}
 use Rattle.markdown_events.specs.Targets.{Targets, or_else}
-use Rattle.markdown_events.specs.declared.settings.PageSetting.{PageSetting}
+use Rattle.markdown_values.specs.declared.values.extensions.Extensions.{Extensions}
 use Rattle.markdown_events.specs.page.LeafEvents.{Place}
-use Rattle.markdown_events.specs.page.PageEvents.{AreNodeEvents, ArePageEvents, ArePageEventsWith, block_setting, blocks_of, outermost}
+use Rattle.markdown_events.specs.page.PageEvents.{AreNodeEvents, ArePageEvents, ArePageEventsWith, event_setting, outermost}
+use Rattle.markdown_events.specs.page.Settings.{built}
 use Rattle.markdown_events.specs.page.Places.{lines_in_page}
 use Rattle.markdown_events.specs.page.Spans.{block_end}
-use Rattle.markdown_events.specs.page.TaskEvents.{BlockSetting}
 use Rattle.markdown_events.proofs.page.NodeRanges.{AreSome, LeafRises, Stand, page_events_rise}
 use Rattle.markdown_events.proofs.page.leaf_events.LineRanges.{ContentAfter}
 use Rattle.markdown_events.proofs.page.task_events.TaskRanges.{block_rises}
@@ -65,7 +65,7 @@ some_inside nothing some = absurd (some refl)
 some_inside (leaf_then block later) some = tt
 some_inside (container_then container place inner later) some = tt
 
-module _ (page : List ℕ) (setting : BlockSetting) where
+module _ (page : List ℕ) (setting : EventSetting) where
   leaf_stands : (outer : List Container) (kept passed : ℕ) (block : LeafBlock) → passed ≤ block.place → block.place ≤ block_end block
       → HoldsContent page outer kept passed block → HoldsText page outer kept block → LeafRises page setting passed outer kept block
   leaf_stands outer kept passed block own ends_after stands holds is_tight waiting events are =
@@ -93,13 +93,13 @@ module _ (page : List ℕ) (setting : BlockSetting) where
 
 -- ---- the page
 
-module _ (page : List ℕ) (setting : PageSetting) where
+module _ (page : List ℕ) (setting : Extensions) where
   -- wherever labels lead
-  tree_within : (targets : Targets) (nodes : Nodes) (events : List RangedEvent) → IsEventsOf (blocks_of setting) page (flatten nodes)
-      → AreNodeEvents page (block_setting setting targets) outermost None None nodes events → AreWithin page events
+  tree_within : (targets : Targets) (nodes : Nodes) (events : List RangedEvent) → IsEventsOf (built setting) page (flatten nodes)
+      → AreNodeEvents page (event_setting setting targets) outermost None None nodes events → AreWithin page events
   tree_within targets nodes events are_blocks are_events =
-      let read_with = block_setting setting targets in
-      let asked = blocks_of setting in
+      let read_with = event_setting setting targets in
+      let asked = built setting in
       let found = page_nodes_stand asked page nodes are_blocks in
       let stand = nodes_stand page read_with nodes [] 0 (text_start page) found.0 (containers_hold_some asked page nodes are_blocks)
       (page_contents_stand asked page nodes are_blocks) in

@@ -9,10 +9,11 @@ use Rattle.markdown_blocks.specs.lists.Lists.{Nodes, flatten}
 use Rattle.markdown_events.specs.InlineEvents.{RangedEvent}
 use Rattle.markdown_events.specs.Targets.{Targets, nowhere, or_else}
 use Rattle.markdown_events.specs.declared.page.spans.Span.{Span}
-use Rattle.markdown_events.specs.declared.settings.PageSetting.{PageSetting}
+use Rattle.markdown_values.specs.declared.values.extensions.Extensions.{Extensions}
 use Rattle.markdown_events.specs.page.Given.{AreEventsFrom, Gives, GivesWith, IsDone, PageLeft, left_with, setting_of, setting_with}
 use Rattle.markdown_events.specs.page.OpenElements.{begun, end_events, ended, next_span, none_open, passed, place_in, start_events}
-use Rattle.markdown_events.specs.page.PageEvents.{block_setting, blocks_of, ArePageEvents, ArePageEventsWith, AreNodeEvents, outermost}
+use Rattle.markdown_events.specs.page.PageEvents.{event_setting, ArePageEvents, ArePageEventsWith, AreNodeEvents, outermost}
+use Rattle.markdown_events.specs.page.Settings.{built}
 use Rattle.markdown_events.specs.page.Spans.{spans}
 use Rattle.markdown_events.specs.page.TaskEvents.{AreBlockEvents}
 use Rattle.markdown_events.proofs.page.TreeLemmas.{page_tree}
@@ -25,7 +26,7 @@ without_more targets = fun_ext (λ label. elim (targets label) as (λ t. elim t 
 pub given_without : (left : PageLeft) (events : List RangedEvent) → GivesWith nowhere left events → Gives left events
 given_without left events g = record {
   rest = g.rest;
-  are_later = subst (λ targets. AreEventsFrom left.page (record { tasks = left.tasks; texts = record { asked = left.extensions; targets = targets } }) left.elements left.blocks g.rest)
+  are_later = subst (λ targets. AreEventsFrom left.page (record { asked = left.extensions; targets = targets }) left.elements left.blocks g.rest)
       (without_more (known_as left.known)) g.are_later;
   given = g.given;
 }
@@ -33,44 +34,44 @@ given_without left events g = record {
 pub given_with : (left : PageLeft) (events : List RangedEvent) → Gives left events → GivesWith nowhere left events
 given_with left events g = record {
   rest = g.rest;
-  are_later = subst (λ targets. AreEventsFrom left.page (record { tasks = left.tasks; texts = record { asked = left.extensions; targets = targets } }) left.elements left.blocks g.rest)
+  are_later = subst (λ targets. AreEventsFrom left.page (record { asked = left.extensions; targets = targets }) left.elements left.blocks g.rest)
       (sym (without_more (known_as left.known))) g.are_later;
   given = g.given;
 }
 
 -- the definitions that are known as the page's are its own
-pub page_events_with : (page : List ℕ) (setting : PageSetting) (more : Targets) (blocks : List Event) (known : Known) (found : List Span)
-    (events : List RangedEvent) → IsEventsOf (blocks_of setting) page blocks
-    → (named : List Named) → HasDefinitions (blocks_of setting) page named
+pub page_events_with : (page : List ℕ) (setting : Extensions) (more : Targets) (blocks : List Event) (known : Known) (found : List Span)
+    (events : List RangedEvent) → IsEventsOf (built setting) page blocks
+    → (named : List Named) → HasDefinitions (built setting) page named
     → ((label : List ℕ) → known_as known label ≡ first_of label named)
     → ((nodes : Nodes) → blocks ≡ flatten nodes → found ≡ spans nodes)
-    → AreEventsFrom page (block_setting setting (or_else (known_as known) more)) (none_open found) blocks events
+    → AreEventsFrom page (event_setting setting (or_else (known_as known) more)) (none_open found) blocks events
     → ArePageEventsWith page setting more events
 page_events_with page setting more blocks known found events of_page named defined first are_spans given =
-    let tree = events_of_nodes (blocks_of setting) page blocks of_page in
+    let tree = events_of_nodes (built setting) page blocks of_page in
     let same : known_as known ≡ (λ label. first_of label named) = fun_ext first in
-    let spanned = subst (λ all. AreEventsFrom page (block_setting setting (or_else (known_as known) more)) (none_open all) blocks events)
+    let spanned = subst (λ all. AreEventsFrom page (event_setting setting (or_else (known_as known) more)) (none_open all) blocks events)
     (are_spans tree.0 tree.1) given in
-    let flat = subst (λ all. AreEventsFrom page (block_setting setting (or_else (known_as known) more)) (none_open (spans tree.0)) all events)
+    let flat = subst (λ all. AreEventsFrom page (event_setting setting (or_else (known_as known) more)) (none_open (spans tree.0)) all events)
     tree.1 spanned in
     record {
       nodes = tree.0;
-      are_blocks = subst (λ all. IsEventsOf (blocks_of setting) page all) tree.1 of_page;
+      are_blocks = subst (λ all. IsEventsOf (built setting) page all) tree.1 of_page;
       named = named;
       are_defined = defined;
-      are_events = subst (λ (targets : Targets). AreNodeEvents page (block_setting setting (or_else targets more)) outermost None None tree.0 events) same
-          (page_tree page (block_setting setting (or_else (known_as known) more)) tree.0 events flat);
+      are_events = subst (λ (targets : Targets). AreNodeEvents page (event_setting setting (or_else targets more)) outermost None None tree.0 events) same
+          (page_tree page (event_setting setting (or_else (known_as known) more)) tree.0 events flat);
     }
 
 -- without other labels they are those of the page
-pub page_events : (page : List ℕ) (setting : PageSetting) (events : List RangedEvent) → ArePageEventsWith page setting nowhere events
+pub page_events : (page : List ℕ) (setting : Extensions) (events : List RangedEvent) → ArePageEventsWith page setting nowhere events
     → ArePageEvents page setting events
 page_events page setting events are = record {
   nodes = are.nodes;
   are_blocks = are.are_blocks;
   named = are.named;
   are_defined = are.are_defined;
-  are_events = subst (λ targets. AreNodeEvents page (block_setting setting (targets)) outermost None None are.nodes events)
+  are_events = subst (λ targets. AreNodeEvents page (event_setting setting (targets)) outermost None None are.nodes events)
       (without_more (λ label. first_of label are.named)) are.are_events;
 }
 

@@ -15,7 +15,7 @@ use Rattle.markdown_blocks.specs.events.Events.{Event, leaf, ends, LeafBlock}
 use Rattle.markdown_blocks.specs.first_blocks.Waiting.{waiting_behind}
 use Rattle.markdown_blocks.specs.blocks.Pages.{is_blank_kind}
 use Rattle.markdown_blocks.specs.lists.Lists.{Nodes, nothing, leaf_then, container_then, flatten}
-use Rattle.markdown_events.specs.InlineEvents.{RangedEvent}
+use Rattle.markdown_events.specs.InlineEvents.{EventSetting, RangedEvent}
 use Rattle.markdown_events.specs.TagEnds.{tag_end}
 use Rattle.markdown_events.specs.declared.page.open_elements.OpenElement.{OpenElement}
 use Rattle.markdown_events.specs.declared.page.levels.ItemList.{ItemList}
@@ -27,7 +27,7 @@ use Rattle.markdown_events.specs.page.OpenElements.{without_list}
 use Rattle.markdown_events.specs.page.PageEvents.{AreNodeEvents, OpenList, after_block, container_tag, element_of, ending, inside, list_after, list_end}
 use Rattle.markdown_events.specs.page.PageEvents.{list_in, list_start, list_tag, outermost, starting}
 use Rattle.markdown_events.specs.page.Spans.{container_end, front_list, is_alike, span_of, spans}
-use Rattle.markdown_events.specs.page.TaskEvents.{AreBlockEvents, BlockSetting}
+use Rattle.markdown_events.specs.page.TaskEvents.{AreBlockEvents}
 
 -- no list is directly in a list
 abbrev AreParted : List OpenElement → Type 0
@@ -163,7 +163,7 @@ abbrev with_spans : List Span → OpenElements → OpenElements
 with_spans spans s = record s { spans = spans }
 
 -- the events of nodes, and of what follows them
-record AreBoth (page : List ℕ) (setting : BlockSetting) (nodes : Nodes) (more : List Span) (tail : List Event) (s : OpenElements)
+record AreBoth (page : List ℕ) (setting : EventSetting) (nodes : Nodes) (more : List Span) (tail : List Event) (s : OpenElements)
     (events : List RangedEvent) : Type 0 where
   here : List RangedEvent
   rest : List RangedEvent
@@ -186,7 +186,7 @@ goes_on_leaf blank None block later e goes = tt
 goes_on_leaf true (Some now) block later e goes = subst (λ b. IsTrue (is_some (if b then front_list later else None))) e goes
 goes_on_leaf false (Some now) block later e goes = absurd (false_is_not (subst (λ b. IsTrue (is_some (if b then front_list later else None))) e goes))
 
-nothing_goes_on : (page : List ℕ) (setting : BlockSetting) (more : List Span) (tail : List Event) (s : OpenElements) (events : List RangedEvent)
+nothing_goes_on : (page : List ℕ) (setting : EventSetting) (more : List Span) (tail : List Event) (s : OpenElements) (events : List RangedEvent)
     → AreParted s.elements → GoesOn (innermost_list s.elements) nothing
     → AreEventsFrom page setting (with_spans more s) tail events → AreBoth page setting nothing more tail s events
 nothing_goes_on page setting more tail s events parted goes are =
@@ -204,7 +204,7 @@ nothing_goes_on page setting more tail s events parted goes are =
       both = refl;
     }
 
-leaf_goes_on : (page : List ℕ) (setting : BlockSetting) (block : LeafBlock) (later : Nodes) (more : List Span) (tail : List Event) (s : OpenElements)
+leaf_goes_on : (page : List ℕ) (setting : EventSetting) (block : LeafBlock) (later : Nodes) (more : List Span) (tail : List Event) (s : OpenElements)
     → (here rest events : List RangedEvent) → AreBlockEvents page setting (place_in s) s.waiting block here → events ≡ here ++ rest
     → AreBoth page setting later more tail (passed block s) rest → AreBoth page setting (leaf_then block later) more tail s events
 leaf_goes_on page setting block later more tail s here rest events leaf_is both_are next = record {
@@ -267,7 +267,7 @@ goes_on_by true now later one e = alike_is_some one (front_list later) e
 goes_on_by false now later one e = tt
 
 -- what is given of an item: what it holds, its end, and what follows it
-item_joined : (page : List ℕ) (setting : BlockSetting) (one : ListItem) (place : ℕ) (inner later : Nodes) (more : List Span) (tail : List Event)
+item_joined : (page : List ℕ) (setting : EventSetting) (one : ListItem) (place : ℕ) (inner later : Nodes) (more : List Span) (tail : List Event)
     → (s : OpenElements) (events rest : List RangedEvent) → AreParted s.elements
     → let span = span_of (Item one) inner later in
     let lists = with_list one place span s.elements in
@@ -337,7 +337,7 @@ item_joined page setting one place inner later more tail s events rest parted gi
 abbrev other_element : Container → ℕ → ℕ → OpenElement
 other_element container place to = record { element = element_of (container_tag container) place to; is_tight = false; is_last = false }
 
-record AreOther (page : List ℕ) (setting : BlockSetting) (container : Container) (place : ℕ) (inner later : Nodes) (more : List Span)
+record AreOther (page : List ℕ) (setting : EventSetting) (container : Container) (place : ℕ) (inner later : Nodes) (more : List Span)
     (tail : List Event) (s : OpenElements) (events : List RangedEvent) : Type 0 where
   here : List RangedEvent
   rest : List RangedEvent
@@ -358,7 +358,7 @@ record AreOther (page : List ℕ) (setting : BlockSetting) (container : Containe
 joined_other : (a b c d e : List RangedEvent) → a ++ (b ++ (c ++ (d ++ e))) ≡ (a ++ b ++ c ++ d) ++ e
 joined_other a b c d e = simp append_assoc refl
 
-other_joined : (page : List ℕ) (setting : BlockSetting) (container : Container) (place : ℕ) (inner later : Nodes) (more : List Span) (tail : List Event)
+other_joined : (page : List ℕ) (setting : EventSetting) (container : Container) (place : ℕ) (inner later : Nodes) (more : List Span) (tail : List Event)
     → (s : OpenElements) (events rest : List RangedEvent) → innermost_list s.elements ≡ None
     → let open_now = other_element container place (container_end inner) ∷ s.elements in
     innermost_list open_now ≡ None → is_tight_in (without_list open_now) ≡ false → without_list open_now ≡ open_now
@@ -421,7 +421,7 @@ none_now_other : (now : Option OpenList) (nodes : Nodes) → front_list nodes �
 none_now_other None nodes front goes = refl
 none_now_other (Some now) nodes front goes = absurd (false_is_not (subst (λ f. IsTrue (is_some f)) front goes))
 
-split_events : (page : List ℕ) (setting : BlockSetting) (inner later : Nodes) (more : List Span) (tail : List Event) (s : OpenElements)
+split_events : (page : List ℕ) (setting : EventSetting) (inner later : Nodes) (more : List Span) (tail : List Event) (s : OpenElements)
     → (events : List RangedEvent)
     → AreEventsFrom page setting (with_spans ((spans inner ++ spans later) ++ more) s) ((flatten inner ++ ends ∷ flatten later) ++ tail) events
     → AreEventsFrom page setting (with_spans (spans inner ++ (spans later ++ more)) s) (flatten inner ++ (ends ∷ (flatten later ++ tail))) events
@@ -431,7 +431,7 @@ split_events page setting inner later more tail s events are =
     (subst (λ blocks. AreEventsFrom page setting (with_spans ((spans inner ++ spans later) ++ more) s) blocks events)
     (append_assoc (flatten inner) (ends ∷ flatten later) tail) are)
 
-flat_tree : (page : List ℕ) (setting : BlockSetting) (nodes : Nodes) (more : List Span) (tail : List Event) (s : OpenElements)
+flat_tree : (page : List ℕ) (setting : EventSetting) (nodes : Nodes) (more : List Span) (tail : List Event) (s : OpenElements)
     → (events : List RangedEvent) → AreParted s.elements → GoesOn (innermost_list s.elements) nodes
     → AreEventsFrom page setting (with_spans (spans nodes ++ more) s) (flatten nodes ++ tail) events
     → AreBoth page setting nodes more tail s events
@@ -482,7 +482,7 @@ flat_tree page setting (container_then (TermDefinition one) place inner later) m
     record { here = other.here; rest = other.rest; of_nodes = other.of_nodes; of_tail = other.of_tail; both = other.both }
 
 -- the events of a page's block events are those of its nodes
-pub page_tree : (page : List ℕ) (setting : BlockSetting) (nodes : Nodes) (events : List RangedEvent)
+pub page_tree : (page : List ℕ) (setting : EventSetting) (nodes : Nodes) (events : List RangedEvent)
     → AreEventsFrom page setting (none_open (spans nodes)) (flatten nodes) events
     → AreNodeEvents page setting outermost None None nodes events
 page_tree page setting nodes events are =

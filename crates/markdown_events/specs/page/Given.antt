@@ -1,16 +1,16 @@
 -- The events of a page that are left, while they are given one after another.
-use Rattle.std.specs.Prelude.{ℕ, Bool, ◌≡◌, ◌+◌, ◌*◌, ◌^◌, drop, length, List, [], ◌∷◌, ◌++◌}
+use Rattle.std.specs.Prelude.{ℕ, ◌≡◌, ◌+◌, ◌*◌, ◌^◌, drop, length, List, [], ◌∷◌, ◌++◌}
 use Rattle.markdown_blocks.specs.events.Events.{Event, LeafBlock, starts, leaf, ends}
 use Rattle.markdown_blocks.specs.link_definitions.LinkDefinitions.{Known, known_as}
-use Rattle.markdown_inlines.specs.declared.extensions.InlineExtensions.{InlineExtensions}
-use Rattle.markdown_events.specs.InlineEvents.{RangedEvent}
+use Rattle.markdown_values.specs.declared.values.extensions.Extensions.{Extensions}
+use Rattle.markdown_events.specs.InlineEvents.{EventSetting, RangedEvent}
 use Rattle.markdown_events.specs.Targets.{Targets, or_else}
 use Rattle.markdown_events.specs.page.LeafEvents.{HasNoEvents}
 use Rattle.markdown_events.specs.page.OpenElements.{OpenElements, begun, ended, passed, place_in, start_events, end_events, next_span}
-use Rattle.markdown_events.specs.page.TaskEvents.{AreBlockEvents, BlockSetting}
+use Rattle.markdown_events.specs.page.TaskEvents.{AreBlockEvents}
 
 -- These are the events of the block events that follow, with these elements open.
-abbrev pub AreEventsFrom : List ℕ → BlockSetting → OpenElements → List Event → List RangedEvent → Type 0
+abbrev pub AreEventsFrom : List ℕ → EventSetting → OpenElements → List Event → List RangedEvent → Type 0
 AreEventsFrom page setting s [] events = events ≡ []
 AreEventsFrom page setting s (starts container place ∷ later) events =
     (rest : List RangedEvent) × AreEventsFrom page setting (begun container place s) later rest
@@ -25,25 +25,18 @@ AreEventsFrom page setting s (ends ∷ later) events =
 -- the block events that follow.
 pub record PageLeft : Type 0 where
   pub page : List ℕ
-  pub tasks : Bool
-  pub extensions : InlineExtensions
+  pub extensions : Extensions
   pub known : Known
   pub ready : List RangedEvent
   pub elements : OpenElements
   pub blocks : List Event
 
-abbrev pub setting_of : PageLeft → BlockSetting
-setting_of left = record {
-  tasks = left.tasks;
-  texts = record { asked = left.extensions; targets = known_as left.known };
-}
+abbrev pub setting_of : PageLeft → EventSetting
+setting_of left = record { asked = left.extensions; targets = known_as left.known }
 
 -- the same where labels that the page does not define lead as these say
-abbrev pub setting_with : Targets → PageLeft → BlockSetting
-setting_with more left = record {
-  tasks = left.tasks;
-  texts = record { asked = left.extensions; targets = or_else (known_as left.known) more };
-}
+abbrev pub setting_with : Targets → PageLeft → EventSetting
+setting_with more left = record { asked = left.extensions; targets = or_else (known_as left.known) more }
 
 -- the same with other events ready, other elements open and other block events left
 abbrev pub left_with : PageLeft → List RangedEvent → OpenElements → List Event → PageLeft

@@ -3,7 +3,7 @@ use Rattle.std.specs.Prelude.{ℕ, Bool, false, not, ◌==◌, ◌||◌, ◌≡�
 use Rattle.markdown_values.specs.values.Events.{start, end}
 use Rattle.markdown_values.specs.values.Tags.{TagView, block_quote, list, item, footnote_definition, definition_list_definition}
 use Rattle.markdown_scanners_tree.specs.Ascii.{full_stop, right_parenthesis}
-use Rattle.markdown_blocks.specs.declared.containers.BlockExtensions.{BlockExtensions}
+use Rattle.markdown_values.specs.declared.values.extensions.Extensions.{Extensions}
 use Rattle.markdown_blocks.specs.containers.Containers.{settled}
 use Rattle.markdown_blocks.specs.declared.containers.Container.{Container}
 use Rattle.markdown_blocks.specs.declared.containers.Container.TheVariants.{Quote, Item, Footnote, TermDefinition}
@@ -12,15 +12,15 @@ use Rattle.markdown_blocks.specs.events.Events.{IsEventsOf, leaf}
 use Rattle.markdown_blocks.specs.first_blocks.Waiting.{waiting_behind}
 use Rattle.markdown_blocks.specs.link_definitions.LinkDefinitions.{Known, Named, HasDefinitions, first_of, known_as}
 use Rattle.markdown_blocks.specs.lists.Lists.{Nodes, nothing, leaf_then, container_then, flatten}
-use Rattle.markdown_events.specs.InlineEvents.{RangedEvent, ranged}
+use Rattle.markdown_events.specs.InlineEvents.{EventSetting, RangedEvent, ranged}
 use Rattle.markdown_events.specs.TagEnds.{tag_end}
 use Rattle.markdown_events.specs.Targets.{Targets, or_else}
-use Rattle.markdown_events.specs.declared.settings.PageSetting.{PageSetting}
 use Rattle.markdown_events.specs.page.LeafEvents.{Place}
 use Rattle.markdown_events.specs.declared.elements.Element.{Element}
 use Rattle.markdown_events.specs.declared.page.spans.Span.{Span}
+use Rattle.markdown_events.specs.page.Settings.{built}
 use Rattle.markdown_events.specs.page.Spans.{span_of, container_end}
-use Rattle.markdown_events.specs.page.TaskEvents.{AreBlockEvents, BlockSetting}
+use Rattle.markdown_events.specs.page.TaskEvents.{AreBlockEvents}
 
 -- ---- elements
 
@@ -88,7 +88,7 @@ after_block here = record here { kept = length here.containers }
 
 -- These are the events of nodes that stand here, directly in this container where it has no block yet, and before which this list has
 -- begun and not ended.
-abbrev pub AreNodeEvents : List ℕ → BlockSetting → Place → Option Container → Option OpenList → Nodes → List RangedEvent → Type 0
+abbrev pub AreNodeEvents : List ℕ → EventSetting → Place → Option Container → Option OpenList → Nodes → List RangedEvent → Type 0
 AreNodeEvents page setting here waiting current nothing events = events ≡ []
 AreNodeEvents page setting here waiting current (leaf_then block later) events =
     (own : List RangedEvent) × (rest : List RangedEvent) × AreBlockEvents page setting here waiting block own
@@ -113,43 +113,28 @@ AreNodeEvents page setting here waiting current (container_then container place 
 abbrev pub outermost : Place
 outermost = record { containers = []; kept = 0; is_tight = false }
 
--- the extensions of blocks that a setting asks for
-abbrev pub blocks_of : PageSetting → BlockExtensions
-blocks_of setting = record { footnotes = false; definition_lists = false; no_tables = not setting.tables }
-
--- CommonMark, without extensions
-abbrev pub commonmark : PageSetting
-commonmark = record {
-  tables = false;
-  tasks = false;
-  inlines = record { strikethrough = false; wikilinks = false };
-}
-
--- what its blocks are read with, where labels lead so
-abbrev pub block_setting : PageSetting → Targets → BlockSetting
-block_setting setting targets = record {
-  tasks = setting.tasks;
-  texts = record { asked = setting.inlines; targets = targets };
-}
+-- what its blocks and texts are read with, where labels lead so
+abbrev pub event_setting : Extensions → Targets → EventSetting
+event_setting asked targets = record { asked = asked; targets = targets }
 
 -- These are the events of a page: those of its blocks and inlines, its own link reference definitions being defined.
-pub record ArePageEvents (page : List ℕ) (setting : PageSetting) (events : List RangedEvent) : Type 0 where
+pub record ArePageEvents (page : List ℕ) (setting : Extensions) (events : List RangedEvent) : Type 0 where
   pub nodes : Nodes
-  pub are_blocks : IsEventsOf (blocks_of setting) page (flatten nodes)
+  pub are_blocks : IsEventsOf (built setting) page (flatten nodes)
   pub named : List Named
-  pub are_defined : HasDefinitions (blocks_of setting) page named
-  pub are_events : AreNodeEvents page (block_setting setting (λ label. first_of label named)) outermost None None nodes events
+  pub are_defined : HasDefinitions (built setting) page named
+  pub are_events : AreNodeEvents page (event_setting setting (λ label. first_of label named)) outermost None None nodes events
 
 -- These are the events of a page whose labels lead as these say where the page does not define them. (6.3: without them "[foo]" is text)
-pub record ArePageEventsWith (page : List ℕ) (setting : PageSetting) (more : Targets) (events : List RangedEvent) : Type 0 where
+pub record ArePageEventsWith (page : List ℕ) (setting : Extensions) (more : Targets) (events : List RangedEvent) : Type 0 where
   pub nodes : Nodes
-  pub are_blocks : IsEventsOf (blocks_of setting) page (flatten nodes)
+  pub are_blocks : IsEventsOf (built setting) page (flatten nodes)
   pub named : List Named
-  pub are_defined : HasDefinitions (blocks_of setting) page named
-  pub are_events : AreNodeEvents page (block_setting setting (or_else (λ label. first_of label named) more)) outermost None None nodes events
+  pub are_defined : HasDefinitions (built setting) page named
+  pub are_events : AreNodeEvents page (event_setting setting (or_else (λ label. first_of label named) more)) outermost None None nodes events
 
 -- What is known of where labels lead are the link reference definitions of a page, of each label the first. (4.7)
-pub record AreDefinitionsOf (page : List ℕ) (setting : PageSetting) (known : Known) : Type 0 where
+pub record AreDefinitionsOf (page : List ℕ) (setting : Extensions) (known : Known) : Type 0 where
   pub named : List Named
-  pub are_defined : HasDefinitions (blocks_of setting) page named
+  pub are_defined : HasDefinitions (built setting) page named
   pub are_first : (label : List ℕ) → known_as known label ≡ first_of label named

@@ -11,11 +11,6 @@ use Rattle.markdown_blocks.specs.first_blocks.Tasks.{task_in}
 use Rattle.markdown_events.specs.InlineEvents.{RangedEvent, ranged, AreInlineEvents, EventSetting}
 use Rattle.markdown_events.specs.page.LeafEvents.{Place, AreLeafEvents, IsContentOf, in_paragraph, placed}
 
--- what blocks are read with: whether task list markers are asked for, and what their texts are read with
-pub record BlockSetting : Type 0 where
-  pub tasks : Bool
-  pub texts : EventSetting
-
 -- The task list marker that a block begins with, where they are asked for and the block is the first of this container: "a task list
 -- item is a list item where the first block in it is a paragraph which begins with a task list item marker".
 abbrev pub task_here : Bool → Option Container → LeafBlock → Option Task
@@ -24,7 +19,7 @@ task_here asked waiting block = None
 
 -- a content after so many bytes
 abbrev pub after : ℕ → Placed → Placed
-after count content = record { text = drop count content.text; places = drop count content.places }
+after count content = record { text = drop count content.text; places = drop count content.places; is_lent = content.is_lent }
 
 -- how many bytes of a text are its marker, which has so many, and "at least one whitespace character before any other content"
 abbrev pub marker_end : ℕ → List ℕ → ℕ
@@ -52,6 +47,6 @@ AreEventsWith (Some task) page setting here block events = AreTaskEvents page se
 AreEventsWith None page setting here block events = AreLeafEvents page setting here block events
 
 -- These are the events of a leaf block, which is the first of this container or of none.
-abbrev pub AreBlockEvents : List ℕ → BlockSetting → Place → Option Container → LeafBlock → List RangedEvent → Type 0
+abbrev pub AreBlockEvents : List ℕ → EventSetting → Place → Option Container → LeafBlock → List RangedEvent → Type 0
 AreBlockEvents page setting here waiting block events =
-    AreEventsWith (task_here setting.tasks waiting block) page setting.texts here block events
+    AreEventsWith (task_here setting.asked.tasks waiting block) page setting here block events

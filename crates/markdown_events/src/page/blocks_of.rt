@@ -6,18 +6,19 @@ ghost use Rattle.markdown_blocks.specs.link_definitions.LinkDefinitions.{Named, 
 
 use crate::page::definitions::PageDefinitions;
 use markdown_blocks::byte_order_mark::text_start;
-use markdown_blocks::containers::{BlockExtensions, Container};
+use markdown_blocks::containers::Container;
 use markdown_blocks::events::{BlockEvent, BlockEvents};
 use markdown_blocks::link_definitions::LinkDefinitions;
 use markdown_blocks::taken::Taken;
 use markdown_blocks::walk::Walk;
+use markdown_values::values::Extensions;
 use std::alloc::{AllocError, Global};
 
 /// The block events of a page with these extensions on, and its link reference definitions.
 pub(crate) fn read_page<'a>(
     alloc: Global,
     page: &'a str,
-    extensions: BlockExtensions,
+    extensions: Extensions,
 ) -> Result<(Vec<BlockEvent<'a>>, PageDefinitions<'a>), AllocError>
     ensures blocks { IfOk result (λ read.
         IsEventsOf extensions page.now (map seen_event read.0.items)) }
@@ -32,7 +33,7 @@ pub(crate) fn read_page<'a>(
 fn read_bytes<'a>(
     alloc: Global,
     page: &'a [u8],
-    extensions: BlockExtensions,
+    extensions: Extensions,
 ) -> Result<(Vec<BlockEvent<'a>>, PageDefinitions<'a>), AllocError>
     ensures blocks { IfOk result (λ read.
         IsEventsOf extensions page.now (map seen_event read.0.items)) }

@@ -100,14 +100,17 @@ impl<'a> Definitions<'a> for PageDefinitions<'a> {
 
 /// The definitions of a page, and of labels that it doesn't define those of `broken`.
 #[derive(Drop)]
-pub(crate) struct WithBrokenLinks<'a, 'd, B> {
+pub(crate) struct WithBrokenLinks<'a, 'd, 'b, B> {
     page: &'d PageDefinitions<'a>,
-    broken: &'d B,
+    broken: &'b B,
 }
 
-impl<'a, 'd, B: Definitions<'a>> WithBrokenLinks<'a, 'd, B> {
+impl<'a, 'd, 'b, B: Definitions<'a>> WithBrokenLinks<'a, 'd, 'b, B> {
     /// The definitions of a page before these.
-    pub(crate) fn new(page: &'d PageDefinitions<'a>, broken: &'d B) -> WithBrokenLinks<'a, 'd, B>
+    pub(crate) fn new(
+        page: &'d PageDefinitions<'a>,
+        broken: &'b B,
+    ) -> WithBrokenLinks<'a, 'd, 'b, B>
         ensures page { result.page.now ≡ page.now }
         ensures broken { result.broken.now ≡ broken.now }
     {
@@ -115,7 +118,7 @@ impl<'a, 'd, B: Definitions<'a>> WithBrokenLinks<'a, 'd, B> {
     }
 }
 
-impl<'a, 'd, B: Definitions<'a>> Definitions<'a> for WithBrokenLinks<'a, 'd, B> {
+impl<'a, 'd, 'b, B: Definitions<'a>> Definitions<'a> for WithBrokenLinks<'a, 'd, 'b, B> {
     ghost targets = { λ it. or_else (known_as it.page.now) (B.targets it.broken.now) };
 
     fn find(&self, label: &str) -> Result<Option<Target<'a>>, AllocError> {

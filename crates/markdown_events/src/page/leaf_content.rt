@@ -1,5 +1,5 @@
 //! The content of a leaf block of a page, and what it holds: lines, or inlines.
-ghost use Rattle.std.specs.Prelude.{◌≡◌, ◌≤◌, ◌<◌, [], Bool, List, ℕ, length, take, drop, map, slice_index, IfOk, IfSome, IsTrue};
+ghost use Rattle.std.specs.Prelude.{◌≡◌, ◌≤◌, ◌<◌, [], List, ℕ, length, take, drop, map, slice_index, IfOk, IfSome, IsTrue};
 ghost use Rattle.std.specs.List.{prefix_len};
 ghost use Rattle.markdown_values.specs.strings.Text.{cow_text};
 ghost use Rattle.markdown_values.specs.values.Events.{event_view};
@@ -13,70 +13,63 @@ ghost use Rattle.markdown_blocks.specs.laws.Order.{HoldsText};
 ghost use Rattle.markdown_events.specs.InlineEvents.{seen_event};
 ghost use Rattle.markdown_events.specs.page.LeafEvents.{AreLineEvents, AreTextEvents, line_events, lines_in_page, page_range, placed};
 ghost use Rattle.markdown_events.specs.page.LeafContent.{CanPlace, EndWithin, LieInBlock, line_event};
+ghost use Rattle.markdown_events.specs.page.Readings.{seen_place, seen_reading};
 
 use crate::definitions::Definitions;
 use crate::elements::{InlineMemory, take_room};
 use crate::inline_events::source_events;
+use crate::page::reading::{Place, Reading};
 use crate::page::source::Source;
 use markdown_blocks::blocks::BlockKind;
-use markdown_blocks::containers::Container;
 use markdown_blocks::content::{Content, Run, content_of, line_content};
 use markdown_blocks::events::Leaf;
-use markdown_inlines::extensions::InlineExtensions;
 use markdown_scanners_tree::scanners::scan_line;
 use markdown_values::strings::CowStr;
 use markdown_values::values::Event;
 use std::alloc::{AllocError, Global};
 use std::ops::Range;
 
-/// The events of the inlines of a leaf block, with their ranges in the page. Its first line goes on
-/// with `kept` of the containers.
+/// The events of the inlines of a leaf block, with their ranges in the page.
 #[inline(always)]
 pub(crate) fn text_events<'a, D: Definitions<'a>>(
-    alloc: Global,
+    reading: &Reading<'a, '_, D>,
     memory: &mut InlineMemory<'a>,
-    page: &'a str,
-    extensions: InlineExtensions,
-    definitions: &D,
-    containers: &[Container],
-    kept: usize,
+    here: Place<'_>,
     leaf: Leaf<'a>,
 ) -> Result<Vec<(Event<'a>, Range<usize>)>, AllocError>
-    requires cut_out { IsCutOut page.now (seen_leaf leaf) }
-    requires text { HoldsText page.now containers.now kept (seen_leaf leaf) }
-    ensures events { IfOk result (λ events. (is_tight : Bool) → AreTextEvents page.now
-        (record { asked = extensions; targets = D.targets definitions.now })
-        (record { containers = containers.now; kept = kept; is_tight = is_tight })
+    requires cut_out { IsCutOut reading.now.page.now (seen_leaf leaf) }
+    requires text { HoldsText reading.now.page.now here.containers.now here.kept (seen_leaf leaf) }
+    ensures events { IfOk result (λ events. AreTextEvents reading.now.page.now
+        (seen_reading D.targets reading.now) (seen_place here.entry)
         (seen_leaf leaf.entry) (map seen_event events.items)) }
     ensures within { IfOk result (λ events.
         LieInBlock (seen_leaf leaf.entry) (map seen_event events.items)) }
 {
-    let content = content_in(alloc, page, containers, kept, leaf)?;
+    let Reading { alloc, page, .. } = *reading;
+    let content = content_in(alloc, page, here, leaf)?;
     let source = Source::of_content(page, leaf.start, &content, 0);
-    let events = source_events(alloc, memory, &source, definitions, extensions)?;
+    let events = source_events(alloc, memory, &source, reading.definitions, reading.asked)?;
     Ok(in_page(events, leaf.start, &content))
 }
 
-/// An event for each line of a leaf block, HTML or text, with its range in the page. Its first line
-/// goes on with `kept` of the containers.
+/// An event for each line of a leaf block, HTML or text, with its range in the page.
 pub(crate) fn code_events<'a>(
     alloc: Global,
     memory: &mut InlineMemory<'a>,
     page: &'a str,
-    containers: &[Container],
-    kept: usize,
+    here: Place<'_>,
     leaf: Leaf<'a>,
     is_html: bool,
 ) -> Result<Vec<(Event<'a>, Range<usize>)>, AllocError>
     requires cut_out { IsCutOut page.now (seen_leaf leaf) }
-    requires text { HoldsText page.now containers.now kept (seen_leaf leaf) }
-    ensures events { IfOk result (λ events. (is_tight : Bool) → AreLineEvents page.now
-        (record { containers = containers.now; kept = kept; is_tight = is_tight })
+    requires text { HoldsText page.now here.containers.now here.kept (seen_leaf leaf) }
+    ensures events { IfOk result (λ events. AreLineEvents page.now
+        (seen_place here.entry)
         (seen_leaf leaf.entry) (line_event is_html) (map seen_event events.items)) }
     ensures within { IfOk result (λ events.
         LieInBlock (seen_leaf leaf.entry) (map seen_event events.items)) }
 {
-    let content = content_in(alloc, page, containers, kept, leaf)?;
+    let content = content_in(alloc, page, here, leaf)?;
     let source = Source::of_content(page, leaf.start, &content, 0);
     // The lines have an event each, and the block has two more.
     let room = leaf.lines.saturating_add(2);
@@ -90,12 +83,12 @@ pub(crate) fn code_events<'a>(
 pub(crate) fn content_in<'a>(
     alloc: Global,
     page: &'a str,
-    containers: &[Container],
-    kept: usize,
+    here: Place<'_>,
     leaf: Leaf<'a>,
 ) -> Result<Content<'a>, AllocError>
-    requires text { HoldsText page.now containers.now kept (seen_leaf leaf) }
-    ensures content { IfOk result (λ content. IsContent leaf.entry.kind containers.now kept
+    requires text { HoldsText page.now here.containers.now here.kept (seen_leaf leaf) }
+    ensures content { IfOk result (λ content. IsContent leaf.entry.kind
+        here.entry.containers.now here.entry.kept
         (lines_in_page page.now (seen_leaf leaf.entry)) content) }
     ensures places { IfOk result (λ content. CanPlace leaf.entry.start content) }
 {
@@ -104,7 +97,7 @@ pub(crate) fn content_in<'a>(
         return Ok(line_content(alloc, leaf.text, offset));
     }
     let lines = lines_in(page.as_bytes(), leaf);
-    let content = content_of(alloc, lines, leaf.kind, containers, kept)?;
+    let content = content_of(alloc, lines, leaf.kind, here.containers, here.kept)?;
     Ok(content)
 }
 

@@ -1,5 +1,5 @@
 //! The events of a leaf block. (CommonMark 0.31.2, chapter 4)
-ghost use Rattle.std.specs.Prelude.{◌≡◌, ◌<◌, [], ◌∷◌, ℕ, Bool, map, IfOk, IsTrue};
+ghost use Rattle.std.specs.Prelude.{◌≡◌, ◌<◌, [], ◌∷◌, ℕ, map, IfOk, IsTrue};
 ghost use Rattle.std.specs.Str.{IsUtf8};
 ghost use Rattle.markdown_values.specs.strings.Text.{cow_text};
 ghost use Rattle.markdown_values.specs.values.Events.{rule};
@@ -16,96 +16,60 @@ ghost use Rattle.markdown_events.specs.page.InPage.{HasAsciiFence};
 ghost use Rattle.markdown_events.specs.page.LeafContent.{HasPlace, LieInBlock};
 ghost use Rattle.markdown_events.specs.page.LeafEvents.{AreLeafEvents, AreLeafEventsOf, HasNoEvents, enclosed, enclosed_lines, in_paragraph, lines_place, plain_heading};
 ghost use Rattle.markdown_events.specs.page.Spans.{block_end};
+ghost use Rattle.markdown_events.specs.page.Readings.{seen_place, seen_reading};
 
 use crate::definitions::Definitions;
 use crate::elements::InlineMemory;
 use crate::page::element::block_element;
 use crate::page::leaf_content::{code_events, text_events};
+use crate::page::reading::{Place, Reading};
 use crate::page::table_events::table_events;
 use crate::parts::{meaning_of, text_of};
 use markdown_blocks::blocks::BlockKind;
-use markdown_blocks::containers::Container;
 use markdown_blocks::events::Leaf;
 use markdown_blocks::info::info_of;
-use markdown_inlines::extensions::InlineExtensions;
 use markdown_values::strings::CowStr;
 use markdown_values::values::{CodeBlockKind, Event, HeadingLevel, Tag};
 use std::alloc::{AllocError, Global};
 use std::collections::VecDeque;
 use std::ops::Range;
 
-/// The events of a leaf block of a page, each with its range in the page. The block stands in these
-/// containers, of which its first line goes on with `kept`, directly in an item of a tight list or
-/// not.
+/// The events of a leaf block of a page, each with its range in the page.
 //
 // What isn't a paragraph has a function of its own that is not inlined: a function clears the memory of all its
 // values where it begins, and most blocks are paragraphs.
 pub(crate) fn leaf_events<'a, D: Definitions<'a>>(
-    alloc: Global,
+    reading: &Reading<'a, '_, D>,
     memory: &mut InlineMemory<'a>,
-    page: &'a str,
-    extensions: InlineExtensions,
-    definitions: &D,
-    containers: &[Container],
-    kept: usize,
-    is_tight: bool,
+    here: Place<'_>,
     leaf: Leaf<'a>,
 ) -> Result<VecDeque<(Event<'a>, Range<usize>)>, AllocError>
-    requires cut_out { IsCutOut page.now (seen_leaf leaf) }
+    requires cut_out { IsCutOut reading.now.page.now (seen_leaf leaf) }
     requires fence { HasAsciiFence leaf.kind }
-    requires text { HoldsText page.now containers.now kept (seen_leaf leaf) }
-    ensures events { IfOk result (λ events. AreLeafEvents page.now
-        (record { asked = extensions; targets = D.targets definitions.now })
-        (record { containers = containers.now; kept = kept; is_tight = is_tight })
+    requires text { HoldsText reading.now.page.now here.containers.now here.kept (seen_leaf leaf) }
+    ensures events { IfOk result (λ events. AreLeafEvents reading.now.page.now
+        (seen_reading D.targets reading.now) (seen_place here.entry)
         (seen_leaf leaf.entry) (map seen_event events.items)) }
 
     // Each range stands within the lines of the block.
     ensures within { IfOk result (λ events. HasPlace (seen_leaf leaf.entry)
         → LieInBlock (seen_leaf leaf.entry) (map seen_event events.items)) }
 {
+    let Reading { alloc, page, .. } = *reading;
     match leaf.kind {
         BlockKind::Blank | BlockKind::Definition => Ok(VecDeque::new(alloc)),
         BlockKind::Break => rule(alloc, leaf),
-        BlockKind::Heading(level) | BlockKind::Setext(level) => heading_events(
-            alloc,
-            memory,
-            page,
-            extensions,
-            definitions,
-            containers,
-            kept,
-            leaf,
-            level,
-        ),
+        BlockKind::Heading(level) | BlockKind::Setext(level) => {
+            heading_events(reading, memory, here, leaf, level)
+        }
         BlockKind::Paragraph => {
-            let inner = text_events(
-                alloc,
-                memory,
-                page,
-                extensions,
-                definitions,
-                containers,
-                kept,
-                leaf,
-            )?;
-            in_paragraph(is_tight, leaf, inner)
+            let inner = text_events(reading, memory, here, leaf)?;
+            in_paragraph(here.is_tight, leaf, inner)
         }
-        BlockKind::Indented => indented_events(alloc, memory, page, containers, kept, leaf),
-        BlockKind::Fenced(_, byte) => {
-            fenced_events(alloc, memory, page, containers, kept, leaf, byte)
-        }
-        BlockKind::Html(_) => html_events(alloc, memory, page, containers, kept, leaf),
-        BlockKind::Table(columns) => table_events(
-            alloc,
-            memory,
-            page,
-            extensions,
-            definitions,
-            containers,
-            kept,
-            leaf,
-            columns,
-        ),
+        BlockKind::Indented => indented_events(alloc, memory, page, here, leaf),
+        BlockKind::Fenced(_, byte) => fenced_events(alloc, memory, page, here, leaf, byte),
+        BlockKind::Html(_) => html_events(alloc, memory, page, here, leaf),
+        BlockKind::Table(columns) => table_events(reading, memory, here, leaf, columns),
     }
 }
 
@@ -119,37 +83,22 @@ pub(crate) fn has_no_events(kind: BlockKind) -> bool
 // A heading of this level. (4.2, 4.3)
 #[inline(never)]
 fn heading_events<'a, D: Definitions<'a>>(
-    alloc: Global,
+    reading: &Reading<'a, '_, D>,
     memory: &mut InlineMemory<'a>,
-    page: &'a str,
-    extensions: InlineExtensions,
-    definitions: &D,
-    containers: &[Container],
-    kept: usize,
+    here: Place<'_>,
     leaf: Leaf<'a>,
     level: HeadingLevel,
 ) -> Result<VecDeque<(Event<'a>, Range<usize>)>, AllocError>
-    requires cut_out { IsCutOut page.now (seen_leaf leaf) }
-    requires text { HoldsText page.now containers.now kept (seen_leaf leaf) }
-    ensures events { IfOk result (λ events. (is_tight : Bool)
-        → AreLeafEventsOf (Heading level) page.now
-        (record { asked = extensions; targets = D.targets definitions.now })
-        (record { containers = containers.now; kept = kept; is_tight = is_tight })
+    requires cut_out { IsCutOut reading.now.page.now (seen_leaf leaf) }
+    requires text { HoldsText reading.now.page.now here.containers.now here.kept (seen_leaf leaf) }
+    ensures events { IfOk result (λ events. AreLeafEventsOf (Heading level) reading.now.page.now
+        (seen_reading D.targets reading.now) (seen_place here.entry)
         (seen_leaf leaf.entry) (map seen_event events.items)) }
     ensures within { IfOk result (λ events. HasPlace (seen_leaf leaf.entry)
         → LieInBlock (seen_leaf leaf.entry) (map seen_event events.items)) }
 {
-    let inner = text_events(
-        alloc,
-        memory,
-        page,
-        extensions,
-        definitions,
-        containers,
-        kept,
-        leaf,
-    )?;
-    enclosed(heading(alloc, level), leaf, inner)
+    let inner = text_events(reading, memory, here, leaf)?;
+    enclosed(heading(reading.alloc, level), leaf, inner)
 }
 
 // An indented code block. (4.4)
@@ -158,20 +107,19 @@ fn indented_events<'a>(
     alloc: Global,
     memory: &mut InlineMemory<'a>,
     page: &'a str,
-    containers: &[Container],
-    kept: usize,
+    here: Place<'_>,
     leaf: Leaf<'a>,
 ) -> Result<VecDeque<(Event<'a>, Range<usize>)>, AllocError>
     requires cut_out { IsCutOut page.now (seen_leaf leaf) }
-    requires text { HoldsText page.now containers.now kept (seen_leaf leaf) }
-    ensures events { IfOk result (λ events. (setting : EventSetting) (is_tight : Bool)
+    requires text { HoldsText page.now here.containers.now here.kept (seen_leaf leaf) }
+    ensures events { IfOk result (λ events. (setting : EventSetting)
         → AreLeafEventsOf Indented page.now setting
-        (record { containers = containers.now; kept = kept; is_tight = is_tight })
+        (seen_place here.entry)
         (seen_leaf leaf.entry) (map seen_event events.items)) }
     ensures within { IfOk result (λ events. HasPlace (seen_leaf leaf.entry)
         → LieInBlock (seen_leaf leaf.entry) (map seen_event events.items)) }
 {
-    let inner = code_events(alloc, memory, page, containers, kept, leaf, false)?;
+    let inner = code_events(alloc, memory, page, here, leaf, false)?;
     enclosed_lines(Tag::CodeBlock(CodeBlockKind::Indented), leaf, inner)
 }
 
@@ -181,22 +129,21 @@ fn fenced_events<'a>(
     alloc: Global,
     memory: &mut InlineMemory<'a>,
     page: &'a str,
-    containers: &[Container],
-    kept: usize,
+    here: Place<'_>,
     leaf: Leaf<'a>,
     byte: u8,
 ) -> Result<VecDeque<(Event<'a>, Range<usize>)>, AllocError>
     requires cut_out { IsCutOut page.now (seen_leaf leaf) }
     requires ascii { byte < 128 }
-    requires text { HoldsText page.now containers.now kept (seen_leaf leaf) }
-    ensures events { IfOk result (λ events. (count : ℕ) (setting : EventSetting) (is_tight : Bool)
+    requires text { HoldsText page.now here.containers.now here.kept (seen_leaf leaf) }
+    ensures events { IfOk result (λ events. (count : ℕ) (setting : EventSetting)
         → AreLeafEventsOf (Fenced count byte) page.now setting
-        (record { containers = containers.now; kept = kept; is_tight = is_tight })
+        (seen_place here.entry)
         (seen_leaf leaf.entry) (map seen_event events.items)) }
     ensures within { IfOk result (λ events. HasPlace (seen_leaf leaf.entry)
         → LieInBlock (seen_leaf leaf.entry) (map seen_event events.items)) }
 {
-    let inner = code_events(alloc, memory, page, containers, kept, leaf, false)?;
+    let inner = code_events(alloc, memory, page, here, leaf, false)?;
     let info = info_meaning(alloc, leaf.text, byte)?;
     enclosed_lines(Tag::CodeBlock(CodeBlockKind::Fenced(info)), leaf, inner)
 }
@@ -207,20 +154,19 @@ fn html_events<'a>(
     alloc: Global,
     memory: &mut InlineMemory<'a>,
     page: &'a str,
-    containers: &[Container],
-    kept: usize,
+    here: Place<'_>,
     leaf: Leaf<'a>,
 ) -> Result<VecDeque<(Event<'a>, Range<usize>)>, AllocError>
     requires cut_out { IsCutOut page.now (seen_leaf leaf) }
-    requires text { HoldsText page.now containers.now kept (seen_leaf leaf) }
-    ensures events { IfOk result (λ events. (kind : HtmlBlockKind) (setting : EventSetting) (is_tight : Bool)
+    requires text { HoldsText page.now here.containers.now here.kept (seen_leaf leaf) }
+    ensures events { IfOk result (λ events. (kind : HtmlBlockKind) (setting : EventSetting)
         → AreLeafEventsOf (Html kind) page.now setting
-        (record { containers = containers.now; kept = kept; is_tight = is_tight })
+        (seen_place here.entry)
         (seen_leaf leaf.entry) (map seen_event events.items)) }
     ensures within { IfOk result (λ events. HasPlace (seen_leaf leaf.entry)
         → LieInBlock (seen_leaf leaf.entry) (map seen_event events.items)) }
 {
-    let inner = code_events(alloc, memory, page, containers, kept, leaf, true)?;
+    let inner = code_events(alloc, memory, page, here, leaf, true)?;
     enclosed_lines(Tag::HtmlBlock, leaf, inner)
 }
 

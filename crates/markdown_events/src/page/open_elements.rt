@@ -10,8 +10,10 @@ ghost use Rattle.markdown_events.specs.InlineEvents.{seen_event};
 ghost use Rattle.markdown_events.specs.page.OpenElements.{begun, edge_event, list_starts, end_events, ended, innermost_list, is_list, is_tight_in};
 ghost use Rattle.markdown_events.specs.page.OpenElements.{next_span, none_open, opened, passed, place_in, start_events, with_list, without_list};
 ghost use Rattle.markdown_events.specs.page.PageEvents.{container_tag, ending, list_tag, starting};
+ghost use Rattle.markdown_events.specs.page.Readings.{seen_place};
 
 use crate::elements::Element;
+use crate::page::reading::Place;
 use crate::page::spans::Span;
 use markdown_blocks::blocks::BlockKind;
 use markdown_blocks::containers::{Container, ListItem, settled};
@@ -94,20 +96,6 @@ impl OpenElements {
         }
     }
 
-    /// The containers that are open, the outermost first.
-    pub(crate) fn containers(&self) -> &[Container]
-        ensures { result.now ≡ self.now.containers }
-    {
-        &self.containers
-    }
-
-    /// With how many of them the line of the next block goes on.
-    pub(crate) fn kept(&self) -> usize
-        ensures { result ≡ self.now.kept }
-    {
-        self.kept
-    }
-
     /// The innermost container that is open, where it has no block yet.
     pub(crate) fn waiting(&self) -> Option<Container>
         ensures { result ≡ self.now.waiting }
@@ -115,11 +103,17 @@ impl OpenElements {
         self.waiting
     }
 
-    /// Whether a paragraph that comes next is directly in a tight list.
-    pub(crate) fn is_tight(&self) -> bool
-        ensures { result ≡ (place_in self.now).is_tight }
+    /// Where a leaf block stands that comes next.
+    pub(crate) fn place(&self) -> Place<'_>
+        ensures containers { result.containers.now ≡ self.now.containers }
+        ensures kept { result.kept ≡ self.now.kept }
+        ensures place { seen_place result ≡ place_in self.now }
     {
-        is_tight_in(without_list(&self.elements))
+        Place {
+            containers: &self.containers,
+            kept: self.kept,
+            is_tight: is_tight_in(without_list(&self.elements)),
+        }
     }
 
     /// Passes a leaf block.

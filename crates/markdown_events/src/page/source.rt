@@ -115,7 +115,7 @@ impl<'a, 'c> Source<'a, 'c> {
         self.run
     }
 
-    /// What stands from one place up to another, at both of which the text may be cut. It is lent
+    /// What stands from one offset up to another, at both of which the text may be cut. It is lent
     /// where it stands in the page as it is, and else copied.
     #[inline(always)]
     pub(crate) fn part(
@@ -134,7 +134,7 @@ impl<'a, 'c> Source<'a, 'c> {
         }
     }
 
-    /// What stands from one place up to another, at both of which the text may be cut, where it stands
+    /// What stands from one offset up to another, at both of which the text may be cut, where it stands
     /// in the page as it is.
     #[inline(always)]
     pub(crate) fn lent_part(&self, start: usize, end: usize) -> Option<&'a str>

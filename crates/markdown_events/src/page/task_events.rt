@@ -11,18 +11,18 @@ ghost use Rattle.markdown_events.specs.page.LeafContent.{CanPlace, EndWithin, Ha
 ghost use Rattle.markdown_events.specs.page.LeafEvents.{page_range, placed};
 ghost use Rattle.markdown_events.specs.page.Spans.{block_end};
 ghost use Rattle.markdown_events.specs.page.TaskEvents.{AreTaskEvents, after, marker_end, marker_event};
+ghost use Rattle.markdown_events.specs.page.Readings.{seen_place, seen_reading};
 
 use crate::definitions::Definitions;
 use crate::elements::InlineMemory;
 use crate::inline_events::source_events;
 use crate::page::leaf_content::content_in;
 use crate::page::leaf_events::in_paragraph;
+use crate::page::reading::{Place, Reading};
 use crate::page::source::Source;
-use markdown_blocks::containers::Container;
 use markdown_blocks::content::Content;
 use markdown_blocks::events::Leaf;
 use markdown_blocks::first_blocks::Task;
-use markdown_inlines::extensions::InlineExtensions;
 use markdown_scanners_tree::scanners::is_ascii_whitespace;
 use markdown_values::values::Event;
 use std::alloc::{AllocError, Global};
@@ -30,25 +30,18 @@ use std::collections::VecDeque;
 use std::ops::Range;
 
 /// The events of a paragraph of a page with this task list marker: the marker, and the inlines of
-/// what stands after it, each with its range in the page. The paragraph stands in these containers,
-/// of which its first line goes on with `kept`, directly in an item of a tight list or not.
+/// what stands after it, each with its range in the page.
 #[inline(never)]
 pub(crate) fn task_events<'a, D: Definitions<'a>>(
-    alloc: Global,
+    reading: &Reading<'a, '_, D>,
     memory: &mut InlineMemory<'a>,
-    page: &'a str,
-    extensions: InlineExtensions,
-    definitions: &D,
-    containers: &[Container],
-    kept: usize,
-    is_tight: bool,
+    here: Place<'_>,
     leaf: Leaf<'a>,
     task: Task,
 ) -> Result<VecDeque<(Event<'a>, Range<usize>)>, AllocError>
-    requires marker { HasMarker page.now containers.now kept (seen_leaf leaf) task }
-    ensures events { IfOk result (λ events. AreTaskEvents page.now
-        (record { asked = extensions; targets = D.targets definitions.now })
-        (record { containers = containers.now; kept = kept; is_tight = is_tight })
+    requires marker { HasMarker reading.now.page.now here.containers.now here.kept (seen_leaf leaf) task }
+    ensures events { IfOk result (λ events. AreTaskEvents reading.now.page.now
+        (seen_reading D.targets reading.now) (seen_place here.entry)
         (seen_leaf leaf.entry) task (map seen_event events.items)) }
 
     // Where the marker stands within the lines of the block, each range does.
@@ -56,13 +49,14 @@ pub(crate) fn task_events<'a, D: Definitions<'a>>(
         → LiesIn leaf.entry.start (block_end (seen_leaf leaf.entry)) (marker_event task).1
         → LieInBlock (seen_leaf leaf.entry) (map seen_event events.items)) }
 {
-    let content = content_in(alloc, page, containers, kept, leaf)?;
+    let Reading { alloc, page, .. } = *reading;
+    let content = content_in(alloc, page, here, leaf)?;
     let front = marker_end(content.text(), task.len);
     let source = Source::of_content(page, leaf.start, &content, front);
-    let events = source_events(alloc, memory, &source, definitions, extensions)?;
+    let events = source_events(alloc, memory, &source, reading.definitions, reading.asked)?;
     let moved = rest_in_page(events, leaf.start, &content, front);
     let inner = with_marker(moved, task)?;
-    in_paragraph(is_tight, leaf, inner)
+    in_paragraph(here.is_tight, leaf, inner)
 }
 
 // How many bytes of a text are the marker at its front, which has so many, and the white space after

@@ -7,7 +7,7 @@ use Rattle.markdown_scanners_tree.specs.declared.scanners.reference_definitions.
 use Rattle.markdown_blocks.specs.byte_order_mark.ByteOrderMark.{text_of, text_start}
 use Rattle.markdown_blocks.specs.blocks.Pages.{root}
 use Rattle.markdown_blocks.specs.containers.Containers.{Between}
-use Rattle.markdown_blocks.specs.declared.containers.BlockExtensions.{BlockExtensions}
+use Rattle.markdown_values.specs.declared.values.extensions.Extensions.{Extensions}
 use Rattle.markdown_blocks.specs.declared.step.Step.{Step}
 use Rattle.markdown_blocks.specs.declared.taken.Taken.{Taken}
 use Rattle.markdown_blocks.specs.declared.containers.Container.{Container}
@@ -32,7 +32,7 @@ from_here open_now text line start = record {
   next = None;
 }
 
-pub whole_page : (asked : BlockExtensions) (page : List ℕ) (events : List Event)
+pub whole_page : (asked : Extensions) (page : List ℕ) (events : List Event)
     → Gives (from_here (root asked) (text_of page) 0 (text_start page)) events → IsEventsOf asked page events
 whole_page asked page events g = (
   g.pieces,

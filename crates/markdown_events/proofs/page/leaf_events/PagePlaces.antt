@@ -2,7 +2,7 @@
 use Rattle.std.proofs.Common.{ℕ, suc, ◌≤◌, List, [], ◌∷◌, length, arith}
 use Rattle.std.specs.Prelude.{⊤}
 use Rattle.markdown_blocks.specs.byte_order_mark.ByteOrderMark.{text_start}
-use Rattle.markdown_blocks.specs.declared.containers.BlockExtensions.{BlockExtensions}
+use Rattle.markdown_values.specs.declared.values.extensions.Extensions.{Extensions}
 use Rattle.markdown_blocks.specs.events.Events.{Event, IsEventsOf, LeafBlock, block_end, ends, leaf, starts}
 use Rattle.markdown_blocks.specs.laws.Order.{Follow}
 use Rattle.markdown_blocks.proofs.ForCallers.{page_in_order}
@@ -39,6 +39,6 @@ events_stand page (starts container place ∷ later) line passed low (behind, wi
 events_stand page (ends ∷ later) line passed low follow = events_stand page later line passed low follow
 
 -- each leaf block of a page stands in it
-pub page_leaves_stand : (asked : BlockExtensions) (page : List ℕ) (events : List Event) → IsEventsOf asked page events
+pub page_leaves_stand : (asked : Extensions) (page : List ℕ) (events : List Event) → IsEventsOf asked page events
     → LeavesStandIn (length page) events
 page_leaves_stand asked page events is = (events_stand page events (text_start page) (text_start page) (omega arith) (page_in_order asked page events is)).0

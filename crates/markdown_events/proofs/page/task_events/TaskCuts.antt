@@ -26,7 +26,7 @@ use Rattle.markdown_events.specs.EventLaws.{AreAtBoundaries}
 use Rattle.markdown_events.specs.InlineEvents.{EventSetting, RangedEvent}
 use Rattle.markdown_events.specs.page.InPage.{HasMarker, IsInPage}
 use Rattle.markdown_events.specs.page.LeafEvents.{Place, lines_in_page}
-use Rattle.markdown_events.specs.page.TaskEvents.{AreBlockEvents, AreEventsWith, AreTaskEvents, BlockSetting, after, after_marker, marker_end, task_here}
+use Rattle.markdown_events.specs.page.TaskEvents.{AreBlockEvents, AreEventsWith, AreTaskEvents, after, after_marker, marker_end, task_here}
 use Rattle.markdown_events.proofs.inline_events.Boundaries.{events_at_boundaries}
 use Rattle.markdown_events.proofs.page.leaf_events.LeafCuts.{leaf_at, paragraph_at}
 use Rattle.markdown_events.proofs.page.leaf_events.PlacedCuts.{PlacesCut, content_places, placed_at}
@@ -182,14 +182,14 @@ has_marker page outer kept asked waiting block task is found =
     }
 
 -- The events of a leaf block begin and end at character boundaries of the page.
-pub block_at : (page : List ℕ) (setting : BlockSetting) (here : Place) (block : LeafBlock) (waiting : Option Container) → IsCutOut page block
+pub block_at : (page : List ℕ) (setting : EventSetting) (here : Place) (block : LeafBlock) (waiting : Option Container) → IsCutOut page block
     → HoldsText page here.containers here.kept block → BeginsPlain waiting block → (events : List RangedEvent)
     → AreBlockEvents page setting here waiting block events → AreAtBoundaries page events
-block_at page setting here block waiting cut holds plain events are = by (task_here setting.tasks waiting block) refl are
+block_at page setting here block waiting cut holds plain events are = by (task_here setting.asked.tasks waiting block) refl are
   where
-    by : (task : Option Task) → task_here setting.tasks waiting block ≡ task → AreEventsWith task page setting.texts here block events
+    by : (task : Option Task) → task_here setting.asked.tasks waiting block ≡ task → AreEventsWith task page setting here block events
         → AreAtBoundaries page events
-    by None none is = leaf_at page setting.texts here block cut events is
+    by None none is = leaf_at page setting here block cut events is
     by (Some task) found is =
-        let marked = marked_here setting.tasks waiting block task found in
-        marked_at page setting.texts here block cut holds task marked.paragraph (marked.plain plain) marked.found events is
+        let marked = marked_here setting.asked.tasks waiting block task found in
+        marked_at page setting here block cut holds task marked.paragraph (marked.plain plain) marked.found events is

@@ -9,7 +9,7 @@ use Rattle.markdown_events.specs.EventLaws.{AreBalanced}
 use Rattle.markdown_events.specs.InlineEvents.{AreInlineEvents, EventSetting, RangedEvent}
 use Rattle.markdown_events.specs.page.LeafEvents.{Place, in_paragraph}
 use Rattle.markdown_events.specs.page.Places.{lines_in_page, placed}
-use Rattle.markdown_events.specs.page.TaskEvents.{AreBlockEvents, AreEventsWith, AreTaskEvents, BlockSetting, after_marker, marker_event, task_here}
+use Rattle.markdown_events.specs.page.TaskEvents.{AreBlockEvents, AreEventsWith, AreTaskEvents, after_marker, marker_event, task_here}
 use Rattle.markdown_events.proofs.inline_events.Unique.{one_list_of_inline_events}
 use Rattle.markdown_events.proofs.page.NestLemmas.{Stand, alone_balance, inlines_stand}
 use Rattle.markdown_events.proofs.page.leaf_events.BalanceLemmas.{leaf_events_stand, paragraph_stands}
@@ -42,20 +42,20 @@ module _ (page : List ℕ) (setting : EventSetting) (here : Place) (block : Leaf
   stands_with (Some task) events is = task_stands task events is
 
 -- a leaf block of a page has one list of events where it stands
-pub one_list_of_block_events : (page : List ℕ) (setting : BlockSetting) (here : Place) (waiting : Option Container) (block : LeafBlock)
+pub one_list_of_block_events : (page : List ℕ) (setting : EventSetting) (here : Place) (waiting : Option Container) (block : LeafBlock)
     → (events events' : List RangedEvent) → AreBlockEvents page setting here waiting block events
     → AreBlockEvents page setting here waiting block events' → events ≡ events'
 one_list_of_block_events page setting here waiting block events events' is is' =
-    one_with page setting.texts here block (task_here setting.tasks waiting block) events events' is is'
+    one_with page setting here block (task_here setting.asked.tasks waiting block) events events' is is'
 
 -- they stand outside of tables
-pub block_events_stand : (page : List ℕ) (setting : BlockSetting) (here : Place) (waiting : Option Container) (block : LeafBlock)
+pub block_events_stand : (page : List ℕ) (setting : EventSetting) (here : Place) (waiting : Option Container) (block : LeafBlock)
     → (events : List RangedEvent) → AreBlockEvents page setting here waiting block events → Stand events
 block_events_stand page setting here waiting block events is =
-    stands_with page setting.texts here block (task_here setting.tasks waiting block) events is
+    stands_with page setting here block (task_here setting.asked.tasks waiting block) events is
 
 -- starts and ends balance
-pub block_events_balance : (page : List ℕ) (setting : BlockSetting) (here : Place) (waiting : Option Container) (block : LeafBlock)
+pub block_events_balance : (page : List ℕ) (setting : EventSetting) (here : Place) (waiting : Option Container) (block : LeafBlock)
     → (events : List RangedEvent) → AreBlockEvents page setting here waiting block events → AreBalanced events
 block_events_balance page setting here waiting block events is =
     alone_balance events (block_events_stand page setting here waiting block events is)

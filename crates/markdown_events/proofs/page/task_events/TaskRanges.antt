@@ -15,7 +15,7 @@ use Rattle.markdown_blocks.proofs.ForCallers.{HasInlines, RiseStrictly, content_
 use Rattle.markdown_events.specs.InlineEvents.{EventSetting, RangedEvent}
 use Rattle.markdown_events.specs.page.LeafEvents.{Place, lines_in_page, placed}
 use Rattle.markdown_events.specs.page.Spans.{block_end}
-use Rattle.markdown_events.specs.page.TaskEvents.{AreBlockEvents, AreEventsWith, AreTaskEvents, BlockSetting, after_marker, marker_end, marker_event, task_here}
+use Rattle.markdown_events.specs.page.TaskEvents.{AreBlockEvents, AreEventsWith, AreTaskEvents, after_marker, marker_end, marker_event, task_here}
 use Rattle.markdown_events.proofs.inline_events.Filled.{RiseFilled}
 use Rattle.markdown_events.proofs.inline_events.Laws.{events_balance, events_filled}
 use Rattle.markdown_events.proofs.page.leaf_events.LeafRanges.{RiseTo, leaf_rises, paragraph_rises}
@@ -131,17 +131,17 @@ marker_here false (Some container) block task is = absurd (cc)
 marker_here false None block task is = absurd (cc)
 
 -- The events of a leaf block rise: where its content stands after what has passed, and that of inlines from the block's own text on.
-pub block_rises : (page : List ℕ) (setting : BlockSetting) (here : Place) (passed : ℕ) (block : LeafBlock) → passed ≤ block.place
+pub block_rises : (page : List ℕ) (setting : EventSetting) (here : Place) (passed : ℕ) (block : LeafBlock) → passed ≤ block.place
     → block.place ≤ block_end block → ContentAfter passed page here block → (HasInlines block.kind → ContentAfter block.place page here block)
     → HoldsText page here.containers here.kept block → (waiting : Option Container) (events : List RangedEvent)
     → AreBlockEvents page setting here waiting block events → RiseTo passed block events
 block_rises page setting here passed block own ends_after after own_after holds waiting events are =
-    by (task_here setting.tasks waiting block) refl are
+    by (task_here setting.asked.tasks waiting block) refl are
   where
-    by : (task : Option Task) → task_here setting.tasks waiting block ≡ task → AreEventsWith task page setting.texts here block events
+    by : (task : Option Task) → task_here setting.asked.tasks waiting block ≡ task → AreEventsWith task page setting here block events
         → RiseTo passed block events
-    by None none is = leaf_rises page setting.texts here passed block own ends_after after own_after holds events is
+    by None none is = leaf_rises page setting here passed block own ends_after after own_after holds events is
     by (Some task) found is =
-        let marker = marker_here setting.tasks waiting block task found in
-        marked_rises page setting.texts here block passed own ends_after task marker.inlines (own_after marker.inlines) marker.place
+        let marker = marker_here setting.asked.tasks waiting block task found in
+        marked_rises page setting here block passed own ends_after task marker.inlines (own_after marker.inlines) marker.place
         (omega (arith, marker.len, holds.within)) events is

@@ -2,7 +2,8 @@ use Rattle.std.proofs.Common.{[], ◌++◌, map, reverse, refl, sym, ap, subst, 
 use Rattle.markdown_blocks.specs.events.Events.{seen_event as seen_block}
 use Rattle.markdown_events.specs.Targets.{nowhere}
 use Rattle.markdown_events.specs.page.OpenElements.{none_open}
-use Rattle.markdown_events.specs.page.PageEvents.{ArePageEvents, ArePageEventsWith, blocks_of}
+use Rattle.markdown_events.specs.page.PageEvents.{ArePageEvents, ArePageEventsWith}
+use Rattle.markdown_events.specs.page.Settings.{built}
 use Rattle.markdown_events.proofs.page.InPageLemmas.{page_leaves_in}
 use Rattle.markdown_events.proofs.page.PageBalance.{page_events_balance, page_events_nest, page_events_with_balance, page_events_with_nest}
 use Rattle.markdown_events.proofs.page.PageCuts.{page_events_at_boundaries, page_events_with_at_boundaries}
@@ -13,9 +14,9 @@ use Rattle.markdown_events.proofs.event_reader.EventReader.with_setting.Goals as
 pub invariant_of-result : goal.invariant_of-result
 invariant_of-result c =
     let all = c.in_ok-blocks.blocks.items in
-    let of_page = rw c.blocks-asked.ensures at c.in_ok-blocks.ensures.blocks in
+    let of_page = rw c.built.ensures at c.in_ok-blocks.ensures.blocks in
     rw (c.new.ensures, c.all.ensures)
-    (page_leaves_in (blocks_of c.args.setting) c.args.page.now (map seen_block all) of_page c.utf8.page)
+    (page_leaves_in (built c.args.setting) c.args.page.now (map seen_block all) of_page c.utf8.page)
 
 pub returns-clause-page : goal.returns-clause-page
 returns-clause-page c = λ events g.
@@ -24,15 +25,14 @@ returns-clause-page c = λ events g.
     let all = c.in_ok-blocks.blocks.items in
     let known = c.in_ok-blocks.definitions in
     let found = reverse c.in_ok-spans.spans.items in
-    let of_page = rw c.blocks-asked.ensures at c.in_ok-blocks.ensures.blocks in
-    let first = rw c.blocks-asked.ensures at c.in_ok-blocks.ensures.first in
+    let of_page = rw c.built.ensures at c.in_ok-blocks.ensures.blocks in
+    let first = rw c.built.ensures at c.in_ok-blocks.ensures.first in
     let are_spans = rw c.deref.ensures.value at c.in_ok-spans.ensures in
     let none = c.new-2.ensures in
     let later = rw (c.new.ensures, c.all.ensures) at g.are_later in
     let without = given_with (record {
       page = page;
-      tasks = setting.tasks;
-      extensions = setting.inlines;
+      extensions = setting;
       known = known;
       ready = [];
       elements = none_open found;
@@ -57,7 +57,7 @@ returns-clause-boundaries c = λ events g.
 
 pub returns-clause-definitions : goal.returns-clause-definitions
 returns-clause-definitions c =
-    let first = rw c.blocks-asked.ensures at c.in_ok-blocks.ensures.first in record {
+    let first = rw c.built.ensures at c.in_ok-blocks.ensures.first in record {
       named = first.0;
       are_defined = first.1;
       are_first = first.2;
@@ -68,8 +68,8 @@ returns-clause-broken c = λ more events g.
     let page = c.args.page.now in
     let setting = c.args.setting in
     let all = c.in_ok-blocks.blocks.items in
-    let of_page = rw c.blocks-asked.ensures at c.in_ok-blocks.ensures.blocks in
-    let first = rw c.blocks-asked.ensures at c.in_ok-blocks.ensures.first in
+    let of_page = rw c.built.ensures at c.in_ok-blocks.ensures.blocks in
+    let first = rw c.built.ensures at c.in_ok-blocks.ensures.first in
     let none = c.new-2.ensures in
     let later = rw (c.new.ensures, c.all.ensures) at g.are_later in
     subst (λ es. ArePageEventsWith page setting more es) (sym (g.given ∙ ap (λ es. es ++ g.rest) none))

@@ -8,7 +8,7 @@ use Rattle.markdown_events.proofs.page.leaf_content.code_events.Goals as goal
 
 pub of_content-source-requires-clause-utf8 : goal.of_content-source-requires-clause-utf8
 of_content-source-requires-clause-utf8 c =
-    content_utf8 c.args.leaf.kind c.args.containers.now c.args.kept (take c.args.leaf.bytes (drop c.args.leaf.start c.args.page.now))
+    content_utf8 c.args.leaf.kind c.args.here.containers.now c.args.here.kept (take c.args.leaf.bytes (drop c.args.leaf.start c.args.page.now))
     c.in_ok-content.content c.in_ok-content.ensures.content c.requires.cut_out.lines
 
 pub returns-clause-within : goal.returns-clause-within
@@ -16,5 +16,5 @@ returns-clause-within c =
     let within = subst (λ (t : List ℕ). EndWithin (length t) (map seen_event c.in_ok-events.events.items)) c.of_content-source.ensures
     c.in_ok-events.ensures.within in
     subst (λ (es : List RangedEvent). LieInBlock (seen_leaf c.args.leaf) es) (sym c.in_page.ensures)
-    (block_lies c.args.page.now (seen_leaf c.args.leaf) c.args.containers.now c.args.kept c.in_ok-content.content c.in_ok-content.ensures.content
+    (block_lies c.args.page.now (seen_leaf c.args.leaf) c.args.here.containers.now c.args.here.kept c.in_ok-content.content c.in_ok-content.ensures.content
     (map seen_event c.in_ok-events.events.items) within)

@@ -11,7 +11,7 @@ line_content-requires c =
     omega (arith, c.requires.text.within, c.args.leaf.ends, c.saturating_sub-offset.ensures)
 
 -- the text of a paragraph of one line is its content
-line_is : (c : goal.After-line_content) → IsContent c.args.leaf.kind c.args.containers.now c.args.kept
+line_is : (c : goal.After-line_content) → IsContent c.args.leaf.kind c.args.here.containers.now c.args.here.kept
     (lines_of (take c.args.leaf.bytes (drop c.args.leaf.start c.args.page.now))) c.line_content.result
 line_is c =
     let parts = one_part c.saturating_sub-offset.result c.args.leaf.text.now in
@@ -29,12 +29,12 @@ returns-then-is_plain_line-clause-content c = line_is c
 pub returns-then-is_plain_line-clause-places : goal.returns-then-is_plain_line-clause-places
 returns-then-is_plain_line-clause-places c =
     let lines = take c.args.leaf.bytes (drop c.args.leaf.start c.args.page.now) in
-    content_placed c.args.leaf.kind c.args.containers.now c.args.kept c.args.leaf.start c.args.leaf.bytes c.args.page.now lines
+    content_placed c.args.leaf.kind c.args.here.containers.now c.args.here.kept c.args.leaf.start c.args.leaf.bytes c.args.page.now lines
     c.line_content.result refl c.args.leaf.ends (line_is c)
-    (content_bytes c.args.leaf.kind c.args.containers.now c.args.kept lines c.line_content.result (line_is c))
+    (content_bytes c.args.leaf.kind c.args.here.containers.now c.args.here.kept lines c.line_content.result (line_is c))
 
 pub returns-clause-places : goal.returns-clause-places
 returns-clause-places c =
-    content_placed c.args.leaf.kind c.args.containers.now c.args.kept c.args.leaf.start c.args.leaf.bytes c.as_bytes.result.now
+    content_placed c.args.leaf.kind c.args.here.containers.now c.args.here.kept c.args.leaf.start c.args.leaf.bytes c.as_bytes.result.now
     c.lines_in-lines.result.now c.in_ok-content.content c.lines_in-lines.ensures c.args.leaf.ends c.in_ok-content.ensures.content
     c.in_ok-content.ensures.bytes

@@ -1,4 +1,5 @@
 use Rattle.std.proofs.Common.{List, ◌+◌, ◌-◌, length, map, ap, refl, subst, sym, arith}
+use Rattle.markdown_events.specs.page.Readings.{seen_reading}
 use Rattle.markdown_events.specs.EventLaws.{LieIn}
 use Rattle.markdown_events.specs.InlineEvents.{EventSetting, RangedEvent, seen_event}
 use Rattle.markdown_events.proofs.page.leaf_events.RangeLaws.{lie_before}
@@ -7,7 +8,7 @@ use Rattle.markdown_events.proofs.page.table_events.cells_events.Goals as goal
 
 pub loop-left-init : goal.loop-left-init
 loop-left-init g c =
-    let setting : EventSetting = record { asked = c.args.extensions; targets = g.D.Definitions.targets c.args.definitions.now } in
+    let setting : EventSetting = seen_reading g.D.Definitions.targets c.args.reading.now in
     let none = ap (map seen_event) c.new-events.ensures.items in record {
       given = cells_begin setting c.args.before c.args.text.now c.args.columns c.row_len-end.result c.cells_of-cells.result
           (map seen_event c.new-events.result.items) c.row_len-end.ensures.length c.cells_of-cells.ensures.cells none;
@@ -33,7 +34,7 @@ cell_events-requires g c κs =
 
 pub loop-left-preserved : goal.loop-left-preserved
 loop-left-preserved g c =
-    let setting : EventSetting = record { asked = c.args.extensions; targets = g.D.Definitions.targets c.args.definitions.now } in
+    let setting : EventSetting = seen_reading g.D.Definitions.targets c.args.reading.now in
     let before = c.args.before in
     let text = c.args.text.now in
     let left = c.loop-left.left in
@@ -54,6 +55,6 @@ loop-left-preserved g c =
 
 pub returns-clause-events : goal.returns-clause-events
 returns-clause-events g c =
-    let setting : EventSetting = record { asked = c.args.extensions; targets = g.D.Definitions.targets c.args.definitions.now } in
+    let setting : EventSetting = seen_reading g.D.Definitions.targets c.args.reading.now in
     cells_end setting c.args.before c.args.text.now c.loop-left.left c.row_len-end.result c.loop-left.cells _
     (map seen_event c.loop-left.events.items) (omega (arith, c.loop-left-test.false)) c.loop-left.invariant.given

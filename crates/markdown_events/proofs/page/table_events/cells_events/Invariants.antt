@@ -2,6 +2,7 @@
 -- in the row, and so do the events.
 use Rattle.std.proofs.Common.{List, ◌+◌, ◌++◌, length, map}
 use Rattle.markdown_blocks.specs.cells.Cells.{cells_of}
+use Rattle.markdown_events.specs.page.Readings.{seen_reading}
 use Rattle.markdown_events.specs.EventLaws.{LieIn}
 use Rattle.markdown_events.specs.InlineEvents.{EventSetting, RangedEvent, seen_event}
 use Rattle.markdown_events.specs.page.TableEvents.{AreCellEvents, row_len, shown_cells}
@@ -10,7 +11,7 @@ use Rattle.markdown_events.proofs.page.table_events.cells_events.Given as goal
 
 abbrev pub invariant-loop-left : goal.invariant-loop-left
 invariant-loop-left g l =
-    let setting : EventSetting = record { asked = l.extensions; targets = g.D.Definitions.targets l.definitions } in
+    let setting : EventSetting = seen_reading g.D.Definitions.targets l.reading in
     record {
       given : (later : List RangedEvent) → AreCellEvents setting l.before l.text (shown_cells l.left l.end l.cells) later
           → AreCellEvents setting l.before l.text (shown_cells l.columns (row_len l.text) (cells_of l.text)) (map seen_event l.events.items ++ later);

@@ -1,5 +1,6 @@
 use Rattle.std.proofs.Common.{List, ◌+◌, ◌-◌, ◌^◌, length, map, refl, subst, sym, arith}
 use Rattle.markdown_blocks.specs.rows.Rows.{seen_row}
+use Rattle.markdown_events.specs.page.Readings.{seen_reading}
 use Rattle.markdown_events.specs.EventLaws.{LieIn}
 use Rattle.markdown_events.specs.InlineEvents.{EventSetting, RangedEvent, seen_event}
 use Rattle.markdown_events.proofs.page.leaf_events.RangeLaws.{lie_before}
@@ -22,7 +23,7 @@ row_events-requires g c κs =
 
 pub loop-row-preserved : goal.loop-row-preserved
 loop-row-preserved g c =
-    let setting : EventSetting = record { asked = c.args.extensions; targets = g.D.Definitions.targets c.args.definitions.now } in
+    let setting : EventSetting = seen_reading g.D.Definitions.targets c.args.reading.now in
     let before = c.args.before in
     let row = seen_row c.in-Some.row in
     let here = map seen_event c.in_ok-row_events.field-0.items in
@@ -44,7 +45,7 @@ loop-row-preserved g c =
 
 pub returns-clause-events : goal.returns-clause-events
 returns-clause-events g c =
-    let setting : EventSetting = record { asked = c.args.extensions; targets = g.D.Definitions.targets c.args.definitions.now } in
+    let setting : EventSetting = seen_reading g.D.Definitions.targets c.args.reading.now in
     all_rows setting c.args.columns c.args.before c.loop-row.is_head c.loop-row.rows c.args.rows (map seen_event c.loop-row.events.items)
     c.in_default.ensures.steps.0 c.loop-row.invariant.given
 

@@ -1,5 +1,6 @@
 -- Whatever the events of the rows that are left, with them those that are added are the events of all.
 use Rattle.std.proofs.Common.{ℕ, List, true, ◌++◌, length, map}
+use Rattle.markdown_events.specs.page.Readings.{seen_reading}
 use Rattle.markdown_events.specs.EventLaws.{LieIn}
 use Rattle.markdown_events.specs.InlineEvents.{EventSetting, RangedEvent, seen_event}
 use Rattle.markdown_events.specs.page.TableEvents.{AreRowEvents, AreUtf8, RowsEndBy}
@@ -7,7 +8,7 @@ use Rattle.markdown_events.proofs.page.table_events.rows_events.Given as goal
 
 abbrev pub invariant-loop-row : goal.invariant-loop-row
 invariant-loop-row g l =
-    let setting : EventSetting = record { asked = l.extensions; targets = g.D.Definitions.targets l.definitions } in
+    let setting : EventSetting = seen_reading g.D.Definitions.targets l.reading in
     record {
       given : (later : List RangedEvent) → AreRowEvents setting l.columns l.before l.is_head l.rows later
           → AreRowEvents setting l.columns l.before true l.fn.rows (map seen_event l.events.items ++ later);

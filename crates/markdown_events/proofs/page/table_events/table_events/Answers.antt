@@ -16,11 +16,11 @@ rows_events-requires g c κs =
     let few : length c.lines_in-lines.result.now ≤ c.args.leaf.bytes =
     subst (λ (t : List ℕ). length t ≤ c.args.leaf.bytes) (sym c.lines_in-lines.ensures) (omega (arith, length-take {A = ℕ})) in
     let within = subst (RowsEndBy c.args.leaf.start (2 ^ 64 - 1)) (sym c.rows_of-rows.ensures.rows)
-    (rows_end c.args.kept c.args.containers.now c.args.leaf.start (2 ^ 64 - 1) c.lines_in-lines.result.now (omega (arith, few, c.args.leaf.ends))) in
+    (rows_end c.args.here.kept c.args.here.containers.now c.args.leaf.start (2 ^ 64 - 1) c.lines_in-lines.result.now (omega (arith, few, c.args.leaf.ends))) in
     let own = subst (λ (t : List ℕ). IsUtf8 (take c.args.leaf.bytes (drop c.args.leaf.start t))) (sym c.as_bytes.ensures.value)
     c.requires.cut_out.lines in
     let utf8 = subst AreUtf8 (sym c.rows_of-rows.ensures.rows)
-    (rows_utf8 c.args.kept c.args.containers.now c.lines_in-lines.result.now (subst IsUtf8 (sym c.lines_in-lines.ensures) own)) in
+    (rows_utf8 c.args.here.kept c.args.here.containers.now c.lines_in-lines.result.now (subst IsUtf8 (sym c.lines_in-lines.ensures) own)) in
     ((refl, tt), (within, utf8))
 
 pub returns-clause-within : goal.returns-clause-within
@@ -30,7 +30,7 @@ returns-clause-within g c =
     let few : length c.lines_in-lines.result.now ≤ leaf.bytes =
     subst (λ (t : List ℕ). length t ≤ leaf.bytes) (sym c.lines_in-lines.ensures) (omega (arith, length-take {A = ℕ})) in
     let ends = subst (RowsEndBy leaf.start to) (sym c.rows_of-rows.ensures.rows)
-    (rows_end c.args.kept c.args.containers.now leaf.start to c.lines_in-lines.result.now (omega (arith, few))) in
+    (rows_end c.args.here.kept c.args.here.containers.now leaf.start to c.lines_in-lines.result.now (omega (arith, few))) in
     IfOk-weaker c.block_element.result _ _ (λ events is has.
     subst (λ (es : List RangedEvent). LieInBlock (seen_leaf leaf) es) (sym is)
     (element_lies (table c.in_ok-alignments.alignments.items) leaf.start to leaf.place to (map seen_event c.in_ok-inner.inner.items)
