@@ -3,7 +3,7 @@ use Rattle.std.proofs.Common.{ℕ, List, ◌≡◌, sym, subst}
 use Rattle.markdown_values.specs.values.Events.{EventView}
 use Rattle.markdown_events.specs.InsecureCharacters.{with_replacements}
 use Rattle.markdown_events.specs.Nesting.{AreNested, without_ranges}
-use Rattle.markdown_events.specs.declared.settings.PageSetting.{PageSetting}
+use Rattle.markdown_values.specs.declared.values.extensions.Extensions.{Extensions}
 use Rattle.markdown_events.proofs.ForCallers.{page_events_nest}
 use Rattle.markdown_html.specs.Html.{html_of}
 use Rattle.markdown_html.specs.PageHtml.{IsHtmlOf}
@@ -17,7 +17,7 @@ pub nested_html_is_safe : (setting : Setting) (events : List (EventView (List �
 nested_html_is_safe setting events html is nested schemes safe =
     subst (IsSafeHtml schemes) (sym is) (html_is_safe schemes setting safe events nested)
 
-pub page_html_is_safe : (page : List ℕ) (asked : PageSetting) (setting : Setting) (html : List ℕ) → IsHtmlOf page asked setting html
+pub page_html_is_safe : (page : List ℕ) (asked : Extensions) (setting : Setting) (html : List ℕ) → IsHtmlOf page asked setting html
     → IsSafeWith setting html
 page_html_is_safe page asked setting html is =
     nested_html_is_safe setting (without_ranges is.events) html is.is_html (page_events_nest (with_replacements page) asked is.events is.are_events)

@@ -3,7 +3,7 @@ use Rattle.std.proofs.Common.{ℕ, List, ◌≡◌, subst, sym}
 use Rattle.markdown_events.specs.InlineEvents.{RangedEvent}
 use Rattle.markdown_events.specs.InsecureCharacters.{with_replacements}
 use Rattle.markdown_events.specs.Nesting.{without_ranges}
-use Rattle.markdown_events.specs.declared.settings.PageSetting.{PageSetting}
+use Rattle.markdown_values.specs.declared.values.extensions.Extensions.{Extensions}
 use Rattle.markdown_events.specs.page.Given.{PageLeft, Gives}
 use Rattle.markdown_events.specs.page.PageEvents.{ArePageEvents}
 use Rattle.markdown_events.proofs.ForCallers.{page_events_nest}
@@ -13,7 +13,7 @@ use Rattle.markdown_html.specs.ReadHtml.{Reads}
 use Rattle.markdown_html.specs.Settings.{Setting}
 use Rattle.markdown_html.proofs.HtmlReads.{html_reads}
 
-pub html_of_whole : (page text : List ℕ) (asked : PageSetting) (left : PageLeft) (setting : Setting) (html : List ℕ)
+pub html_of_whole : (page text : List ℕ) (asked : Extensions) (left : PageLeft) (setting : Setting) (html : List ℕ)
     → text ≡ with_replacements page → ((events : List RangedEvent) → Gives left events → ArePageEvents text asked events)
     → IsHtmlFrom left setting html → IsHtmlOf page asked setting html
 html_of_whole page text asked left setting html same whole is = record {
@@ -22,7 +22,7 @@ html_of_whole page text asked left setting html same whole is = record {
   is_html = is.is_html;
 }
 
-pub page_html_read : (page : List ℕ) (asked : PageSetting) (setting : Setting) (html : List ℕ) → IsHtmlOf page asked setting html
+pub page_html_read : (page : List ℕ) (asked : Extensions) (setting : Setting) (html : List ℕ) → IsHtmlOf page asked setting html
     → HoldsPage page asked setting html
 page_html_read page asked setting html is = record {
   events = is.events;

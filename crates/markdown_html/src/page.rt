@@ -1,7 +1,7 @@
 //! The HTML of a page.
 ghost use Rattle.std.specs.Prelude.{◌≡◌, IfErr, IfOk, string_bytes};
-ghost use Rattle.markdown_events.specs.page.PageEvents.{commonmark};
-ghost use Rattle.markdown_events.specs.page.Settings.{Explains, asked_by, not_built};
+ghost use Rattle.markdown_values.specs.values.Extensions.{asked_by, commonmark};
+ghost use Rattle.markdown_events.specs.page.Settings.{Explains, not_built};
 ghost use Rattle.markdown_html.specs.PageHtml.{HoldsPage, IsHtmlFrom, IsHtmlOf};
 ghost use Rattle.markdown_html.specs.SafeSetting.{IsSafeWith};
 ghost use Rattle.markdown_html.specs.Settings.{seen_setting};
@@ -10,7 +10,8 @@ use crate::setting::{AllowedAddresses, HtmlSetting};
 use crate::writer::HtmlWriter;
 use markdown_events::event_reader::{EventReader, NewError};
 use markdown_events::insecure_characters::with_replacements;
-use markdown_values::values::Options;
+use markdown_events::settings::setting_of;
+use markdown_values::values::{Extensions, Options};
 use std::alloc::{AllocError, Global};
 
 /// The HTML of a page of CommonMark, without extensions.
@@ -31,8 +32,30 @@ pub fn html_of_page<A: AllowedAddresses>(
         HoldsPage page.now commonmark
         (seen_setting A.allows setting.now) (string_bytes html)) }
 {
+    html_of_page_with(alloc, page, Extensions::none(), setting)
+}
+
+/// The HTML of a page that is read with these extensions. Footnotes and definition lists are text.
+///
+/// # Errors
+///
+/// `AllocError` where memory is refused.
+pub fn html_of_page_with<A: AllowedAddresses>(
+    alloc: Global,
+    page: &str,
+    asked: Extensions,
+    setting: &HtmlSetting<A>,
+) -> Result<String, AllocError>
+    ensures html { IfOk result (λ html. IsHtmlOf page.now asked
+        (seen_setting A.allows setting.now) (string_bytes html)) }
+    ensures safe { IfOk result (λ html. IsSafeWith
+        (seen_setting A.allows setting.now) (string_bytes html)) }
+    ensures reads { IfOk result (λ html.
+        HoldsPage page.now asked (seen_setting A.allows setting.now) (string_bytes html)) }
+{
     let text = with_replacements(alloc, page)?;
-    html_of_reader(alloc, EventReader::new(alloc, text.as_str())?, setting)
+    let reader = EventReader::with_setting(alloc, text.as_str(), asked)?;
+    html_of_reader(alloc, reader, setting)
 }
 
 /// The HTML of a page with these options.
@@ -57,11 +80,8 @@ pub fn html_of_page_ext<A: AllowedAddresses>(
     ensures built { IfOk result (λ _. not_built options ≡ 0) }
     ensures refused { IfErr result (Explains options) }
 {
-    let Ok(text) = with_replacements(alloc, page) else {
-        return Err(NewError::Refused(AllocError));
-    };
-    let reader = EventReader::new_ext(alloc, text.as_str(), options)?;
-    match html_of_reader(alloc, reader, setting) {
+    let asked = setting_of(options)?;
+    match html_of_page_with(alloc, page, asked, setting) {
         Ok(html) => Ok(html),
         Err(refused) => Err(NewError::Refused(refused)),
     }

@@ -1,4 +1,4 @@
-use Rattle.std.proofs.Common.{◌+◌, refl, ap, sym, ◌∙◌, arith, drop, map}
+use Rattle.std.proofs.Common.{refl, ap, sym, ◌∙◌, arith, drop, map}
 use Rattle.std.specs.Char.{to_ascii_lowercase}
 use Rattle.std.specs.Str.{bytes_eq}
 use Rattle.markdown_html.proofs.AddressLemmas.{passed_break, too_many, one_more, at_the_end, with_true, with_false}

@@ -1,5 +1,5 @@
 -- From each list of events that the reader goes on to give, one follows that it gave at first, and its HTML is what is written then
-use Rattle.std.proofs.Common.{ℕ, List, ◌≡◌}
+use Rattle.std.proofs.Common.{List, ◌≡◌}
 use Rattle.markdown_events.specs.InlineEvents.{RangedEvent}
 use Rattle.markdown_events.specs.page.Given.{Gives, events_left}
 use Rattle.markdown_html.specs.Html.{after_events}
