@@ -1,30 +1,22 @@
 -- The block at the front of a text, where the caller's containers are open. (CommonMark 0.31.2, chapters 3, 4 and 5)
-use Rattle.std.specs.Prelude.{ℕ, Bool, true, false, ◌≡◌, ◌≤◌, ◌-◌, ◌==◌, bit_and, ◌⊎◌, if◌then◌else◌, IsTrue, MatchBool}
+use Rattle.std.specs.Prelude.{ℕ, Bool, true, false, ◌≡◌, ◌≤◌, ◌-◌, ◌==◌, ◌⊎◌, if◌then◌else◌, IsTrue, MatchBool}
 use Rattle.std.specs.Prelude.{List, [], ◌∷◌, ◌++◌, length, map, take, drop}
 use Rattle.std.specs.List.{list_all}
 use Rattle.markdown_scanners_tree.specs.line.State.{LineState}
 use Rattle.markdown_blocks.specs.blocks.Pages.{NoneIsOver}
 use Rattle.markdown_blocks.specs.containers.Containers.{Between, after_marker, marker_place}
-use Rattle.markdown_blocks.specs.declared.containers.BlockExtensions.{BlockExtensions}
 use Rattle.markdown_blocks.specs.declared.containers.Container.{Container}
 use Rattle.markdown_blocks.specs.declared.containers.Container.TheVariants.{Quote, Item, Footnote, TermDefinition}
 use Rattle.markdown_blocks.specs.declared.step.Step.{Step}
 use Rattle.markdown_blocks.specs.taken.Whole.{AreWhole}
 use Rattle.markdown_blocks.specs.walk.Walk.{IsStep}
 use Rattle.markdown_scanners_c.specs.Buffer.{IsWritten}
+use Rattle.markdown_scanners_c.specs.Extensions.{AreExtensions, extensions_of}
 use Rattle.markdown_scanners_c.specs.Pages.{block_quote, container_returned, footnote, is_container, kind_returned, of_kind, term_definition}
 use Rattle.markdown_scanners_c.specs.Status.{ok, nothing, no_memory, bad_kind, bad_state}
 use Rattle.markdown_scanners_c.specs.declared.block_lines.LineBlock.{LineBlock}
 use Rattle.markdown_scanners_c.specs.declared.block_lines.OpenBlocks.{OpenBlocks}
 use Rattle.markdown_scanners_c.specs.declared.pages.Block.{Block}
-
--- The bits of `enum mds_block_extension`, of which there are two, for footnote definitions and definition lists.
-abbrev pub AreBlockExtensions : ℕ → Type 0
-AreBlockExtensions extensions = extensions ≤ 3
-
--- what they ask for
-abbrev pub blocks_asked_by : ℕ → BlockExtensions
-blocks_asked_by extensions = record { footnotes = bit_and extensions 1 == 1; definition_lists = bit_and extensions 2 == 2; no_tables = false }
 
 -- the container that is open: of an item or a definition of a term whose first line alone is read, and is blank after its marker, `count`
 -- is 1
@@ -61,7 +53,7 @@ AreOpen containers page =
 -- what is open, the extensions that are on, and whether a term stands there
 abbrev pub outer_in : List Block → OpenBlocks → Between
 outer_in containers page = record {
-  extensions = blocks_asked_by page.extensions;
+  extensions = extensions_of page.extensions;
   containers = map open_in (take page.depth containers);
   term = page.state == 1;
 }
@@ -111,9 +103,9 @@ IsLineOf outer lines has_ended page kept old new before block returned =
 -- Some bit is no extension; or what is given as open can't be, or begins no container; or the block is returned.
 unfoldable pub IsLineReturned : List ℕ → Bool → OpenBlocks → OpenBlocks → List Block → List Block → Block → Block → LineBlock → Type 0
 IsLineReturned text has_ended page kept old new before block returned =
-    ((returned ≡ no_line bad_kind) × (kept ≡ page) × (new ≡ old) × (block ≡ before) × ¬ AreBlockExtensions page.extensions)
-    ⊎ ((returned ≡ no_line bad_state) × (kept ≡ page) × (new ≡ old) × (block ≡ before) × AreBlockExtensions page.extensions
+    ((returned ≡ no_line bad_kind) × (kept ≡ page) × (new ≡ old) × (block ≡ before) × ¬ AreExtensions page.extensions)
+    ⊎ ((returned ≡ no_line bad_state) × (kept ≡ page) × (new ≡ old) × (block ≡ before) × AreExtensions page.extensions
     × ¬ AreOpen old page)
-    ⊎ (AreBlockExtensions page.extensions × AreOpen old page
+    ⊎ (AreExtensions page.extensions × AreOpen old page
     × (lines : List ℕ) × AreLinesRead text has_ended lines
     × IsLineOf (outer_in old page) lines has_ended page kept old new before block returned)

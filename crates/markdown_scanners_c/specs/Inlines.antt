@@ -3,7 +3,6 @@ use Rattle.std.specs.Prelude.{ℕ, ◌≡◌, ◌≤◌, ◌+◌, ◌-◌, ◌==
 use Rattle.std.specs.declared.ops.Range.{Range}
 use Rattle.std.specs.Str.{IsUtf8}
 use Rattle.markdown_inlines.specs.Output.{AreInlines}
-use Rattle.markdown_inlines.specs.declared.extensions.InlineExtensions.{InlineExtensions}
 use Rattle.markdown_inlines.specs.declared.inlines.Inline.{Inline as Found}
 use Rattle.markdown_inlines.specs.declared.inlines.Inline.TheVariants.{Leaf, StartEmphasis, EndEmphasis, StartLink, EndLink}
 use Rattle.markdown_inlines.specs.declared.inlines.Inline.TheVariants.{StartStrikethrough, EndStrikethrough}
@@ -15,6 +14,7 @@ use Rattle.markdown_inlines.specs.declared.pieces.PieceKind.{PieceKind}
 use Rattle.markdown_inlines.specs.declared.pieces.PieceKind.TheVariants as K
 use Rattle.markdown_scanners_c.specs.Answers.{none}
 use Rattle.markdown_scanners_c.specs.Buffer.{IsWritten}
+use Rattle.markdown_scanners_c.specs.Extensions.{AreExtensions, extensions_of}
 use Rattle.markdown_scanners_c.specs.KnownLabels.{AreTexts, known_in}
 use Rattle.markdown_scanners_c.specs.Status.{bad_kind, not_utf8, no_memory}
 use Rattle.markdown_scanners_c.specs.declared.inlines.Inline.{Inline}
@@ -133,14 +133,6 @@ inline_returned links (EndStrikethrough place count) = inline_at strikethrough_e
 inline_returned links (StartLink number) = opener_returned (get_or links number None)
 inline_returned links (EndLink piece) = inline_at link_end piece.start (piece.end - piece.start)
 
--- The bits of `enum mds_inline_extension`, of which there are two.
-abbrev pub AreExtensions : ℕ → Type 0
-AreExtensions extensions = extensions ≤ 3
-
--- what they ask for
-abbrev pub asked_by : ℕ → InlineExtensions
-asked_by extensions = record { strikethrough = bit_and extensions 1 == 1; wikilinks = bit_and extensions 2 == 2 }
-
 -- Some bit is no extension; or the text or a label is not UTF-8; or memory was refused; or the inlines of the text are written.
 unfoldable pub IsTextReturned : List ℕ → List View → ℕ → List Inline → List Inline → InlineCount → Type 0
 IsTextReturned text labels extensions old new returned =
@@ -150,5 +142,5 @@ IsTextReturned text labels extensions old new returned =
     ⊎ ((returned.status ≡ no_memory) × (returned.count ≡ 0) × (new ≡ old)
     × AreExtensions extensions × IsUtf8 text × AreTexts labels)
     ⊎ ((inlines : List Found) × (links : List (Option Link)) × AreExtensions extensions × IsUtf8 text × AreTexts labels
-    × AreInlines text (record { asked = asked_by extensions; known = known_in labels }) inlines links
+    × AreInlines text (record { asked = extensions_of extensions; known = known_in labels }) inlines links
     × IsWritten (map (inline_returned links) inlines) old new returned.status returned.count)

@@ -4,6 +4,7 @@ pub mod BlockLines
 pub mod Buffer
 pub mod DelimiterRuns
 pub mod EventRecords
+pub mod Extensions
 pub mod Finds
 pub mod Guards
 pub mod Inlines

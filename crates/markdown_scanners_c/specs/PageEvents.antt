@@ -3,9 +3,8 @@ use Rattle.std.specs.Prelude.{ℕ, ◌≡◌, ◌≤◌, ◌<◌, ◌++◌, ◌�
 use Rattle.std.specs.Str.{IsUtf8}
 use Rattle.markdown_events.specs.InlineEvents.{RangedEvent}
 use Rattle.markdown_events.specs.page.PageEvents.{ArePageEvents}
-use Rattle.markdown_events.specs.page.Settings.{asked_by}
 use Rattle.markdown_scanners_c.specs.EventRecords.{records_from, texts_of}
-use Rattle.markdown_scanners_c.specs.PageHtml.{AreBuilt, options_of}
+use Rattle.markdown_scanners_c.specs.Extensions.{AreBuilt, extensions_of}
 use Rattle.markdown_scanners_c.specs.Status.{ok, too_short, bad_kind, not_utf8, no_memory}
 use Rattle.markdown_scanners_c.specs.declared.event_records.PageEvent.{PageEvent}
 use Rattle.markdown_scanners_c.specs.declared.page_events.EventCount.{EventCount}
@@ -28,11 +27,11 @@ AreBothWritten made words events new_events texts new_texts returned =
     ⊎ ((returned.status ≡ too_short) × AreKept events new_events texts new_texts
     × ((length events < length made) ⊎ (length texts < length words))))
 
--- Some option is not built; or the page is not UTF-8; or memory was refused; or the events of the page are written.
+-- Some extension is not built; or the page is not UTF-8; or memory was refused; or the events of the page are written.
 unfoldable pub AreEventsReturned : List ℕ → ℕ → List PageEvent → List PageEvent → List ℕ → List ℕ → EventCount → Type 0
 AreEventsReturned page bits events new_events texts new_texts returned =
     (IsNoEvent bad_kind returned × AreKept events new_events texts new_texts × ¬ (AreBuilt bits))
     ⊎ (IsNoEvent not_utf8 returned × AreKept events new_events texts new_texts × AreBuilt bits × ¬ (IsUtf8 page))
     ⊎ (IsNoEvent no_memory returned × AreKept events new_events texts new_texts × AreBuilt bits × IsUtf8 page)
-    ⊎ ((given : List RangedEvent) × AreBuilt bits × IsUtf8 page × ArePageEvents page (asked_by (options_of bits)) given
+    ⊎ ((given : List RangedEvent) × AreBuilt bits × IsUtf8 page × ArePageEvents page (extensions_of bits) given
     × AreBothWritten (records_from 0 given) (texts_of given) events new_events texts new_texts returned)

@@ -1,34 +1,25 @@
 -- What C callers get of the HTML of a page.
 use Rattle.std.specs.Prelude.{ℕ, true, false, ◌≡◌, ◌⊎◌, List, [], ◌∷◌, codes, length, map}
 use Rattle.std.specs.Str.{IsUtf8}
-use Rattle.markdown_values.specs.declared.values.extensions.Options.{Options}
-use Rattle.markdown_events.specs.page.Settings.{asked_by, not_built}
 use Rattle.markdown_html.specs.PageHtml.{IsHtmlOf}
 use Rattle.markdown_html.specs.SafeSetting.{safe_setting}
 use Rattle.markdown_html.specs.Settings.{Setting, plain_setting}
 use Rattle.markdown_scanners_c.specs.Buffer.{IsWritten}
+use Rattle.markdown_scanners_c.specs.Extensions.{AreBuilt, extensions_of}
 use Rattle.markdown_scanners_c.specs.KnownLabels.{AreTexts}
 use Rattle.markdown_scanners_c.specs.Status.{bad_kind, not_utf8, no_memory}
 use Rattle.markdown_scanners_c.specs.Texts.{IsNoText}
 use Rattle.markdown_scanners_c.specs.declared.known_labels.View.{View}
 use Rattle.markdown_scanners_c.specs.declared.texts.Text.{Text}
 
--- the options with these bits
-abbrev pub options_of : ℕ → Options
-options_of bits = record { 0 = bits }
-
--- Every option with one of these bits is built.
-abbrev pub AreBuilt : ℕ → Type 0
-AreBuilt bits = not_built (options_of bits) ≡ 0
-
 -- Memory was refused; or the HTML of the page by this setting is written.
 abbrev pub IsHtmlAnswer : List ℕ → ℕ → Setting → List ℕ → List ℕ → Text → Type 0
 IsHtmlAnswer page bits setting old new answer =
     (IsNoText no_memory answer × (new ≡ old))
-    ⊎ ((html : List ℕ) × IsHtmlOf page (asked_by (options_of bits)) setting html
+    ⊎ ((html : List ℕ) × IsHtmlOf page (extensions_of bits) setting html
     × (answer.taken ≡ length page) × IsWritten html old new answer.status answer.length)
 
--- Some option is not built; or the page is not UTF-8; or memory was refused; or its HTML is written.
+-- Some extension is not built; or the page is not UTF-8; or memory was refused; or its HTML is written.
 unfoldable pub IsPlainAnswer : List ℕ → ℕ → List ℕ → List ℕ → Text → Type 0
 IsPlainAnswer page bits old new answer =
     (IsNoText bad_kind answer × (new ≡ old) × ¬ (AreBuilt bits))

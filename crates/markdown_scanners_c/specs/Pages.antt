@@ -9,11 +9,11 @@ use Rattle.markdown_blocks.specs.content.Content.{IsContent, Placed}
 use Rattle.markdown_blocks.specs.declared.blocks.BlockKind.{BlockKind}
 use Rattle.markdown_blocks.specs.declared.blocks.BlockKind.TheVariants.{Blank, Break, Heading, Setext, Indented, Fenced, Html, Table}
 use Rattle.markdown_blocks.specs.declared.blocks.BlockKind.TheVariants.{Definition, Paragraph}
-use Rattle.markdown_blocks.specs.containers.Containers.{no_extensions}
 use Rattle.markdown_blocks.specs.declared.containers.Container.{Container}
 use Rattle.markdown_blocks.specs.declared.containers.Container.TheVariants.{Quote, Item, Footnote, TermDefinition}
 use Rattle.markdown_blocks.specs.events.Events.{Event, starts, leaf, ends, LeafBlock, IsEventsOf}
 use Rattle.markdown_scanners_c.specs.Buffer.{IsWritten}
+use Rattle.markdown_scanners_c.specs.Extensions.{AreExtensions, extensions_of}
 use Rattle.markdown_scanners_c.specs.Status.{bad_kind, no_memory, past_end}
 use Rattle.markdown_scanners_c.specs.Texts.{IsNoText}
 use Rattle.markdown_scanners_c.specs.declared.pages.Block.{Block}
@@ -98,11 +98,13 @@ event_returned (starts container place) = container_returned container place
 event_returned (leaf b) = leaf_returned b
 event_returned ends = of_kind (record { kind = container_end; number = 0; byte = 0; count = 0 })
 
--- The events of a page are written, or memory was refused.
-abbrev pub IsPageAnswer : List ℕ → List Block → List Block → BlockCount → Type 0
-IsPageAnswer page old new answer =
-    ((answer.status ≡ no_memory) × (answer.count ≡ 0) × (new ≡ old))
-    ⊎ ((events : List Event) × IsEventsOf no_extensions page events × IsWritten (map event_returned events) old new answer.status answer.count)
+-- Some bit is no extension; or memory was refused; or the events of the page are written.
+abbrev pub IsPageAnswer : List ℕ → ℕ → List Block → List Block → BlockCount → Type 0
+IsPageAnswer page bits old new answer =
+    ((answer.status ≡ bad_kind) × (answer.count ≡ 0) × (new ≡ old) × ¬ AreExtensions bits)
+    ⊎ ((answer.status ≡ no_memory) × (answer.count ≡ 0) × (new ≡ old) × AreExtensions bits)
+    ⊎ ((events : List Event) × AreExtensions bits × IsEventsOf (extensions_of bits) page events
+    × IsWritten (map event_returned events) old new answer.status answer.count)
 
 -- the kind that a block's numbers name
 abbrev pub kind_in : Block → Kind

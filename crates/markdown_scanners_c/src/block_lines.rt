@@ -2,27 +2,21 @@
 //! chapters 3, 4 and 5)
 ghost use Rattle.std.specs.Prelude.{◌≡◌, ◌≤◌, ◌<◌, ◌⊎◌, ◌↔◌, ◌++◌, [], length, map, IsTrue, MatchBool, IfOk, OnOk, if◌then◌else◌};
 ghost use Rattle.markdown_blocks.specs.taken.Whole.{AreWhole};
-ghost use Rattle.markdown_scanners_c.specs.BlockLines.{AreOpen, IsLineOf, IsLineReturned, blocks_asked_by, if_returned, no_line};
+ghost use Rattle.markdown_scanners_c.specs.BlockLines.{AreOpen, IsLineOf, IsLineReturned, if_returned, no_line};
 ghost use Rattle.markdown_scanners_c.specs.BlockLines.{begun_returned, open_in, open_returned, opened_returned, outer_in, step_returned};
 ghost use Rattle.markdown_scanners_c.specs.Buffer.{IsWritten};
 ghost use Rattle.markdown_scanners_c.specs.Status.{ok, no_memory, nothing};
 
+use crate::extensions::{are_extensions, extensions_of};
 use crate::pages::{
     BLOCK_QUOTE, Block, BlockCount, FOOTNOTE, TERM_DEFINITION, are_containers, container_returned,
     kind_returned, of_kind, write_front,
 };
 use crate::status::{BAD_KIND, BAD_STATE, NO_MEMORY, NOTHING, OK};
-use markdown_blocks::containers::{BlockExtensions, Container, DefinitionItem, ListItem};
+use markdown_blocks::containers::{Container, DefinitionItem, ListItem};
 use markdown_blocks::walk::{Step, Walk};
 use markdown_blocks::whole::whole_lines;
 use std::alloc::{AllocError, Global};
-
-// `enum mds_block_extension`, and all of its bits.
-const FOOTNOTES: u32 = 1;
-
-const DEFINITION_LISTS: u32 = 2;
-
-const ALL_EXTENSIONS: u32 = 3;
 
 /// `struct mds_open_blocks` of C: how many of the caller's containers are open, which extensions are
 /// on, and whether a term stands there, 1, or not, 0.
@@ -63,7 +57,7 @@ pub extern "C" fn mds_block_line(
     ensures within { result.status ≡ ok → block.new.bytes ≤ length text.now }
     ensures all { result.status ≡ nothing → IsTrue has_ended → text.now ≡ [] }
 {
-    if page.extensions > ALL_EXTENSIONS {
+    if !are_extensions(page.extensions) {
         return no_line(BAD_KIND);
     }
     if !are_open(containers, page) {
@@ -115,23 +109,7 @@ fn walk_in(alloc: Global, containers: &[Block], page: &OpenBlocks) -> Result<Wal
 {
     let outer = all_open_in(alloc, &containers[..page.depth])?;
     let is_after_term = page.state == 1;
-    Ok(Walk::resume(
-        alloc,
-        blocks_asked_by(page.extensions),
-        outer,
-        is_after_term,
-    ))
-}
-
-// What these bits ask for.
-fn blocks_asked_by(extensions: u32) -> BlockExtensions
-    ensures { result ≡ blocks_asked_by extensions }
-{
-    BlockExtensions {
-        footnotes: extensions & FOOTNOTES == FOOTNOTES,
-        definition_lists: extensions & DEFINITION_LISTS == DEFINITION_LISTS,
-        no_tables: false,
-    }
+    Ok(Walk::resume(alloc, extensions_of(page.extensions), outer, is_after_term))
 }
 
 // The containers that are open.

@@ -5,18 +5,19 @@ ghost use Rattle.markdown_inlines.specs.Output.{AreInlines};
 ghost use Rattle.markdown_inlines.specs.declared.inlines.Inline.{Inline as Found};
 ghost use Rattle.markdown_inlines.specs.declared.links.Link.{Link};
 ghost use Rattle.markdown_scanners_c.specs.Buffer.{IsWritten};
-ghost use Rattle.markdown_scanners_c.specs.Inlines.{IsTextReturned, asked_by, backticks_of, end_number, inline_at, inline_returned};
+ghost use Rattle.markdown_scanners_c.specs.Inlines.{IsTextReturned, backticks_of, end_number, inline_at, inline_returned};
 ghost use Rattle.markdown_scanners_c.specs.Inlines.{length_of, link_returned, piece_number, piece_returned, start_number};
 ghost use Rattle.markdown_scanners_c.specs.Inlines.{title_length, title_start, with_label, with_target};
 ghost use Rattle.markdown_scanners_c.specs.KnownLabels.{known_in};
 ghost use Rattle.markdown_scanners_c.specs.private.LabelRoom.{AreRoomy, HasRoom};
 
+use crate::extensions::{are_extensions, extensions_of};
 use crate::known_labels::{KnownLabels, View, are_texts};
 use crate::status::{BAD_KIND, NO_MEMORY, NONE, NOT_UTF8, OK, TOO_SHORT};
-use markdown_inlines::extensions::InlineExtensions;
 use markdown_inlines::inlines::{Inline as Found, find_inlines};
 use markdown_inlines::links::{Link, LinkTarget};
 use markdown_inlines::pieces::{Piece, PieceKind};
+use markdown_values::values::Extensions;
 use std::alloc::{AllocError, Global};
 use std::ops::Range;
 
@@ -66,13 +67,6 @@ const SHORTCUT: u32 = 4;
 
 const WIKI: u32 = 5;
 
-// The bits of `enum mds_inline_extension`, and their sum.
-const ASKS_STRIKETHROUGH: u32 = 1;
-
-const ASKS_WIKILINKS: u32 = 2;
-
-const ASKS_ALL: u32 = 3;
-
 /// `struct mds_inline` of C: an inline of a text, or where one that holds others begins or ends.
 #[repr(C)]
 #[derive(Clone, Copy)]
@@ -111,7 +105,7 @@ pub extern "C" fn mds_scan_inlines(
 ) -> InlineCount
     ensures inlines { IsTextReturned text.now labels.now extensions inlines.old inlines.new result }
 {
-    if extensions > ASKS_ALL {
+    if !are_extensions(extensions) {
         return no_inlines(BAD_KIND);
     }
     let Ok(text) = str::from_utf8(text) else {
@@ -120,7 +114,7 @@ pub extern "C" fn mds_scan_inlines(
     if !are_texts(labels) {
         return no_inlines(NOT_UTF8);
     }
-    match returned_inlines(alloc, text, labels, asked_by(extensions)) {
+    match returned_inlines(alloc, text, labels, extensions_of(extensions)) {
         Ok(returned) => write_inlines(&returned, inlines),
         Err(_) => no_inlines(NO_MEMORY),
     }
@@ -133,22 +127,12 @@ fn no_inlines(status: u32) -> InlineCount
     InlineCount { status, count: 0 }
 }
 
-// What these bits ask for.
-fn asked_by(extensions: u32) -> InlineExtensions
-    ensures { result ≡ asked_by extensions }
-{
-    InlineExtensions {
-        strikethrough: extensions & ASKS_STRIKETHROUGH == ASKS_STRIKETHROUGH,
-        wikilinks: extensions & ASKS_WIKILINKS == ASKS_WIKILINKS,
-    }
-}
-
 // The inlines of a text.
 fn returned_inlines(
     alloc: Global,
     text: &str,
     labels: &[View<'_>],
-    asked: InlineExtensions,
+    asked: Extensions,
 ) -> Result<Vec<Inline>, AllocError>
     ensures { IfOk result (λ returned. (inlines : List Found) × (links : List (Option Link))
         × AreInlines text.now (record { asked = asked; known = known_in labels.now }) inlines links

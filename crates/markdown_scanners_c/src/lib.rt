@@ -10,6 +10,7 @@ mod block_lines;
 mod blocks;
 mod delimiter_runs;
 mod event_records;
+mod extensions;
 mod html;
 mod inline;
 mod inlines;

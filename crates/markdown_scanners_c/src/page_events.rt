@@ -4,18 +4,15 @@ ghost use Rattle.std.specs.Str.{IsUtf8};
 ghost use Rattle.markdown_events.specs.InlineEvents.{RangedEvent};
 ghost use Rattle.markdown_events.specs.page.Given.{Gives};
 ghost use Rattle.markdown_events.specs.page.PageEvents.{ArePageEvents};
-ghost use Rattle.markdown_events.specs.page.Settings.{asked_by};
 ghost use Rattle.markdown_scanners_c.specs.EventRecords.{records_from, texts_of};
 ghost use Rattle.markdown_scanners_c.specs.PageEvents.{AreBothWritten, AreEventsReturned};
-ghost use Rattle.markdown_scanners_c.specs.PageHtml.{options_of};
+ghost use Rattle.markdown_scanners_c.specs.Extensions.{extensions_of};
 ghost use Rattle.markdown_scanners_c.specs.Status.{ok, too_short};
 
 use crate::event_records::{PageEvent, add_event};
-use crate::page_html::are_built;
+use crate::extensions::{are_built, extensions_of};
 use crate::status::{BAD_KIND, NO_MEMORY, NOT_UTF8, OK, TOO_SHORT};
-use bitflags::Flags;
-use markdown_events::event_reader::{EventReader, NewError};
-use markdown_values::values::Options;
+use markdown_events::event_reader::EventReader;
 use std::alloc::{AllocError, Global};
 
 /// `struct mds_events` of C: how many events a page has, and how many bytes their texts.
@@ -32,21 +29,21 @@ pub struct EventCount {
 pub extern "C" fn mds_events(
     alloc: Global,
     text: &[u8],
-    options: u32,
+    extensions: u32,
     events: &mut [PageEvent],
     texts: &mut [u8],
 ) -> EventCount
-    ensures events { AreEventsReturned text.now options
+    ensures events { AreEventsReturned text.now extensions
         events.old events.new texts.old texts.new result }
     ensures utf8 { result.status ≡ ok → IsUtf8 (take result.length texts.new) }
 {
-    if !are_built(options) {
+    if !are_built(extensions) {
         return no_events(BAD_KIND);
     }
     let Ok(page) = str::from_utf8(text) else {
         return no_events(NOT_UTF8);
     };
-    match made_events(alloc, page, options) {
+    match made_events(alloc, page, extensions) {
         Ok((made, words)) => write_events(&made, words.as_str(), events, texts),
         Err(_) => no_events(NO_MEMORY),
     }
@@ -67,17 +64,16 @@ fn no_events(status: u32) -> EventCount
 fn made_events(
     alloc: Global,
     page: &str,
-    options: u32,
-) -> Result<(Vec<PageEvent>, String), NewError>
+    extensions: u32,
+) -> Result<(Vec<PageEvent>, String), AllocError>
     ensures { IfOk result (λ made. (all : List RangedEvent)
-        × ArePageEvents page.now (asked_by (options_of options)) all
+        × ArePageEvents page.now (extensions_of extensions) all
         × (made.0.items ≡ records_from 0 all) × (string_bytes made.1 ≡ texts_of all)) }
 {
-    let reader = EventReader::new_ext(alloc, page, Options::from_bits_retain(options))?;
-    match events_left(alloc, reader) {
-        Ok(made) => Ok(made),
-        Err(refused) => Err(NewError::Refused(refused)),
-    }
+    events_left(
+        alloc,
+        EventReader::with_setting(alloc, page, extensions_of(extensions))?,
+    )
 }
 
 // The events that a reader has left.

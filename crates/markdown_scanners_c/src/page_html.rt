@@ -1,27 +1,22 @@
 //! The HTML of a page, written into a buffer of the caller's.
 ghost use Rattle.std.specs.Prelude.{◌≡◌, ◌==◌, true, IfOk, map, take};
 ghost use Rattle.std.specs.Str.{IsUtf8, is_utf8};
-ghost use Rattle.markdown_events.specs.page.Settings.{not_built};
 ghost use Rattle.markdown_html.specs.SafeHtml.{IsSafeHtml};
 ghost use Rattle.markdown_html.specs.SafeSetting.{IsSafeWith};
 ghost use Rattle.markdown_html.specs.Settings.{seen_setting};
 ghost use Rattle.markdown_scanners_c.specs.KnownLabels.{AreTexts};
 ghost use Rattle.markdown_scanners_c.specs.PageHtml.{IsHtmlAnswer, IsPlainAnswer, IsSafeAnswer};
-ghost use Rattle.markdown_scanners_c.specs.PageHtml.{allowed_schemes, options_of};
+ghost use Rattle.markdown_scanners_c.specs.PageHtml.{allowed_schemes};
 ghost use Rattle.markdown_scanners_c.specs.Status.{ok};
 
+use crate::extensions::{are_built, extensions_of};
 use crate::known_labels::{View, are_texts};
 use crate::status::{BAD_KIND, NO_MEMORY, NOT_UTF8};
 use crate::texts::{Text, no_text, write_text};
-use bitflags::Flags;
-use markdown_html::page::html_of_page_ext;
+use markdown_html::page::html_of_page_with;
 use markdown_html::schemes::safe_setting;
 use markdown_html::setting::{AllowedAddresses, HtmlSetting, plain_setting};
-use markdown_values::values::Options;
 use std::alloc::{AllocError, Global};
-
-// The bits of the options that are not built.
-const NOT_BUILT: u32 = 0xffff_7fe5;
 
 /// Writes the HTML of a page, with the raw HTML and the addresses that stand in it.
 #[tactic(auto, unfolding(crate::specs::PageHtml::IsPlainAnswer))]
@@ -29,17 +24,17 @@ const NOT_BUILT: u32 = 0xffff_7fe5;
 pub extern "C" fn mds_html_unsafe(
     alloc: Global,
     text: &[u8],
-    options: u32,
+    extensions: u32,
     buffer: &mut [u8],
 ) -> Text
-    ensures html { IsPlainAnswer text.now options buffer.old buffer.new result }
+    ensures html { IsPlainAnswer text.now extensions buffer.old buffer.new result }
     ensures utf8 { result.status ≡ ok → IsUtf8 (take result.length buffer.new) }
 {
-    if !are_built(options) {
+    if !are_built(extensions) {
         return no_text(BAD_KIND);
     }
     match str::from_utf8(text) {
-        Ok(page) => page_html(alloc, page, options, &plain_setting(), buffer),
+        Ok(page) => page_html(alloc, page, extensions, &plain_setting(), buffer),
         Err(_) => no_text(NOT_UTF8),
     }
 }
@@ -51,16 +46,16 @@ pub extern "C" fn mds_html_unsafe(
 pub extern "C" fn mds_html(
     alloc: Global,
     text: &[u8],
-    options: u32,
+    extensions: u32,
     schemes: &[View<'_>],
     buffer: &mut [u8],
 ) -> Text
-    ensures html { IsSafeAnswer text.now options schemes.now buffer.old buffer.new result }
+    ensures html { IsSafeAnswer text.now extensions schemes.now buffer.old buffer.new result }
     ensures safe { result.status ≡ ok
         → IsSafeHtml (allowed_schemes schemes.now) (take result.length buffer.new) }
     ensures utf8 { result.status ≡ ok → IsUtf8 (take result.length buffer.new) }
 {
-    if !are_built(options) {
+    if !are_built(extensions) {
         return no_text(BAD_KIND);
     }
     let Ok(page) = str::from_utf8(text) else {
@@ -72,31 +67,24 @@ pub extern "C" fn mds_html(
     let Ok(schemes) = allowed_schemes(alloc, schemes) else {
         return no_text(NO_MEMORY);
     };
-    page_html(alloc, page, options, &safe_setting(&schemes), buffer)
-}
-
-// Whether every option with one of these bits is built.
-pub(crate) fn are_built(options: u32) -> bool
-    ensures { result ≡ (not_built (options_of options) == 0) }
-{
-    options & NOT_BUILT == 0
+    page_html(alloc, page, extensions, &safe_setting(&schemes), buffer)
 }
 
 // The HTML of a page by this setting, in the buffer.
 fn page_html<A: AllowedAddresses>(
     alloc: Global,
     page: &str,
-    options: u32,
+    extensions: u32,
     setting: &HtmlSetting<A>,
     buffer: &mut [u8],
 ) -> Text
-    ensures html { IsHtmlAnswer page.now options (seen_setting A.allows setting.now)
+    ensures html { IsHtmlAnswer page.now extensions (seen_setting A.allows setting.now)
         buffer.old buffer.new result }
     ensures safe { result.status ≡ ok → IsSafeWith
         (seen_setting A.allows setting.now) (take result.length buffer.new) }
     ensures utf8 { result.status ≡ ok → IsUtf8 (take result.length buffer.new) }
 {
-    match html_of_page_ext(alloc, page, Options::from_bits_retain(options), setting) {
+    match html_of_page_with(alloc, page, extensions_of(extensions), setting) {
         Ok(html) => write_text(html.as_str().as_bytes(), page.len(), buffer),
         Err(_) => no_text(NO_MEMORY),
     }

@@ -4,9 +4,10 @@ ghost use Rattle.markdown_scanners_c.specs.Buffer.{IsWritten};
 ghost use Rattle.markdown_scanners_c.specs.PageLists.{AreListsReturned, list_returned};
 ghost use Rattle.markdown_scanners_c.specs.Status.{no_memory};
 
-use crate::pages::{BlockCount, write_front};
-use crate::status::NO_MEMORY;
-use markdown_blocks::lists::{ListBlock, lists_of_page};
+use crate::extensions::{are_extensions, extensions_of};
+use crate::pages::{BlockCount, none_counted, write_front};
+use crate::status::{BAD_KIND, NO_MEMORY};
+use markdown_blocks::lists::{ListBlock, lists_of_page_ext};
 use std::alloc::{AllocError, Global};
 
 /// `struct mds_list` of C: a list of a page.
@@ -23,15 +24,20 @@ pub struct PageList {
 
 /// Writes the lists of a page, each where it ends.
 #[unsafe(no_mangle)]
-pub extern "C" fn mds_scan_lists(alloc: Global, page: &[u8], lists: &mut [PageList]) -> BlockCount
-    ensures lists { AreListsReturned page.now lists.old lists.new result }
+pub extern "C" fn mds_scan_lists(
+    alloc: Global,
+    page: &[u8],
+    extensions: u32,
+    lists: &mut [PageList],
+) -> BlockCount
+    ensures lists { AreListsReturned page.now extensions lists.old lists.new result }
 {
-    match lists_of_page(alloc, page) {
+    if !are_extensions(extensions) {
+        return none_counted(BAD_KIND);
+    }
+    match lists_of_page_ext(alloc, page, extensions_of(extensions)) {
         Ok(found) => write_lists(alloc, &found, lists),
-        Err(_) => BlockCount {
-            status: NO_MEMORY,
-            count: 0,
-        },
+        Err(_) => none_counted(NO_MEMORY),
     }
 }
 
@@ -42,10 +48,7 @@ fn write_lists(alloc: Global, found: &[ListBlock], lists: &mut [PageList]) -> Bl
 {
     match lists_returned(alloc, found) {
         Ok(returned) => write_front(&returned, lists),
-        Err(_) => BlockCount {
-            status: NO_MEMORY,
-            count: 0,
-        },
+        Err(_) => none_counted(NO_MEMORY),
     }
 }
 

@@ -6,7 +6,6 @@ ghost use Rattle.markdown_values.specs.values.Headings.{heading_number};
 ghost use Rattle.markdown_scanners_tree.specs.declared.scanners.html_kinds.HtmlBlockKind.{HtmlBlockKind as HtmlKind};
 ghost use Rattle.markdown_scanners_tree.specs.scanners.TextLines.{lines_of};
 ghost use Rattle.markdown_scanners_tree.specs.scanners.html_kinds.HtmlKinds.{condition_number};
-ghost use Rattle.markdown_blocks.specs.containers.Containers.{no_extensions};
 ghost use Rattle.markdown_blocks.specs.content.Content.{IsContent, Placed};
 ghost use Rattle.markdown_blocks.specs.declared.blocks.BlockKind.{BlockKind as LeafKind};
 ghost use Rattle.markdown_blocks.specs.events.Events.{Event, IsEventsOf, seen_event, seen_leaf};
@@ -16,6 +15,7 @@ ghost use Rattle.markdown_scanners_c.specs.Texts.{IsNoText};
 ghost use Rattle.markdown_scanners_c.specs.Pages.{HasKind, IsContentReturned, IsPageAnswer, StandsIn};
 ghost use Rattle.markdown_scanners_c.specs.Pages.{container_in, container_returned, event_returned, is_container, kind_returned, leaf_returned, of_kind};
 
+use crate::extensions::{are_extensions, extensions_of};
 use crate::status::{BAD_KIND, NO_MEMORY, OK, PAST_END, TOO_SHORT};
 use crate::texts::{Text, no_text, write_text};
 use markdown_blocks::blocks::BlockKind;
@@ -23,7 +23,7 @@ use markdown_blocks::containers::{Container, DefinitionItem, ListItem};
 use markdown_blocks::content::content_of;
 use markdown_blocks::events::{BlockEvent, Blocks, Leaf};
 use markdown_scanners_tree::scanners::HtmlBlockKind;
-use markdown_values::values::HeadingLevel;
+use markdown_values::values::{Extensions, HeadingLevel};
 use std::alloc::{AllocError, Global};
 
 pub(crate) const CONTAINER_END: u32 = 0;
@@ -93,26 +93,38 @@ pub(crate) struct Kind {
 /// Writes the blocks of a page, in order: the beginning of each container, the leaf blocks in it, and
 /// its end.
 #[unsafe(no_mangle)]
-pub extern "C" fn mds_scan_blocks(alloc: Global, page: &[u8], blocks: &mut [Block]) -> BlockCount
-    ensures blocks { IsPageAnswer page.now blocks.old blocks.new result }
+pub extern "C" fn mds_scan_blocks(
+    alloc: Global,
+    page: &[u8],
+    extensions: u32,
+    blocks: &mut [Block],
+) -> BlockCount
+    ensures blocks { IsPageAnswer page.now extensions blocks.old blocks.new result }
 {
-    match returned_blocks(alloc, page) {
+    if !are_extensions(extensions) {
+        return none_counted(BAD_KIND);
+    }
+    match returned_blocks(alloc, page, extensions_of(extensions)) {
         Ok(returned) => write_front(&returned, blocks),
-        Err(_) => BlockCount {
-            status: NO_MEMORY,
-            count: 0,
-        },
+        Err(_) => none_counted(NO_MEMORY),
     }
 }
 
-// The blocks of a page.
-fn returned_blocks(alloc: Global, page: &[u8]) -> Result<Vec<Block>, AllocError>
+/// Nothing is written, and why.
+pub(crate) fn none_counted(status: u32) -> BlockCount
+    ensures { result ≡ record { status = status; count = 0 } }
+{
+    BlockCount { status, count: 0 }
+}
+
+// The blocks of a page that is read with these extensions.
+fn returned_blocks(alloc: Global, page: &[u8], asked: Extensions) -> Result<Vec<Block>, AllocError>
     ensures { IfOk result (λ returned. (events : List Event)
-        × IsEventsOf no_extensions page.now events
+        × IsEventsOf asked page.now events
         × (returned.items ≡ map event_returned events)) }
 {
     let mut returned = Vec::new(alloc);
-    let mut blocks = Blocks::new(alloc, page);
+    let mut blocks = Blocks::new_ext(alloc, page, asked);
     while let Some(event) = blocks.next(alloc)? {
         returned.push(event_returned(event))?;
     }

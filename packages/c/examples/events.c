@@ -30,7 +30,7 @@ int main(void) {
     char *page = read_page(&length);
     struct mds_parser parser;
     struct mds_item item;
-    uint32_t status = mds_parser_new(&parser, page, length, MDS_OPTION_TABLES | MDS_OPTION_STRIKETHROUGH);
+    uint32_t status = mds_parser_new(&parser, page, length, MDS_TABLES | MDS_STRIKETHROUGH);
     if (status != MDS_OK)
         stop(mds_status_name(status));
     for (bool in_heading = false; mds_parser_next(&parser, &item) == MDS_OK;) {

@@ -7,7 +7,7 @@
 #include <stdlib.h>
 #include <string.h>
 
-enum { OPTIONS = MDS_OPTION_TABLES | MDS_OPTION_STRIKETHROUGH | MDS_OPTION_TASKS };
+enum { GITHUB = MDS_TABLES | MDS_STRIKETHROUGH | MDS_TASKS };
 
 static void stop(const char *why) {
     fprintf(stderr, "html: %s\n", why);
@@ -36,7 +36,7 @@ static uint8_t *read_page(size_t *length) {
 }
 
 static struct mds_text html_of(const uint8_t *page, size_t length, bool is_unsafe, uint8_t *html, size_t capacity) {
-    return is_unsafe ? mds_html_unsafe(page, length, OPTIONS, html, capacity) : mds_html(page, length, OPTIONS, NULL, 0, html, capacity);
+    return is_unsafe ? mds_html_unsafe(page, length, GITHUB, html, capacity) : mds_html(page, length, GITHUB, NULL, 0, html, capacity);
 }
 
 int main(int count, char **words) {

@@ -175,10 +175,10 @@ static void read_text(struct found *all, size_t line, struct text text) {
 
 /* All blocks of the page. */
 static struct mds_block *blocks_of(struct text page, size_t *count) {
-    struct mds_blocks found = mds_scan_blocks(page.bytes, page.length, NULL, 0);
+    struct mds_blocks found = mds_scan_blocks(page.bytes, page.length, MDS_TABLES, NULL, 0);
     struct mds_block *blocks = grown(NULL, found.count * sizeof(*blocks));
     if (found.status == MDS_TOO_SHORT)
-        found = mds_scan_blocks(page.bytes, page.length, blocks, found.count);
+        found = mds_scan_blocks(page.bytes, page.length, MDS_TABLES, blocks, found.count);
     if (found.status != MDS_OK)
         fail("memory", "refused");
     *count = found.count;

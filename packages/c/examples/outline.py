@@ -121,7 +121,7 @@ class Outline:
 
     def read(self, page):
         """Goes through the blocks of a page, and answers as `report`."""
-        for block in mds.scan_blocks(page):
+        for block in mds.scan_blocks(page, extensions=["tables"]):
             self.read_block(page, block)
         return self.report()
 

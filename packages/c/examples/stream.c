@@ -77,7 +77,7 @@ static bool tell_block(struct page *page) {
 }
 
 int main(void) {
-    struct page page = {.text = grown(NULL, 0)};
+    struct page page = {.text = grown(NULL, 0), .open = {.extensions = MDS_TABLES}};
     read_more(&page);
     if (page.length >= 3 && memcmp(page.text, "\xef\xbb\xbf", 3) == 0)
         page.printed = 3; /* a byte order mark is no part of the first block */

@@ -46,13 +46,13 @@ struct function {
 
 static struct room text_room, item_room, byte_room, earlier_room;
 static const uint8_t *text;
-static uint32_t options, extensions;
+static uint32_t extensions, built; /* those that are asked for, and of them those that events and HTML are built of */
 static const char *asked = "the page";
 static unsigned long long calls;
 
 /* What is asked of which page: said by stop, and where the sanitizers end the program. */
 static void show(void) {
-    fprintf(stderr, "pages: %s, with options %u and extensions %u, of this page:\n\"", asked, options, extensions);
+    fprintf(stderr, "pages: %s, with extensions %u, of this page:\n\"", asked, extensions);
     for (size_t i = 0; i < length; i++) {
         bool is_plain = page[i] >= ' ' && page[i] < 0x7F && page[i] != '\\' && page[i] != '"';
         fprintf(stderr, is_plain ? "%c" : "\\%03o", page[i]);
@@ -84,25 +84,25 @@ static struct answer of_text(struct mds_text found) {
 }
 
 static struct answer call_html_unsafe(const struct buffers *into) {
-    return of_text(mds_html_unsafe(text, length, options, into->bytes, into->byte_count));
+    return of_text(mds_html_unsafe(text, length, built, into->bytes, into->byte_count));
 }
 
 static struct answer call_html(const struct buffers *into) {
-    return of_text(mds_html(text, length, options, NULL, 0, into->bytes, into->byte_count));
+    return of_text(mds_html(text, length, built, NULL, 0, into->bytes, into->byte_count));
 }
 
 static struct answer call_events(const struct buffers *into) {
-    struct mds_events found = mds_events(text, length, options, into->items, into->item_count, into->bytes, into->byte_count);
+    struct mds_events found = mds_events(text, length, built, into->items, into->item_count, into->bytes, into->byte_count);
     return (struct answer){found.status, found.count, found.length};
 }
 
 static struct answer call_blocks(const struct buffers *into) {
-    struct mds_blocks found = mds_scan_blocks(text, length, into->items, into->item_count);
+    struct mds_blocks found = mds_scan_blocks(text, length, extensions, into->items, into->item_count);
     return (struct answer){found.status, found.count, 0};
 }
 
 static struct answer call_lists(const struct buffers *into) {
-    struct mds_blocks found = mds_scan_lists(text, length, into->items, into->item_count);
+    struct mds_blocks found = mds_scan_lists(text, length, extensions, into->items, into->item_count);
     return (struct answer){found.status, found.count, 0};
 }
 
@@ -159,7 +159,7 @@ static void check_events(const struct buffers *found) {
 }
 
 static bool is_container(uint32_t kind) {
-    return kind == MDS_BLOCK_QUOTE || kind == MDS_BLOCK_ITEM;
+    return kind == MDS_BLOCK_QUOTE || kind == MDS_BLOCK_ITEM || kind == MDS_BLOCK_FOOTNOTE || kind == MDS_BLOCK_TERM_DEFINITION;
 }
 
 static void check_blocks(const struct buffers *found) {
@@ -283,17 +283,17 @@ static void try_function(const struct function *it, bool is_text) {
     try_whole(it, needed);
 }
 
-static uint32_t chosen(const uint32_t *bits, size_t count) {
+/* Some of the extensions. */
+static uint32_t chosen(void) {
+    static const uint32_t bits[] = {MDS_TABLES, MDS_FOOTNOTES, MDS_STRIKETHROUGH, MDS_TASKS, MDS_DEFINITION_LISTS, MDS_WIKILINKS};
     uint32_t found = 0;
-    for (size_t i = 0; i < count; i++) found |= below(2) ? bits[i] : 0;
+    for (size_t i = 0; i < sizeof(bits) / sizeof(*bits); i++) found |= below(2) ? bits[i] : 0;
     return found;
 }
 
 /* All functions on a page that is made; whether it is UTF-8. */
 static bool try_page(void) {
-    static const uint32_t every[] = {MDS_OPTION_TABLES, MDS_OPTION_STRIKETHROUGH, MDS_OPTION_TASKS, MDS_OPTION_WIKILINKS};
-    static const uint32_t of_inlines[] = {MDS_STRIKETHROUGH, MDS_WIKILINKS};
-    options = chosen(every, 4), extensions = chosen(of_inlines, 2);
+    extensions = chosen(), built = extensions & ~(uint32_t)(MDS_FOOTNOTES | MDS_DEFINITION_LISTS);
     make_page();
     text = memcpy(placed(&text_room, length), page, length);
     bool is_text = mds_is_utf8(text, length);

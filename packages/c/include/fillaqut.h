@@ -29,6 +29,10 @@
  * an answer, `MDS_NOTHING` where nothing of the kind stands there, and else why they refused. The other fields mean
  * something where the comment of the struct says so, and are 0 otherwise.
  *
+ * Extensions. What is read beside CommonMark is what the parameter `extensions` asks for: the sum of bits of `enum mds_extension`, and 0
+ * for CommonMark alone. One that a call has no use for changes nothing there, as tables in the text of a block. Each call refuses any
+ * other bit, MDS_BAD_KIND; so do those that make events and HTML with an extension that these are not built of yet.
+ *
  * Buffers. Texts that are made go into the caller's buffer. Each call says how much room is enough, whatever it is
  * given: with so much one call does. (Only of HTML no such bound is known.) Where a buffer is too short it is left as it was, and `length` says how many bytes
  * are needed; so a call with no buffer (null and 0) asks for the length.
@@ -100,7 +104,7 @@ enum mds_status {
     MDS_NOT_RISING = 10,    /* the offset is not above the one before it */
     MDS_INSIDE_FIND = 11,   /* the offset is inside what was found before it */
     MDS_SPACE_PENDING = 12, /* columns of a tab are pending, and the call is not one that takes space */
-    MDS_BAD_KIND = 13,      /* a call or a block has no known kind, or an extension or an option is not known */
+    MDS_BAD_KIND = 13,      /* a call or a block has no known kind, or an extension is not known, or not built */
     MDS_BAD_STATE = 14      /* a line start has numbers that none has on these bytes, or what is said to be open is no container */
 };
 
@@ -125,6 +129,19 @@ static inline const char *mds_status_name(uint32_t status) {
     default: return "unknown";
     }
 }
+
+/* packages/extensions */
+/* What a page or a text is read with beside CommonMark. Each is a bit, that of pulldown-cmark's `Options`. Events and HTML are not built
+ * of MDS_FOOTNOTES and MDS_DEFINITION_LISTS yet. */
+enum mds_extension {
+    MDS_TABLES = 2,              /* A header row, a delimiter row under it, and the rows after these are a table. (GitHub Flavored Markdown 0.29, 4.10) */
+    MDS_FOOTNOTES = 4,           /* `[^label]:` begins a footnote definition, which goes on with blank lines and lines indented by four columns. (GitHub) */
+    MDS_STRIKETHROUGH = 8,       /* Text between `~` and `~`, or `~~` and `~~`, is struck through. (GitHub Flavored Markdown 0.29, 6.5) */
+    MDS_TASKS = 16,              /* A list item that begins with `[ ]` or `[x]` is a task. (GitHub Flavored Markdown 0.29, 5.3) */
+    MDS_DEFINITION_LISTS = 4096, /* `:` begins a definition of the paragraph before it, at once or after one blank line. (PHP Markdown Extra) */
+    MDS_WIKILINKS = 32768        /* `[[target]]` and `[[target|text]]` are links, and after `!` images. (Obsidian) */
+};
+/* end */
 
 /* A text for the caller's buffer, where the status is MDS_OK, and at its front; where it is MDS_TOO_SHORT the buffer is
  * as it was, and `taken` and `length` are set all the same. */
@@ -612,17 +629,11 @@ enum mds_block_kind {
     MDS_BLOCK_INDENTED = 7,    /* indented code (4.4) */
     MDS_BLOCK_FENCED = 8,      /* fenced code (4.5) */
     MDS_BLOCK_HTML = 9,        /* an HTML block (4.6) */
-    MDS_BLOCK_TABLE = 10,      /* a table (GitHub Flavored Markdown 0.29, 4.10) */
+    MDS_BLOCK_TABLE = 10,      /* a table, with MDS_TABLES (GitHub Flavored Markdown 0.29, 4.10) */
     MDS_BLOCK_DEFINITION = 11, /* a link reference definition (4.7) */
     MDS_BLOCK_PARAGRAPH = 12,  /* a paragraph (4.8) */
-    MDS_BLOCK_FOOTNOTE = 13,   /* a footnote definition begins, a container, where it is asked for */
-    MDS_BLOCK_TERM_DEFINITION = 14 /* a definition of the term before it begins, a container, where it is asked for */
-};
-
-/* Extensions of CommonMark's blocks. Each is a bit; those that are asked for are given as their sum. */
-enum mds_block_extension {
-    MDS_FOOTNOTES = 1, /* `[^label]:` begins a footnote definition, as on GitHub: it goes on with blank lines, and after four columns */
-    MDS_DEFINITION_LISTS = 2 /* a paragraph is a term where `:` begins a definition of it, at once or after one blank line */
+    MDS_BLOCK_FOOTNOTE = 13,   /* a footnote definition begins, a container, with MDS_FOOTNOTES */
+    MDS_BLOCK_TERM_DEFINITION = 14 /* a definition of the term before it begins, a container, with MDS_DEFINITION_LISTS */
 };
 
 /* A container that begins, the end of one, or a leaf block. */
@@ -649,18 +660,22 @@ struct mds_blocks {
  * each that begins ends. The lines of the leaf blocks, joined, are the page, but for a byte order mark, U+FEFF, that it
  * begins with, which no block has. Of a paragraph that begins with link reference definitions each of these is a leaf block,
  * and what is left of it the last. Most pages have fewer blocks than lines. Where the buffer is too short it is left as it
- * was, and `count` says how many blocks it needs room for. Memory is asked for, for the blocks and while the page is read:
- * MDS_NO_MEMORY. (3, 4, 5)
+ * was, and `count` says how many blocks it needs room for. MDS_BAD_KIND where a bit of `extensions` is not known. Memory is asked
+ * for, for the blocks and while the page is read: MDS_NO_MEMORY. (3, 4, 5)
  *
  *     struct mds_block blocks[4];
- *     mds_scan_blocks("# A\n\n> b\nc", 10, blocks, 4).count == 5
- *     mds_scan_blocks("# A\n> b\nc", 9, blocks, 4).status == MDS_OK
+ *     mds_scan_blocks("# A\n\n> b\nc", 10, 0, blocks, 4).count == 5
+ *     mds_scan_blocks("# A\n> b\nc", 9, 0, blocks, 4).status == MDS_OK
  *     blocks[0].kind == MDS_BLOCK_HEADING && blocks[0].number == 1 && blocks[0].lines == 1
  *     blocks[1].kind == MDS_BLOCK_QUOTE && blocks[1].place == 4
  *     blocks[2].kind == MDS_BLOCK_PARAGRAPH && blocks[2].line == 1 && blocks[2].lines == 2 && blocks[2].place == 6
  *     blocks[3].kind == MDS_BLOCK_END
+ *     mds_scan_blocks("|a|\n|-|", 7, MDS_TABLES, blocks, 4).count == 1 && blocks[0].kind == MDS_BLOCK_TABLE
+ *     mds_scan_blocks("|a|\n|-|", 7, 0, blocks, 4).count == 1 && blocks[0].kind == MDS_BLOCK_PARAGRAPH
+ *     mds_scan_blocks("a", 1, 1, blocks, 4).status == MDS_BAD_KIND
  */
-struct mds_blocks mds_scan_blocks(const void *bytes, size_t length, struct mds_block *blocks, size_t capacity);
+struct mds_blocks mds_scan_blocks(
+    const void *bytes, size_t length, uint32_t extensions, struct mds_block *blocks, size_t capacity);
 
 /* The content of a leaf block of mds_scan_blocks. Of a paragraph or a heading it is the text for inline scanners: what its
  * lines have after their containers, without the spaces and tabs before it, without the closing `#` of a heading and
@@ -678,7 +693,7 @@ struct mds_blocks mds_scan_blocks(const void *bytes, size_t length, struct mds_b
  *
  *     struct mds_block blocks[3];
  *     uint8_t buffer[7];
- *     mds_scan_blocks("> a\n>\tb", 7, blocks, 3).count == 3
+ *     mds_scan_blocks("> a\n>\tb", 7, 0, blocks, 3).count == 3
  *     mds_block_content("> a\n>\tb", 7, &blocks[1], blocks, 1, 0, buffer, 7).length == 3
  *     memcmp(buffer, "a\nb", 3) == 0
  */
@@ -689,7 +704,7 @@ struct mds_text mds_block_content(
 /* How far a page is read, block by block, for mds_block_line. All is zero before the first block, but for the extensions. */
 struct mds_open_blocks {
     size_t depth;        /* how many containers are open: so many at the front of the caller's array */
-    uint32_t extensions; /* bits of enum mds_block_extension, the same for a whole page */
+    uint32_t extensions; /* bits of enum mds_extension, the same for a whole page */
     uint32_t state;      /* 1 where a term stands before the next block, which a definition may follow, and else 0 */
 };
 
@@ -713,12 +728,12 @@ struct mds_line_block {
  * definition of a term of which one line is read, that is blank after its marker. At the end of the page those that are open end.
  * With another status all is left as it was.
  *
- * All is as mds_scan_blocks has it of the whole page, but that a paragraph which begins with link reference definitions is one
- * block: they stand at the front of its content, where mds_scan_reference_definition reads them.
+ * All is as mds_scan_blocks has it of the whole page with these extensions, but that a paragraph which begins with link reference
+ * definitions is one block: they stand at the front of its content, where mds_scan_reference_definition reads them.
  *
- * MDS_TOO_SHORT where the array has no room for `depth` containers. MDS_BAD_KIND where an unknown bit is set, MDS_BAD_STATE where
- * `open->depth` is above `capacity`, `open->state` above 1, or what is open there is no container. Memory is asked for, for the
- * containers and while the block is read: MDS_NO_MEMORY. (3, 4, 5)
+ * MDS_TOO_SHORT where the array has no room for `depth` containers. MDS_BAD_KIND where a bit of `open->extensions` is not known,
+ * MDS_BAD_STATE where `open->depth` is above `capacity`, `open->state` above 1, or what is open there is no container. Memory is
+ * asked for, for the containers and while the block is read: MDS_NO_MEMORY. (3, 4, 5)
  *
  *     struct mds_block containers[2], block;
  *     struct mds_open_blocks open = {0, 0, 0};
@@ -744,14 +759,15 @@ struct mds_list {
 
 /* All lists of a page, each where it ends: a list in an item stands before the list of that item. A list is loose where a
  * blank line stands between two of its items, or between two blocks directly in an item, and else tight. Where the buffer
- * is too short it is left as it was, and `count` says how many lists it needs room for. Memory is asked for, for the lists
- * and while the page is read: MDS_NO_MEMORY. (5.3)
+ * is too short it is left as it was, and `count` says how many lists it needs room for. MDS_BAD_KIND where a bit of `extensions`
+ * is not known. Memory is asked for, for the lists and while the page is read: MDS_NO_MEMORY. (5.3)
  *
  *     struct mds_list lists[2];
- *     mds_scan_lists("1. a\n2. b\n\n   c", 15, lists, 2).count == 1
+ *     mds_scan_lists("1. a\n2. b\n\n   c", 15, 0, lists, 2).count == 1
  *     lists[0].delimiter == '.' && lists[0].start == 1 && lists[0].is_loose && lists[0].end == 4
  */
-struct mds_blocks mds_scan_lists(const void *bytes, size_t length, struct mds_list *lists, size_t capacity);
+struct mds_blocks mds_scan_lists(
+    const void *bytes, size_t length, uint32_t extensions, struct mds_list *lists, size_t capacity);
 
 /* ---- Inlines ---- */
 
@@ -773,14 +789,8 @@ enum mds_inline_kind {
     MDS_INLINE_LINK = 13,             /* a link begins (6.3) */
     MDS_INLINE_IMAGE = 14,            /* an image begins (6.4) */
     MDS_INLINE_LINK_END = 15,         /* the innermost link or image that has begun ends */
-    MDS_INLINE_STRIKETHROUGH = 16,    /* strikethrough begins, where it is asked for */
+    MDS_INLINE_STRIKETHROUGH = 16,    /* strikethrough begins, with MDS_STRIKETHROUGH */
     MDS_INLINE_STRIKETHROUGH_END = 17 /* the innermost strikethrough that has begun ends */
-};
-
-/* Extensions of CommonMark's inlines. Each is a bit; those that are asked for are given as their sum. */
-enum mds_inline_extension {
-    MDS_STRIKETHROUGH = 1, /* text between `~` and `~`, or `~~` and `~~`, is struck through (GitHub Flavored Markdown 0.29, 6.5) */
-    MDS_WIKILINKS = 2      /* `[[target]]` and `[[target|text]]` are links, and after `!` images (Obsidian's internal links) */
 };
 
 /* Where a link or an image leads, by what follows its text (6.3), or as a wikilink. */
@@ -824,8 +834,8 @@ struct mds_inlines {
  * as they are written: mds_unescape decodes the first two, and mds_scan_link_label reads the label at `label_start`.
  *
  * `labels` are those that are defined, each as mds_scan_link_label writes it; null and 0 for no labels. What refers to a label that
- * matches none of them, as mds_labels_match has it, is text. `extensions` are bits of enum mds_inline_extension; 0 is CommonMark
- * alone. MDS_BAD_KIND where another bit is set.
+ * matches none of them, as mds_labels_match has it, is text. Of `extensions` MDS_STRIKETHROUGH and MDS_WIKILINKS are read in a text, and
+ * the others change nothing. MDS_BAD_KIND where a bit is not known.
  *
  * Where the buffer is too short it is left as it was, and `count` says how many inlines it needs room for: as many as the text has
  * bytes at most. MDS_NOT_UTF8 where the text or a label is not UTF-8. Memory is asked for, for the text, the labels and the
@@ -844,6 +854,7 @@ struct mds_inlines {
  *     inlines[0].kind == MDS_INLINE_STRIKETHROUGH && inlines[0].length == 2 && inlines[2].start == 3
  *     mds_scan_inlines("[[a|b]]", 7, NULL, 0, MDS_WIKILINKS, inlines, 7).count == 3
  *     inlines[0].target == MDS_TARGET_WIKI && inlines[0].destination_start == 2 && inlines[0].destination_length == 1
+ *     mds_scan_inlines("a", 1, NULL, 0, MDS_TABLES, inlines, 7).count == 1
  */
 struct mds_inlines mds_scan_inlines(
     const void *text, size_t length, const struct mds_view *labels, size_t label_count, uint32_t extensions,
@@ -851,19 +862,9 @@ struct mds_inlines mds_scan_inlines(
 
 /* ---- The HTML of a page ---- */
 
-/* Options by which a page is read. Each is a bit; those that are asked for are given as their sum. Their numbers are those of
- * pulldown-cmark's `Options`, and not those of the extensions above. */
-enum mds_option {
-    MDS_OPTION_TABLES = 2,        /* tables of rows and cells (GitHub Flavored Markdown 0.29, 4.10) */
-    MDS_OPTION_STRIKETHROUGH = 8, /* as MDS_STRIKETHROUGH */
-    MDS_OPTION_TASKS = 16,        /* list items that begin with a box (GitHub Flavored Markdown 0.29, 5.3) */
-    MDS_OPTION_WIKILINKS = 32768  /* as MDS_WIKILINKS */
-};
-
 /* The HTML of a page, safe for pages by people who are not trusted: raw HTML is written as text; of links and images an address is
  * written where it is relative or has one of the `schemes`, without regard to case, and else an empty one; and links say
- * `rel="nofollow noopener"`. All else is written as in the examples of CommonMark and of GitHub Flavored Markdown. `options` are
- * bits of enum mds_option; 0 is CommonMark alone.
+ * `rel="nofollow noopener"`. All else is written as in the examples of CommonMark and of GitHub Flavored Markdown.
  *
  * Schemes are texts without a colon. Null and 0 are for http, https, mailto and tel. One that no address has, as an empty text,
  * allows relative addresses alone.
@@ -872,8 +873,9 @@ enum mds_option {
  * referred to. Twice the text and 64 bytes are enough for most; where the status is MDS_TOO_SHORT, the same call with a buffer of
  * `length` bytes makes all of it anew, and is MDS_OK (examples/html.c).
  *
- * MDS_BAD_KIND where another bit is set, and else MDS_NOT_UTF8 where the text or a scheme is not UTF-8. Memory is asked for, for the
- * list of schemes, the blocks of the page, the inlines of one block after another, and the HTML: MDS_NO_MEMORY. (3 to 6)
+ * MDS_BAD_KIND where a bit of `extensions` is not known, or HTML is not built of it yet, and else MDS_NOT_UTF8 where the text or a scheme
+ * is not UTF-8. Memory is asked for, for the list of schemes, the blocks of the page, the inlines of one block after another, and the
+ * HTML: MDS_NO_MEMORY. (3 to 6)
  *
  *     uint8_t html[72];
  *     mds_html("[a](javascript:b)", 17, 0, NULL, 0, html, 72).length == 48
@@ -883,7 +885,7 @@ enum mds_option {
  *     mds_html("<https://a>", 11, 0, schemes, 1, html, 72).length == 56
  */
 struct mds_text mds_html(
-    const void *text, size_t length, uint32_t options, const struct mds_view *schemes, size_t scheme_count, uint8_t *buffer,
+    const void *text, size_t length, uint32_t extensions, const struct mds_view *schemes, size_t scheme_count, uint8_t *buffer,
     size_t capacity);
 
 /* The same, as the examples write it: raw HTML stands in it as it is, and links lead anywhere. It is for text of one's own, and mds_html
@@ -892,14 +894,14 @@ struct mds_text mds_html(
  *     uint8_t html[18];
  *     struct mds_text found = mds_html_unsafe("*a*", 3, 0, html, 18);
  *     found.status == MDS_OK && found.taken == 3 && found.length == 18 && memcmp(html, "<p><em>a</em></p>\n", 18) == 0
- *     mds_html_unsafe("|a|\n|-|", 7, MDS_OPTION_TABLES, NULL, 0).status == MDS_TOO_SHORT
- *     mds_html_unsafe("a", 1, 1, html, 18).status == MDS_BAD_KIND
+ *     mds_html_unsafe("|a|\n|-|", 7, MDS_TABLES, NULL, 0).status == MDS_TOO_SHORT
+ *     mds_html_unsafe("a", 1, MDS_FOOTNOTES, html, 18).status == MDS_BAD_KIND
  */
-struct mds_text mds_html_unsafe(const void *text, size_t length, uint32_t options, uint8_t *buffer, size_t capacity);
+struct mds_text mds_html_unsafe(const void *text, size_t length, uint32_t extensions, uint8_t *buffer, size_t capacity);
 
 /* ---- The events of a page ---- */
 
-/* What an event is. Those of extensions that no option asks for yet have their numbers already. */
+/* What an event is. Those of extensions that events are not built of yet have their numbers already. */
 enum mds_event_kind {
     MDS_EVENT_START = 0,              /* an element begins */
     MDS_EVENT_END = 1,                /* the element ends that has begun last, of those that have not ended */
@@ -980,8 +982,8 @@ struct mds_events {
 
 /* All events of a page, in order, and their texts, one after another: where each element begins and ends, and what stands in it. Each
  * that begins ends, and they nest; so do their ranges, which cut no character. Destinations, titles and info strings have their
- * escapes and references resolved. `options` are as of mds_html, which makes its HTML of the events of the page with U+FFFD in the place
- * of each U+0000 (2.3); here the page is read as it is.
+ * escapes and references resolved. mds_html makes its HTML of the events of the page with U+FFFD in the place of each U+0000 (2.3); here
+ * the page is read as it is.
  *
  * Where one of the buffers is too short both are left as they were, MDS_TOO_SHORT, and the same call with buffers of `count` events
  * and `length` bytes makes them anew, and is MDS_OK. How long texts are at most is not known, as of mds_html. An event for each eight
@@ -1004,7 +1006,8 @@ struct mds_events {
  *     events[1].text_length == 1 && events[1].title_length == 1 && texts[events[1].title_start] == 'c'
  */
 struct mds_events mds_events(
-    const void *text, size_t length, uint32_t options, struct mds_event *events, size_t capacity, uint8_t *texts, size_t texts_capacity);
+    const void *text, size_t length, uint32_t extensions, struct mds_event *events, size_t capacity, uint8_t *texts,
+    size_t texts_capacity);
 
 /* ---- Parts of inline text ---- */
 

@@ -3,7 +3,7 @@
  *
  *     struct mds_parser parser;
  *     struct mds_item item;
- *     uint32_t status = mds_parser_new(&parser, page, length, MDS_OPTION_TABLES);
+ *     uint32_t status = mds_parser_new(&parser, page, length, MDS_TABLES);
  *     while (mds_parser_next(&parser, &item) == MDS_OK)
  *         if (item.event->kind == MDS_EVENT_TEXT)
  *             fwrite(item.text.text, 1, item.text.length, stdout);
@@ -54,24 +54,24 @@ static inline void mds_parser_free(struct mds_parser *parser) {
 
 /* Makes the events of a page anew, where there is room for so many and for so many bytes of texts. */
 static inline struct mds_events mds_parser_made(
-    struct mds_parser *parser, const void *text, size_t length, uint32_t options, size_t events, size_t texts) {
+    struct mds_parser *parser, const void *text, size_t length, uint32_t extensions, size_t events, size_t texts) {
     struct mds_events refused = {MDS_NO_MEMORY, 0, 0};
     mds_parser_free(parser);
     if (events > SIZE_MAX / 2 / sizeof(struct mds_event)) return refused;
     parser->events = (struct mds_event *)malloc(events * sizeof(struct mds_event));
     parser->texts = (uint8_t *)malloc(texts);
     if (!parser->events || !parser->texts) return refused;
-    return mds_events(text, length, options, parser->events, events, parser->texts, texts);
+    return mds_events(text, length, extensions, parser->events, events, parser->texts, texts);
 }
 
 /* Begins a handle, whatever it is before, with the events of a page; the rest is as of mds_events. MDS_OK, MDS_BAD_KIND, MDS_NOT_UTF8
  * or MDS_NO_MEMORY. */
-static inline uint32_t mds_parser_new(struct mds_parser *parser, const void *text, size_t length, uint32_t options) {
+static inline uint32_t mds_parser_new(struct mds_parser *parser, const void *text, size_t length, uint32_t extensions) {
     struct mds_parser empty = {NULL, NULL, 0, 0};
     struct mds_events made;
     *parser = empty;
-    made = mds_parser_made(parser, text, length, options, length / 8 + 64, length + 64);
-    if (made.status == MDS_TOO_SHORT) made = mds_parser_made(parser, text, length, options, made.count + 1, made.length + 1);
+    made = mds_parser_made(parser, text, length, extensions, length / 8 + 64, length + 64);
+    if (made.status == MDS_TOO_SHORT) made = mds_parser_made(parser, text, length, extensions, made.count + 1, made.length + 1);
     if (made.status != MDS_OK) mds_parser_free(parser);
     else parser->count = made.count;
     return made.status;

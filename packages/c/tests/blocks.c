@@ -8,7 +8,8 @@
 enum { MOST = 48, LONGEST = 64 };
 
 static const char *const words[] = {
-    "end", "quote", "item", "blank", "break", "heading", "setext", "indented", "fenced", "html", "table", "definition", "paragraph"};
+    "end", "quote", "item", "blank", "break", "heading", "setext", "indented", "fenced", "html", "table", "definition", "paragraph",
+    "footnote", "term"};
 
 static char said[4096];
 
@@ -22,7 +23,9 @@ static void describe(const struct mds_block *block, char *text) {
     size_t first = block->line + 1, last = block->line + block->lines;
     switch (block->kind) {
     case MDS_BLOCK_END: strcpy(text, word); break;
-    case MDS_BLOCK_QUOTE: sprintf(text, "%s@%zu", word, block->place); break;
+    case MDS_BLOCK_QUOTE:
+    case MDS_BLOCK_FOOTNOTE: sprintf(text, "%s@%zu", word, block->place); break;
+    case MDS_BLOCK_TERM_DEFINITION: sprintf(text, "%s%u@%zu", word, block->width, block->place); break;
     case MDS_BLOCK_ITEM: sprintf(text, "%s%c%u,%u@%zu", word, block->byte, block->number, block->width, block->place); break;
     case MDS_BLOCK_FENCED: sprintf(text, "%s%c%zu:%zu-%zu", word, block->byte, block->count, first, last); break;
     case MDS_BLOCK_TABLE: sprintf(text, "%s%zu:%zu-%zu", word, block->count, first, last); break;
@@ -41,14 +44,17 @@ static void is_said(const struct row *row) {
     same(row->line, said, strcmp(said, (const char *)answer.bytes) == 0, true);
 }
 
+/* What is asked for. */
+static uint32_t extensions;
+
 /* The blocks of the page, which are written where there is room for all of them, and nowhere else. */
 static size_t blocks_of(int example, const char *page, size_t length, struct mds_block *blocks) {
     const void *bytes = given(BYTES, page, length);
-    size_t count = mds_scan_blocks(bytes, length, NULL, 0).count, size = count * sizeof(*blocks);
+    size_t count = mds_scan_blocks(bytes, length, extensions, NULL, 0).count, size = count * sizeof(*blocks);
     same(example, "fits", count <= MOST, true);
     for (size_t less = 0; less < 2 && less <= count; less++) {
         void *buffer = writable(BUFFER, size);
-        struct mds_blocks returned = mds_scan_blocks(bytes, length, buffer, count - less);
+        struct mds_blocks returned = mds_scan_blocks(bytes, length, extensions, buffer, count - less);
         same(example, "status", returned.status, less ? MDS_TOO_SHORT : MDS_OK);
         same(example, "count", returned.count, count);
         same(example, "is_left", is_left(BUFFER, less ? 0 : size), true);
@@ -79,6 +85,10 @@ static size_t content_of(
     return needed;
 }
 
+static bool is_leaf(const struct mds_block *block) {
+    return block->kind >= MDS_BLOCK_BLANK && block->kind <= MDS_BLOCK_PARAGRAPH;
+}
+
 /* Goes through the blocks of a page with the containers that are open. What is said then are the contents. */
 static void contents_of(int example, const char *page, size_t length, const struct mds_block *blocks, size_t count) {
     struct mds_block open[MOST];
@@ -88,7 +98,7 @@ static void contents_of(int example, const char *page, size_t length, const stru
     for (size_t i = 0; i < count; i++) {
         if (blocks[i].kind == MDS_BLOCK_END)
             kept = --depth;
-        else if (blocks[i].kind <= MDS_BLOCK_ITEM)
+        else if (!is_leaf(&blocks[i]))
             open[depth++] = blocks[i];
         else {
             size_t found = content_of(example, page, length, &blocks[i], open, depth, kept, text);
@@ -111,10 +121,6 @@ static struct mds_line_block fed(
             return found;
         has_ended = *end == length, *end += !has_ended;
     }
-}
-
-static bool is_leaf(const struct mds_block *block) {
-    return block->kind >= MDS_BLOCK_BLANK && block->kind <= MDS_BLOCK_PARAGRAPH;
 }
 
 /* A block is of the kind of another, and the same numbers belong to it. */
@@ -149,7 +155,7 @@ static size_t mark_length(const char *page, size_t length) {
 
 /* Fed byte by byte, after its byte order mark, the page has the same blocks, and these have the same content. */
 static void is_fed(int example, const char *page, size_t length, const struct mds_block *blocks) {
-    struct mds_open_blocks open = {0, 0, 0};
+    struct mds_open_blocks open = {0, extensions, 0};
     struct mds_block block;
     uint8_t first[LONGEST * LONGEST], second[LONGEST * LONGEST];
     size_t at = mark_length(page, length), end = at, line = 0, depth = 0;
@@ -178,7 +184,7 @@ static void is_fed(int example, const char *page, size_t length, const struct md
 static void check_blocks(const struct row *row) {
     struct mds_block blocks[MOST];
     static struct text page;
-    read_text(row->columns[1], 0, &page);
+    read_text(row->columns[1], 0, &page), extensions = extensions_of(row->columns[2]);
     const char *text = (const char *)page.bytes;
     size_t count = blocks_of(row->line, text, page.length, blocks);
     said[0] = 0;
@@ -193,7 +199,7 @@ static void check_blocks(const struct row *row) {
 static void check_content(const struct row *row) {
     struct mds_block blocks[MOST];
     static struct text page;
-    read_text(row->columns[1], 0, &page);
+    read_text(row->columns[1], 0, &page), extensions = extensions_of(row->columns[2]);
     const char *text = (const char *)page.bytes;
     contents_of(row->line, text, page.length, blocks, blocks_of(row->line, text, page.length, blocks));
     is_said(row);
@@ -208,7 +214,7 @@ static void places(void) {
     SAME(blocks[2].start, 0), SAME(blocks[2].bytes, 6), SAME(blocks[2].place, 4), SAME(blocks[2].indent, 0);
     SAME(blocks[5].start, 6), SAME(blocks[5].bytes, 1), SAME(blocks[5].place, 6), SAME(blocks[5].line, 1);
     SAME(blocks[6].start, 7), SAME(blocks[6].bytes, 5), SAME(blocks[6].place, 10), SAME(blocks[6].indent, 3);
-    SAME(mds_scan_blocks(NULL, 0, NULL, 0).status, MDS_OK), SAME(mds_scan_blocks(NULL, 0, NULL, 0).count, 0);
+    SAME(mds_scan_blocks(NULL, 0, 0, NULL, 0).status, MDS_OK), SAME(mds_scan_blocks(NULL, 0, 0, NULL, 0).count, 0);
 }
 
 /* What stands in a page of 8 bytes with these numbers, in a container of this kind. */
@@ -266,23 +272,23 @@ static struct mds_line_block line_in(
 }
 
 /* What is refused in this state, and that all is left as it was then; after a paragraph a term stands where it is asked for. */
-static void refused_in(int line, uint32_t state, uint32_t kind, size_t depth, uint32_t extensions, size_t capacity, uint32_t status) {
-    struct mds_open_blocks open = {depth, extensions, state};
+static void refused_in(int line, uint32_t state, uint32_t kind, size_t depth, uint32_t asked, size_t capacity, uint32_t status) {
+    struct mds_open_blocks open = {depth, asked, state};
     struct mds_block block = {.kind = 99};
     struct mds_line_block found = line_in("> > a", 5, kind, capacity, &open, &block);
     const struct mds_block *containers = (const void *)(at_front ? whole(BUFFER) : whole(BUFFER) + ROOM_SIZE - capacity * sizeof(block));
     same(line, "status", found.status, status);
     same(line, "block", block.kind, status == MDS_OK ? MDS_BLOCK_PARAGRAPH : 99);
     same(line, "depth", found.depth, status == MDS_OK || status == MDS_TOO_SHORT ? 2 : 0);
-    same(line, "open", open.depth, status == MDS_OK ? 2 : depth), same(line, "extensions", open.extensions, extensions);
-    same(line, "state", open.state, status == MDS_OK ? extensions / MDS_DEFINITION_LISTS : state);
+    same(line, "open", open.depth, status == MDS_OK ? 2 : depth), same(line, "extensions", open.extensions, asked);
+    same(line, "state", open.state, status == MDS_OK ? (asked & MDS_DEFINITION_LISTS) != 0 : state);
     for (size_t i = 0; i < capacity; i++)
         same(line, "a container", containers[i].kind, status == MDS_OK && i < 2 ? MDS_BLOCK_QUOTE : kind);
 }
 
-static void refused_line(int line, uint32_t kind, size_t depth, uint32_t extensions, size_t capacity, uint32_t status) {
+static void refused_line(int line, uint32_t kind, size_t depth, uint32_t asked, size_t capacity, uint32_t status) {
     for (uint32_t state = 0; state < 2; state++)
-        refused_in(line, state, kind, depth, extensions, capacity, status);
+        refused_in(line, state, kind, depth, asked, capacity, status);
 }
 
 static void refused_lines(void) {
@@ -292,16 +298,18 @@ static void refused_lines(void) {
         refused_line(__LINE__, MDS_BLOCK_ITEM, depth, MDS_FOOTNOTES, 3, depth > 3 ? MDS_BAD_STATE : MDS_OK);
     for (uint32_t kind = 0; kind < 16; kind++)
         refused_line(__LINE__, kind, 3, 0, 3, kind == 1 || kind == 2 || kind == 13 || kind == 14 ? MDS_OK : MDS_BAD_STATE);
-    for (uint32_t asked = 0; asked < 4; asked++)
-        refused_line(__LINE__, MDS_BLOCK_QUOTE, 1, asked, 2, MDS_OK), refused_in(__LINE__, 2, MDS_BLOCK_QUOTE, 1, asked, 2, MDS_BAD_STATE);
+    for (uint32_t asked = 0; asked <= EVERY_EXTENSION; asked++)
+        if (!(asked & ~(uint32_t)EVERY_EXTENSION))
+            refused_line(__LINE__, MDS_BLOCK_QUOTE, 1, asked, 2, MDS_OK), refused_in(__LINE__, 2, MDS_BLOCK_QUOTE, 1, asked, 2, MDS_BAD_STATE);
     refused_line(__LINE__, MDS_BLOCK_END, SIZE_MAX, 0, 2, MDS_BAD_STATE);
-    for (uint32_t bit = 4; bit > 0; bit *= 2)
-        refused_line(__LINE__, MDS_BLOCK_QUOTE, 0, bit, 2, MDS_BAD_KIND), refused_line(__LINE__, 0, 9, bit + 1, 2, MDS_BAD_KIND);
+    for (uint32_t bit = 1; bit > 0; bit *= 2)
+        if (!(bit & EVERY_EXTENSION))
+            refused_line(__LINE__, MDS_BLOCK_QUOTE, 0, bit, 2, MDS_BAD_KIND), refused_line(__LINE__, 0, 9, bit + MDS_TABLES, 2, MDS_BAD_KIND);
 }
 
 /* The first block of a text where so many items are open, of which one line is read or more. */
-static void in_items(int line, const char *text, bool is_begun, size_t depth, uint32_t extensions, size_t kept, size_t then, uint32_t kind) {
-    struct mds_open_blocks open = {depth, extensions, 0};
+static void in_items(int line, const char *text, bool is_begun, size_t depth, uint32_t asked, size_t kept, size_t then, uint32_t kind) {
+    struct mds_open_blocks open = {depth, asked, 0};
     struct mds_block block, containers[3];
     size_t length = strlen(text);
     for (size_t i = 0; i < 3; i++)
@@ -360,7 +368,8 @@ static size_t made(size_t below) {
 /* A page of the pieces that blocks begin with. */
 static size_t make_page(char *page) {
     static const char *const pieces[] = {
-        "> ", "- ", "1. ", "\n", "\n\n", "\r", "\t", "    ", "  ", "a", "# b", "```", "===", "---", "[c]: d", "<div>", "|-|", "\xff"};
+        "> ", "- ", "1. ", "\n", "\n\n", "\r", "\t", "    ", "  ", "a", "# b", "```", "===", "---", "[c]: d", "<div>", "|-|", "[^e]: ", ": ",
+        "\xff"};
     size_t length = 0, most = made(LONGEST);
     for (;;) {
         const char *piece = pieces[made(sizeof(pieces) / sizeof(*pieces))];
@@ -375,13 +384,14 @@ static void made_pages(void) {
     struct mds_block blocks[4 * LONGEST];
     for (size_t i = 0; i < 20000; i++) {
         size_t length = make_page(page), place = 0, line = 0, depth = 0;
-        at_front = i % 2;
-        size_t count = mds_scan_blocks(given(BYTES, page, length), length, blocks, 4 * LONGEST).count;
+        at_front = i % 2, extensions = 0;
+        for (uint32_t bit = 1; bit <= EVERY_EXTENSION; bit *= 2)
+            extensions |= made(2) ? bit & EVERY_EXTENSION : 0;
+        size_t count = mds_scan_blocks(given(BYTES, page, length), length, extensions, blocks, 4 * LONGEST).count;
         for (size_t j = 0; j < count; j++) {
-            bool is_leaf = blocks[j].kind > MDS_BLOCK_ITEM;
-            depth += blocks[j].kind == MDS_BLOCK_END ? SIZE_MAX : !is_leaf;
+            depth += blocks[j].kind == MDS_BLOCK_END ? SIZE_MAX : !is_leaf(&blocks[j]);
             SAME(depth <= LONGEST, true);
-            SAME(!is_leaf || (blocks[j].start == place && blocks[j].line == line), true);
+            SAME(!is_leaf(&blocks[j]) || (blocks[j].start == place && blocks[j].line == line), true);
             SAME(blocks[j].kind == MDS_BLOCK_END || blocks[j].place < length || blocks[j].kind == MDS_BLOCK_BLANK, true);
             place += blocks[j].bytes, line += blocks[j].lines;
         }

@@ -1,4 +1,4 @@
-/* The events of pages, on the rows of packages/pages.tsv; the handle over them; options and texts that are refused; and made pages, whose
+/* The events of pages, on the rows of packages/pages.tsv; the handle over them; extensions and texts that are refused; and made pages, whose
  * events balance, and their ranges nest and cut no character. */
 #include "fillaqut_parser.h"
 #include "tables.h"
@@ -6,7 +6,7 @@
 #include <stdio.h>
 #include <string.h>
 
-enum { MOST = 64, LINES = 4096, EVERY_OPTION = MDS_OPTION_TABLES | MDS_OPTION_STRIKETHROUGH | MDS_OPTION_TASKS | MDS_OPTION_WIKILINKS };
+enum { MOST = 64, LINES = 4096 };
 
 static const char *const kinds[] = {
     "start", "end", "text", "code", "inline math", "display math", "html", "inline html", "footnote reference", "soft break", "hard break",
@@ -74,11 +74,11 @@ static void print_event(const struct mds_item *item) {
 static struct text row_page, row_lines;
 
 /* The handle gives each event and then none. */
-static void is_given(int line, uint32_t options) {
+static void is_given(int line, uint32_t extensions) {
     size_t length = row_page.length;
     struct mds_parser parser;
     struct mds_item item, rest;
-    same(line, "status", mds_parser_new(&parser, given(BYTES, row_page.bytes, length), length, options), MDS_OK);
+    same(line, "status", mds_parser_new(&parser, given(BYTES, row_page.bytes, length), length, extensions), MDS_OK);
     given(BYTES, "", 0); /* the page is not read again */
     printed[0] = 0;
     while (mds_parser_next(&parser, &item) == MDS_OK) print_event(&item);
@@ -94,11 +94,11 @@ static void is_given(int line, uint32_t options) {
 }
 
 /* They are written where there is room for them, and nowhere else. */
-static void is_written(int line, uint32_t options, size_t count, size_t length, bool fits) {
+static void is_written(int line, uint32_t extensions, size_t count, size_t length, bool fits) {
     struct mds_event *events = writable(LIST, count * sizeof(*events));
     uint8_t *texts = writable(BUFFER, length);
     const void *bytes = given(BYTES, row_page.bytes, row_page.length);
-    struct mds_events found = mds_events(bytes, row_page.length, options, events, count, texts, length);
+    struct mds_events found = mds_events(bytes, row_page.length, extensions, events, count, texts, length);
     same(line, "status", found.status, fits ? MDS_OK : MDS_TOO_SHORT);
     same(line, "events", is_left(LIST, fits ? found.count * sizeof(*events) : 0), true);
     same(line, "texts", is_left(BUFFER, fits ? found.length : 0), true);
@@ -106,34 +106,34 @@ static void is_written(int line, uint32_t options, size_t count, size_t length, 
 
 static void check(const struct row *row) {
     read_text(row->columns[1], 0, &row_page), read_text(row->columns[3], 0, &row_lines);
-    uint32_t options = options_of(row->columns[2]);
-    struct mds_events found = mds_events(row_page.bytes, row_page.length, options, NULL, 0, NULL, 0);
+    uint32_t extensions = extensions_of(row->columns[2]);
+    struct mds_events found = mds_events(row_page.bytes, row_page.length, extensions, NULL, 0, NULL, 0);
     same(row->line, "status", found.status, found.count ? MDS_TOO_SHORT : MDS_OK);
-    is_given(row->line, options);
-    is_written(row->line, options, found.count, found.length, true);
-    is_written(row->line, options, found.count + 1, found.length + 1, true);
-    if (found.count) is_written(row->line, options, found.count - 1, found.length, false);
-    if (found.length) is_written(row->line, options, found.count, found.length - 1, false);
+    is_given(row->line, extensions);
+    is_written(row->line, extensions, found.count, found.length, true);
+    is_written(row->line, extensions, found.count + 1, found.length + 1, true);
+    if (found.count) is_written(row->line, extensions, found.count - 1, found.length, false);
+    if (found.length) is_written(row->line, extensions, found.count, found.length - 1, false);
 }
 
-static void is_refused(int line, const void *text, size_t length, uint32_t options, uint32_t status) {
+static void is_refused(int line, const void *text, size_t length, uint32_t extensions, uint32_t status) {
     struct mds_event *events = writable(LIST, 8 * sizeof(*events));
     uint8_t *texts = writable(BUFFER, 8);
-    struct mds_events found = mds_events(text, length, options, events, 8, texts, 8);
+    struct mds_events found = mds_events(text, length, extensions, events, 8, texts, 8);
     struct mds_parser parser;
     same(line, "status", found.status, status), same(line, "count", found.count, 0), same(line, "length", found.length, 0);
     same(line, "events", is_left(LIST, 0), true), same(line, "texts", is_left(BUFFER, 0), true);
-    same(line, "handle", mds_parser_new(&parser, text, length, options), status);
+    same(line, "handle", mds_parser_new(&parser, text, length, extensions), status);
     same(line, "count", parser.count, 0), same(line, "memory", !parser.events && !parser.texts, true);
 }
 
-/* An option that is not built is refused before a text that is not UTF-8. */
+/* An extension that is unknown or not built is refused before a text that is not UTF-8. */
 static void refusals(void) {
     for (uint32_t bit = 1; bit != 0; bit <<= 1) {
-        bool is_built = (bit & EVERY_OPTION) != 0;
+        bool is_built = (bit & EVERY_BUILT) != 0;
         SAME(mds_events(OF(""), bit, NULL, 0, NULL, 0).status, is_built ? MDS_OK : MDS_BAD_KIND);
         is_refused(__LINE__, OF("\xff"), bit, is_built ? MDS_NOT_UTF8 : MDS_BAD_KIND);
-        if (!is_built) is_refused(__LINE__, OF("a"), bit | EVERY_OPTION, MDS_BAD_KIND);
+        if (!is_built) is_refused(__LINE__, OF("a"), bit | EVERY_BUILT, MDS_BAD_KIND);
     }
     is_refused(__LINE__, OF("a\xc3"), 0, MDS_NOT_UTF8);
     SAME(mds_events(NULL, 0, 0, NULL, 0, NULL, 0).status, MDS_OK);
@@ -174,7 +174,7 @@ static void made_pages(void) {
         struct mds_parser parser;
         struct mds_item item;
         size_t length = make_page(page), depth = 0, texts = 0;
-        SAME(mds_parser_new(&parser, given(BYTES, page, length), length, made(2) ? EVERY_OPTION : 0), MDS_OK);
+        SAME(mds_parser_new(&parser, given(BYTES, page, length), length, made(2) ? EVERY_BUILT : 0), MDS_OK);
         while (mds_parser_next(&parser, &item) == MDS_OK) {
             const struct mds_event *it = item.event;
             SAME(is_boundary(page, length, it->start) && is_boundary(page, length, it->end) && it->start <= it->end, true);

@@ -1,27 +1,27 @@
-/* The HTML of pages, on the rows of packages/pages.tsv; options, texts and schemes that are refused; and made pages, in whose safe HTML no
+/* The HTML of pages, on the rows of packages/pages.tsv; extensions, texts and schemes that are refused; and made pages, in whose safe HTML no
  * other tag begins. */
 #include "tables.h"
 
 #include <string.h>
 
-enum { MOST = 64, EVERY_OPTION = MDS_OPTION_TABLES | MDS_OPTION_STRIKETHROUGH | MDS_OPTION_TASKS | MDS_OPTION_WIKILINKS };
+enum { MOST = 64 };
 
 /* How HTML is asked for. */
 struct asked {
     bool is_safe;
-    uint32_t options;
+    uint32_t extensions;
     const char *scheme;
 };
 
 static struct mds_text html_of(const char *page, size_t length, const struct asked *asked, uint8_t *buffer, size_t capacity) {
     const void *text = given(BYTES, page, length);
     if (!asked->is_safe)
-        return mds_html_unsafe(text, length, asked->options, buffer, capacity);
+        return mds_html_unsafe(text, length, asked->extensions, buffer, capacity);
     if (!asked->scheme)
-        return mds_html(text, length, asked->options, NULL, 0, buffer, capacity);
+        return mds_html(text, length, asked->extensions, NULL, 0, buffer, capacity);
     size_t size = strlen(asked->scheme);
     const struct mds_view scheme = {given(OTHER_BYTES, asked->scheme, size), size};
-    return mds_html(text, length, asked->options, given(LIST, &scheme, sizeof(scheme)), 1, buffer, capacity);
+    return mds_html(text, length, asked->extensions, given(LIST, &scheme, sizeof(scheme)), 1, buffer, capacity);
 }
 
 /* It is written where there is room for it, and nowhere else. */
@@ -43,7 +43,7 @@ static void is_html(const struct row *row, const struct asked *asked) {
 }
 
 static void check_html_unsafe(const struct row *row) {
-    is_html(row, &(struct asked){false, options_of(row->columns[2]), NULL});
+    is_html(row, &(struct asked){false, extensions_of(row->columns[2]), NULL});
 }
 
 /* With the one scheme that the row names, if it does. */
@@ -53,7 +53,7 @@ static void check_html(const struct row *row) {
     bool is_named = strstr(words, "scheme=") != NULL;
     if (is_named)
         read_text(field_of(words, "scheme"), ' ', &scheme);
-    is_html(row, &(struct asked){true, options_of(words), is_named ? (const char *)scheme.bytes : NULL});
+    is_html(row, &(struct asked){true, extensions_of(words), is_named ? (const char *)scheme.bytes : NULL});
 }
 
 static void is_refused(int line, struct mds_text found, uint32_t status) {
@@ -61,14 +61,14 @@ static void is_refused(int line, struct mds_text found, uint32_t status) {
     same(line, "is_left", is_left(BUFFER, 0), true);
 }
 
-/* An option that is not built is refused before a text or a scheme that is not UTF-8. */
+/* An extension that is unknown or not built is refused before a text or a scheme that is not UTF-8. */
 static void refusals(void) {
     uint8_t *buffer = writable(BUFFER, MOST);
     const struct mds_view other[] = {{"http", 4}, {"\xff", 1}};
     for (uint32_t bit = 1; bit != 0; bit <<= 1) {
-        bool is_built = (bit & EVERY_OPTION) != 0;
+        bool is_built = (bit & EVERY_BUILT) != 0;
         SAME(mds_html_unsafe(OF(""), bit, NULL, 0).status, is_built ? MDS_OK : MDS_BAD_KIND);
-        SAME(mds_html(OF(""), bit | EVERY_OPTION, NULL, 0, NULL, 0).status, is_built ? MDS_OK : MDS_BAD_KIND);
+        SAME(mds_html(OF(""), bit | EVERY_BUILT, NULL, 0, NULL, 0).status, is_built ? MDS_OK : MDS_BAD_KIND);
         is_refused(__LINE__, mds_html_unsafe(OF("\xff"), bit, buffer, MOST), is_built ? MDS_NOT_UTF8 : MDS_BAD_KIND);
         is_refused(__LINE__, mds_html(OF("\xff"), bit, NULL, 0, buffer, MOST), is_built ? MDS_NOT_UTF8 : MDS_BAD_KIND);
         is_refused(__LINE__, mds_html(OF("a"), bit, other, 2, buffer, MOST), is_built ? MDS_NOT_UTF8 : MDS_BAD_KIND);
@@ -116,7 +116,7 @@ static void made_pages(void) {
     char page[MOST], html[4096];
     for (size_t i = 0; i < 20000; i++) {
         at_front = i % 2;
-        struct asked asked = {true, made(2) ? EVERY_OPTION : 0, made(2) ? "http" : NULL};
+        struct asked asked = {true, made(2) ? EVERY_BUILT : 0, made(2) ? "http" : NULL};
         size_t length = make_page(page);
         struct mds_text found = html_of(page, length, &asked, (uint8_t *)html, sizeof(html) - 1);
         SAME(found.status, MDS_OK), html[found.length] = 0;

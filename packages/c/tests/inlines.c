@@ -127,10 +127,8 @@ static size_t inlines_of(
 static void read_asked(const struct row *row) {
     extensions = 0, defined = 0;
     for (const char *word = *row->columns[2] ? row->columns[2] : NULL; word; word = after(word, ' ')) {
-        if (strncmp(word, "strikethrough", 13) == 0) {
-            extensions |= MDS_STRIKETHROUGH;
-        } else if (strncmp(word, "wikilinks", 9) == 0) {
-            extensions |= MDS_WIKILINKS;
+        if (extension_of(word)) {
+            extensions |= extension_of(word);
         } else {
             if (defined == LABELS)
                 stop_at_row("it has more definitions than there is space for");
@@ -235,7 +233,7 @@ static void is_refused(int line, const char *text, size_t length, const char *la
 
 static void refusals(void) {
     static const struct mds_view empty[] = {{NULL, 0}, {"", 0}};
-    static const uint32_t others[] = {4, 5, 7, 8, 0x80000000, 0x80000001, UINT32_MAX};
+    static const uint32_t others[] = {1, 3, 32, EVERY_EXTENSION + 1, 0x80000000, 0x80000002, UINT32_MAX};
     is_refused(__LINE__, "a\xff", 2, "b", 1), is_refused(__LINE__, "\xc3", 1, "b", 1);
     is_refused(__LINE__, "a", 1, "b\xff", 2), is_refused(__LINE__, "[b]", 3, "\xe1\xba", 2);
     SAME(mds_scan_inlines(NULL, 0, NULL, 0, 0, NULL, 0).status, MDS_OK), SAME(mds_scan_inlines(NULL, 0, NULL, 0, 0, NULL, 0).count, 0);
@@ -288,16 +286,19 @@ static void are_whole(const struct mds_inline *inlines, size_t count, size_t len
     SAME(place, length), SAME(depth, 0);
 }
 
-/* Labels match in any case, and neither a label that is not in the text nor an empty one changes anything. */
+/* Labels match in any case, and neither a label that is not in the text nor an empty one changes anything; nor do extensions of blocks. */
 static void made_texts(void) {
     static const struct mds_view one[] = {{"a", 1}}, others[] = {{"c", 1}, {"A", 1}, {"", 0}, {"a", 1}};
     struct mds_inline inlines[MOST], same_ones[MOST];
     char text[LONGEST];
     for (size_t i = 0; i < 20000; i++) {
         size_t length = make_text(text), labels = made(2);
-        at_front = i % 2, extensions = made(4);
+        at_front = i % 2, extensions = (made(2) ? MDS_STRIKETHROUGH : 0) | (made(2) ? MDS_WIKILINKS : 0);
         size_t count = inlines_of(0, text, length, one, labels, inlines);
         are_whole(inlines, count, length);
+        extensions |= EVERY_EXTENSION & ~(MDS_STRIKETHROUGH | MDS_WIKILINKS);
+        SAME(inlines_of(0, text, length, one, labels, same_ones), count);
+        SAME(memcmp(inlines, same_ones, count * sizeof(*inlines)), 0);
         if (labels) {
             SAME(inlines_of(0, text, length, others, 3, same_ones), count);
             SAME(memcmp(inlines, same_ones, count * sizeof(*inlines)), 0);

@@ -108,6 +108,7 @@ check_dist() {
     cmp "$archive" "$at/lib/libfillaqut.a" && cmp "$shared" "$at/lib/$shared_name" || stop "other libraries are packed"
     by_pkg_config "$at"
     check_packed_programs "$at"
+    check_packed_pages "$at"
     check_packed_python "$at"
     check_packed_rust "$at"
     check_packed_javascript "$at"
@@ -141,6 +142,16 @@ check_packed_programs() {
     needs=$(sed -n 's/^The programs .*glibc \([0-9.]*\), the libraries$/\1/p; s/^glibc \([0-9.]*\), or later\.$/\1/p; ' "$1/README.md" | wc -l)
     [ "$needs" = 2 ] || stop "the README doesn't say which glibc is needed"
     passed packed_programs $((${#packed_programs[@]} + runs))
+}
+
+# The manual pages and the completions of the programs, which it then removes.
+check_packed_pages() {
+    local folder
+    packages/program/install "$scratch/manuals"
+    for folder in man bash-completion zsh fish; do
+        diff -r "$scratch/manuals/share/$folder" "$1/share/$folder" || stop "other manual pages or completions are packed"
+    done
+    packages/program/install --remove "$1"
 }
 
 # The package, of the wheel alone, and the example on it.

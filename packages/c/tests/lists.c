@@ -18,13 +18,14 @@ static void describe(const struct mds_list *lists, size_t count, char *said) {
 static void check(const struct row *row) {
     static struct text page;
     read_text(row->columns[1], 0, &page);
+    uint32_t asked = extensions_of(row->columns[2]);
     const void *bytes = given(BYTES, page.bytes, page.length);
-    size_t count = mds_scan_lists(bytes, page.length, NULL, 0).count, size = count * sizeof(struct mds_list);
+    size_t count = mds_scan_lists(bytes, page.length, asked, NULL, 0).count, size = count * sizeof(struct mds_list);
     char said[256] = "";
     same(row->line, "fits", count <= MOST, true);
     for (size_t less = 0; less < 2 && less <= count; less++) {
         struct mds_list *lists = writable(BUFFER, size);
-        struct mds_blocks returned = mds_scan_lists(bytes, page.length, lists, count - less);
+        struct mds_blocks returned = mds_scan_lists(bytes, page.length, asked, lists, count - less);
         same(row->line, "status", returned.status, less ? MDS_TOO_SHORT : MDS_OK);
         same(row->line, "count", returned.count, count);
         same(row->line, "is_left", is_left(BUFFER, less ? 0 : size), true);

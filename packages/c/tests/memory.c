@@ -165,7 +165,7 @@ static struct returned long_html_run(size_t capacity) {
 static struct returned of_blocks(const char *page, size_t length, size_t capacity) {
     size_t most = capacity / sizeof(struct mds_block);
     struct mds_block *blocks = writable(BUFFER, most * sizeof(*blocks));
-    struct mds_blocks found = mds_scan_blocks(given(BYTES, page, length), length, blocks, most);
+    struct mds_blocks found = mds_scan_blocks(given(BYTES, page, length), length, MDS_TABLES, blocks, most);
     return (struct returned){found.status, {found.count, 0, 0}};
 }
 
@@ -186,7 +186,7 @@ static struct returned deep_blocks(size_t capacity) {
 static struct returned of_lists(const char *page, size_t length, size_t capacity) {
     size_t most = capacity / sizeof(struct mds_list);
     struct mds_list *lists = writable(BUFFER, most * sizeof(*lists));
-    struct mds_blocks found = mds_scan_lists(given(BYTES, page, length), length, lists, most);
+    struct mds_blocks found = mds_scan_lists(given(BYTES, page, length), length, MDS_TABLES, lists, most);
     return (struct returned){found.status, {found.count, 0, 0}};
 }
 
@@ -202,7 +202,7 @@ static struct returned many_lists(size_t capacity) {
 }
 
 static struct returned of_line(const char *text, size_t length, size_t capacity) {
-    struct mds_open_blocks open = {0, 0, 0};
+    struct mds_open_blocks open = {0, MDS_TABLES, 0};
     struct mds_block block = {.bytes = 0};
     size_t most = capacity / sizeof(struct mds_block);
     struct mds_block *containers = writable(BUFFER, most * sizeof(*containers));
@@ -275,7 +275,7 @@ static struct returned inlines_with_many_labels(size_t capacity) {
 static const char whole_page[] = "# a\n> - [x] *b* [c]\n\n|a|`b`|\n|-|-|\n|c|![d](e)|\n\n[c]: /f \"g\"\n";
 
 static struct returned html_unsafe(size_t capacity) {
-    return of_text(mds_html_unsafe(OF(whole_page), MDS_OPTION_TABLES | MDS_OPTION_TASKS, writable(BUFFER, capacity), capacity));
+    return of_text(mds_html_unsafe(OF(whole_page), MDS_TABLES | MDS_TASKS, writable(BUFFER, capacity), capacity));
 }
 
 static struct returned long_html_unsafe(size_t capacity) {
@@ -296,7 +296,7 @@ static struct returned of_events(const char *page, size_t length, size_t capacit
     size_t most = capacity ? 24 : 0, texts_capacity = capacity ? 304 : 0, records = most * sizeof(struct mds_event);
     uint8_t *both = writable(BUFFER, records + texts_capacity);
     struct mds_events found = mds_events(
-        given(BYTES, page, length), length, MDS_OPTION_TABLES | MDS_OPTION_TASKS, (struct mds_event *)(void *)both, most,
+        given(BYTES, page, length), length, MDS_TABLES | MDS_TASKS, (struct mds_event *)(void *)both, most,
         both + records, texts_capacity);
     return (struct returned){found.status, {found.count, found.length, 0}};
 }

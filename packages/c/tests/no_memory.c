@@ -31,7 +31,7 @@ static void sparing(void) {
     ASKS_NOT(mds_run_inline_html(OF("<!a>"), NULL, 0, NULL, 0).status, MDS_OK);
     ASKS_NOT(mds_run_inline_html(OF("<!a>"), (const size_t[]){1, 2}, 2, NULL, 0).status, MDS_NO_OPENER);
     ASKS_NOT(mds_scan_inlines(OF("\xff"), NULL, 0, 0, NULL, 0).status, MDS_NOT_UTF8);
-    ASKS_NOT(mds_scan_inlines(OF("a"), NULL, 0, 4, NULL, 0).status, MDS_BAD_KIND);
+    ASKS_NOT(mds_scan_inlines(OF("a"), NULL, 0, 1, NULL, 0).status, MDS_BAD_KIND);
     ASKS_NOT(mds_scan_inlines(OF("a"), (const struct mds_view[]){{"b", 1}, {"\xff", 1}}, 2, 0, NULL, 0).status, MDS_NOT_UTF8);
     ASKS_NOT(mds_html_unsafe(OF("\xff"), 0, NULL, 0).status, MDS_NOT_UTF8), ASKS_NOT(mds_html_unsafe(OF("a"), 1, NULL, 0).status, MDS_BAD_KIND);
     ASKS_NOT(mds_events(OF("\xff"), 0, NULL, 0, NULL, 0).status, MDS_NOT_UTF8);
@@ -40,11 +40,13 @@ static void sparing(void) {
     ASKS_NOT(mds_html(OF("a"), 1, (const struct mds_view[]){{"b", 1}}, 1, NULL, 0).status, MDS_BAD_KIND);
     ASKS_NOT(mds_html(OF("a"), 0, (const struct mds_view[]){{"b", 1}, {"\xff", 1}}, 2, NULL, 0).status, MDS_NOT_UTF8);
     const struct mds_block leaf = {.kind = MDS_BLOCK_PARAGRAPH, .start = 1, .bytes = 2}, end = {.kind = MDS_BLOCK_END};
-    ASKS_NOT(mds_scan_blocks(OF(""), NULL, 0).status, MDS_OK);
-    struct mds_open_blocks open = {0, 0, 0};
+    ASKS_NOT(mds_scan_blocks(OF(""), 0, NULL, 0).status, MDS_OK);
+    ASKS_NOT(mds_scan_blocks(OF("a"), 1, NULL, 0).status, MDS_BAD_KIND), ASKS_NOT(mds_scan_lists(OF("- a"), 1, NULL, 0).status, MDS_BAD_KIND);
+    struct mds_open_blocks open = {0, 0, 0}, other = {0, 1, 0};
     struct mds_block block;
     ASKS_NOT(mds_block_line(OF("# a\nb\n"), false, NULL, 0, &open, &block).status, MDS_OK);
     ASKS_NOT(mds_block_line(OF("> a"), false, NULL, 0, &open, &block).status, MDS_NOTHING);
+    ASKS_NOT(mds_block_line(OF("> a\n"), true, NULL, 0, &other, &block).status, MDS_BAD_KIND);
     ASKS_NOT(mds_block_content(OF("\na\n"), &leaf, NULL, 0, 0, writable(BUFFER, 1), 1).status, MDS_OK);
     ASKS_NOT(mds_block_content(OF("\na\n"), &leaf, &end, 1, 0, writable(BUFFER, 1), 1).status, MDS_BAD_KIND);
     ASKS_NOT(mds_block_content(OF("\na\n"), &end, NULL, 0, 0, writable(BUFFER, 1), 1).status, MDS_BAD_KIND);

@@ -133,17 +133,21 @@ uint32_t status_of(const char *name) {
     return MDS_OK;
 }
 
-uint32_t options_of(const char *words) {
-    static const char *const names[] = {"tables", "strikethrough", "tasks", "wikilinks", "scheme"};
-    static const uint32_t options[] = {MDS_OPTION_TABLES, MDS_OPTION_STRIKETHROUGH, MDS_OPTION_TASKS, MDS_OPTION_WIKILINKS, 0};
+uint32_t extension_of(const char *words) {
+    static const char *const names[] = {"tables", "footnotes", "strikethrough", "tasks", "definition-lists", "wikilinks"};
+    static const uint32_t bits[] = {MDS_TABLES, MDS_FOOTNOTES, MDS_STRIKETHROUGH, MDS_TASKS, MDS_DEFINITION_LISTS, MDS_WIKILINKS};
+    for (size_t i = 0; i < sizeof(names) / sizeof(*names); i++)
+        if (is_word(words, names[i]))
+            return bits[i];
+    return 0;
+}
+
+uint32_t extensions_of(const char *words) {
     uint32_t asked = 0;
     for (const char *word = *words ? words : NULL; word; word = after(word, ' ')) {
-        size_t i = 0;
-        while (i < sizeof(names) / sizeof(*names) && !is_word(word, names[i]))
-            i++;
-        if (i == sizeof(names) / sizeof(*names))
+        if (!extension_of(word) && !is_word(word, "scheme"))
             stop_at_row("there is no such extension");
-        asked |= options[i];
+        asked |= extension_of(word);
     }
     return asked;
 }

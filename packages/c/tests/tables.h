@@ -41,8 +41,17 @@ const char *field_of(const char *answer, const char *name);
 /* The status of that name. */
 uint32_t status_of(const char *name);
 
-/* The options of a page that these words ask for; a scheme is not one. */
-uint32_t options_of(const char *words);
+/* The extensions of packages/extensions.tsv. */
+enum { EVERY_EXTENSION = MDS_TABLES | MDS_FOOTNOTES | MDS_STRIKETHROUGH | MDS_TASKS | MDS_DEFINITION_LISTS | MDS_WIKILINKS };
+
+/* Those that events and HTML are built of. */
+enum { EVERY_BUILT = MDS_TABLES | MDS_STRIKETHROUGH | MDS_TASKS | MDS_WIKILINKS };
+
+/* The extension that the word in front names, or 0. */
+uint32_t extension_of(const char *words);
+
+/* The extensions that these words ask for; a scheme is not one. */
+uint32_t extensions_of(const char *words);
 
 /* ---- What a call answers, as the tables have it ---- */
 

@@ -4,7 +4,7 @@ use Rattle.markdown_scanners_c.specs.Pages.{event_returned}
 use Rattle.markdown_scanners_c.proofs.pages.returned_blocks.Goals as goal
 
 pub loop-blocks-init : goal.loop-blocks-init
-loop-blocks-init c = λ later g. (later, c.new-blocks.ensures.page later g, rw c.new-returned.ensures.items refl)
+loop-blocks-init c = λ later g. (later, c.new_ext-blocks.ensures.page later g, rw c.new-returned.ensures.items refl)
 
 pub loop-blocks-preserved : goal.loop-blocks-preserved
 loop-blocks-preserved c = λ later g.
