@@ -7,7 +7,7 @@ ghost use Rattle.page_blocks.specs.printer.Printers.{printed_of};
 use crate::page::Printing;
 use crate::words::Form;
 use markdown_blocks::byte_order_mark::{BYTE_ORDER_MARK, text_start};
-use markdown_blocks::containers::BlockExtensions;
+use markdown_values::values::Extensions;
 use std::alloc::{AllocError, Global};
 
 /// How far a page is printed, which may begin with a byte order mark.
@@ -20,7 +20,7 @@ pub(crate) struct PagePrinting {
 
 impl PagePrinting {
     /// Nothing is printed of a page.
-    pub(crate) fn new(alloc: Global, form: Form, extensions: BlockExtensions) -> PagePrinting
+    pub(crate) fn new(alloc: Global, form: Form, extensions: Extensions) -> PagePrinting
         ensures printed { (page : List ℕ) → HasPrintedPage page [] result page }
         ensures form { result.text.printer.form ≡ form }
         ensures asked { result.text.walk.extensions ≡ extensions }

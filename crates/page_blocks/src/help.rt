@@ -2,7 +2,7 @@
 
 /// What is written on standard error after the name of an option that is not known.
 pub const USAGE: &str = "
-usage: fillaqut blocks [--json] [--footnotes] [--definition-lists] [--] [FILE ..]
+usage: fillaqut blocks [--json] [-e NAME].. [--gfm] [--] [FILE ..]
        fillaqut blocks -h | --help | --version
 ";
 
@@ -11,7 +11,7 @@ pub const VERSION: &str = "fillaqut 0.1.0\n";
 
 /// What `--help` prints.
 pub const HELP: &str = "\
-usage: fillaqut blocks [--json] [--footnotes] [--definition-lists] [--] [FILE ..]
+usage: fillaqut blocks [--json] [-e NAME].. [--gfm] [--] [FILE ..]
        fillaqut blocks -h | --help | --version
 
 Prints a line for each block of a page of Markdown: the number of its first line, the number of
@@ -30,20 +30,20 @@ list has a line where it is shown to have ended: before the lines of what shows 
                    quotation mark, a backslash or not printable ASCII is printed as \\u00 and two
                    hexadecimal digits
   html NUMBER      an HTML block, by the number of its start condition
-  table COLUMNS    a table of GitHub Flavored Markdown
+  table COLUMNS    a table, where -e tables asks for them
   definition       a link reference definition
   paragraph        a paragraph, with its lazy continuation lines
   quote            a block quote
   item C START     a list item: its bullet or delimiter, and the number that it starts at
-  footnote         a footnote definition, where --footnotes asks for them
-  term_definition  a definition of the term before it, where --definition-lists asks for them
+  footnote         a footnote definition, where -e footnotes asks for them
+  term_definition  a definition of the term before it, where -e definition-lists asks for them
   list C START tight
   list C START loose
                    a list: the bullet or delimiter of its items, the number that it starts at, and
                    whether it is tight or loose; its last line is that of its last block
 
 FILE is a page; - is standard input, and so is no FILE. The lines of the pages follow one another,
-and the lines of each page are counted from 1. Behind the word -- all words are files.
+and the lines of each page are counted from 1. After the word -- all words are files.
 
 With --json each line is an object. Its members are first, last, depth and kind, as above; of blocks
 and containers offset, how many bytes of the page stand before the first line, and column, the byte
@@ -61,23 +61,34 @@ Where a container ends there is an object of the kind end: last is its last line
 containers are around it, and end how many bytes of the page stand before what follows it. Where two
 or more files are named, an object of one member, page, has the name of each before its other ones.
 
-With --footnotes a line that begins with [^, a label and ]: begins a footnote definition, as on
-GitHub: a container of what follows on that line, and of the lines that are indented by four columns.
+  -e NAME             reads pages with an extension, which is one of
 
-With --definition-lists a paragraph is a term where a line that begins with : follows it, at once or
-after one blank line. That line begins a definition of it: a container of what follows on that line,
-and of the lines that are indented as that is. Further definitions of the term may follow.
+    tables            tables of GitHub Flavored Markdown
+    footnotes         a line that begins with [^, a label and ]: begins a footnote definition, as on
+                      GitHub: a container of what follows on that line, and of the lines that are
+                      indented by four columns
+    strikethrough     is taken, and changes no block
+    tasks             is taken, and changes no block
+    definition-lists  a paragraph is a term where a line that begins with : follows it, at once or
+                      after one blank line. That line begins a definition of it: a container of
+                      what follows on that line, and of the lines that are indented as that is.
+                      Further definitions of the term may follow
+    wikilinks         is taken, and changes no block
+
+  --gfm               the same as -e tables -e strikethrough -e tasks
+
+An option and its value may be one word, as -etables.
 
 Together the blocks contain every line of the page.
 
-A table may begin with a later line of a paragraph, which then ends before it: with a header row that
-stands in the containers of the paragraph, after at most three columns of space, and that would begin
-a paragraph without the lines before it.
+A table may begin with a later line of a paragraph, which then ends before it: with a header row
+that stands in the containers of the paragraph, after at most three columns of space, and that would
+begin a paragraph without the lines before it.
 
 Lines are printed while a page is read, and its bytes need not be UTF-8. Where a page can't be read
-or memory is refused, the program says why on standard error and goes on with the next page; the lines
-of the first blocks of that page may be printed. Where the output can't be written it stops, and says
-why unless the reader of the output has left.
+or memory is refused, the program says why on standard error and goes on with the next page; the
+lines of the first blocks of that page may be printed. Where the output can't be written it stops,
+and says why unless the reader of the output has left.
 
 In a name on standard error a tab, a line feed and a carriage return are \\t, \\n and \\r, and another
 control character is \\u{CODE} with its code in hexadecimal digits.

@@ -12,11 +12,11 @@ ghost use Rattle.page_blocks.specs.printer.Printers.{printed_of};
 
 use crate::printer::Printer;
 use crate::words::Form;
-use markdown_blocks::containers::BlockExtensions;
 use markdown_blocks::events::BlockEvents;
 use markdown_blocks::taken::Taken;
 use markdown_blocks::walk::Walk;
 use markdown_blocks::whole::whole_lines;
+use markdown_values::values::Extensions;
 use std::alloc::{AllocError, Global};
 
 /// How far a page is printed: the open containers, the content of a block that may begin with a link
@@ -30,7 +30,7 @@ pub(crate) struct Printing {
 
 impl Printing {
     /// Nothing is printed of a page.
-    pub(crate) fn new(alloc: Global, form: Form, extensions: BlockExtensions) -> Printing
+    pub(crate) fn new(alloc: Global, form: Form, extensions: Extensions) -> Printing
         ensures form { result.printer.form ≡ form }
         ensures walk { result.walk ≡ root extensions }
         ensures at { printed_of result.printer ≡ front_of 0 }

@@ -14,13 +14,15 @@ ghost use Rattle.page_programs.specs.declared.came.Came.{Came};
 ghost use Rattle.page_programs.specs.declared.stops.Stop.{Stop};
 ghost use Rattle.page_programs.specs.declared.words.Request.TheVariants.{Pages, Help, Version};
 ghost use Rattle.page_blocks.specs.page.Printed.{IsPrintedTo, IsBegunTo, no_page_is_refused, title_of};
-ghost use Rattle.page_blocks.specs.words.Words.{extensions_of, form_of, own_options};
+ghost use Rattle.page_programs.specs.Extensions.{extensions_of};
+ghost use Rattle.page_blocks.specs.words.Words.{form_of, own_options};
 
 use crate::beginning::PagePrinting;
 use crate::help::{HELP, USAGE, VERSION};
 use crate::printing::make_title;
-use crate::words::{Form, extensions_of, form_of};
-use markdown_blocks::containers::BlockExtensions;
+use crate::words::{Form, form_of};
+use markdown_values::values::Extensions;
+use page_programs::extensions::extensions_of;
 use page_programs::files::OpensFiles;
 use page_programs::pages::PrintsPages;
 use page_programs::program;
@@ -100,7 +102,16 @@ pub fn run_program<R: StepReader, F: OpensFiles, W: StepWriter, V: StepWriter>(
     program::run_program(
         alloc,
         &says,
-        &["--json", "--footnotes", "--definition-lists"],
+        &[
+            "--json",
+            "-e footnotes",
+            "-e definition-lists",
+            "-e tables",
+            "-e strikethrough",
+            "-e tasks",
+            "-e wikilinks",
+            "--gfm",
+        ],
         &blocks,
         words,
         input,
@@ -114,7 +125,7 @@ pub fn run_program<R: StepReader, F: OpensFiles, W: StepWriter, V: StepWriter>(
 #[derive(Drop)]
 struct Blocks {
     form: Form,
-    extensions: BlockExtensions,
+    extensions: Extensions,
 }
 
 impl PrintsPages for Blocks {
@@ -146,7 +157,7 @@ impl PrintsPages for Blocks {
 // Writes the title, and the lines of the blocks and lists of the input, in this form.
 fn print_page<R: StepReader, W: StepWriter>(
     alloc: Global,
-    extensions: BlockExtensions,
+    extensions: Extensions,
     form: Form,
     title: &str,
     input: &mut R,

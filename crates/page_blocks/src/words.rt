@@ -1,8 +1,7 @@
 //! The words of the command line.
 ghost use Rattle.std.specs.Prelude.{◌≡◌};
-ghost use Rattle.page_blocks.specs.words.Words.{extensions_of, form_of};
+ghost use Rattle.page_blocks.specs.words.Words.{form_of};
 
-use markdown_blocks::containers::BlockExtensions;
 use page_programs::words::has_option;
 
 /// How a block is printed.
@@ -22,15 +21,4 @@ pub(crate) fn form_of(words: &[&str]) -> Form
         return Form::Json;
     }
     Form::Words
-}
-
-/// The extensions that the words ask for.
-pub(crate) fn extensions_of(words: &[&str]) -> BlockExtensions
-    ensures { result ≡ extensions_of words.now }
-{
-    BlockExtensions {
-        footnotes: has_option(words, "--footnotes"),
-        definition_lists: has_option(words, "--definition-lists"),
-        no_tables: false,
-    }
 }

@@ -1,4 +1,3 @@
 pub mod json
 pub mod page
 pub mod printing
-pub mod words

@@ -39,8 +39,8 @@ An element is one of
   html block       an HTML block
   list             a list; if it is ordered its start has the number of the first item after it
   item             a list item
-  table            a table of GitHub Flavored Markdown, where -e tables asks for it; its start has the
-                   alignment of each column after it: none, left, center or right
+  table            a table of GitHub Flavored Markdown, where -e tables asks for it; its start has
+                   the alignment of each column after it: none, left, center or right
   table head       the header row of a table; what it holds are cells
   table row        another row
   table cell       a cell
@@ -72,9 +72,9 @@ and the bytes of each page are counted from its front. After the word -- all wor
 
 A page is read whole before its lines are printed. Of one that is not UTF-8 nothing is printed, and
 standard error has its name and how many bytes stand before the first that is wrong. Where a page
-can't be read, is not UTF-8, or memory is refused, the program says why on standard error and goes on
-with the next page. Where the output can't be written it stops, and says why unless the reader of the
-output has left.
+can't be read, is not UTF-8, or memory is refused, the program says why on standard error and goes
+on with the next page. Where the output can't be written it stops, and says why unless the reader of
+the output has left.
 
 In a name on standard error a tab, a line feed and a carriage return are \\t, \\n and \\r, and another
 control character is \\u{CODE} with its code in hexadecimal digits.

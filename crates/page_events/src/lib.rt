@@ -7,4 +7,3 @@ pub mod json;
 pub mod page;
 mod printing;
 pub mod program;
-pub mod words;

@@ -5,8 +5,8 @@ ghost use Rattle.page_events.specs.page.Printed.{AreEventLines, line_in};
 
 use crate::json::push_event_json;
 use crate::printing::push_event;
-use markdown_events::event_reader::{EventReader, PageSetting};
-use markdown_values::values::Event;
+use markdown_events::event_reader::EventReader;
+use markdown_values::values::{Event, Extensions};
 use std::alloc::{AllocError, Global};
 use std::ops::Range;
 
@@ -29,7 +29,7 @@ pub enum EventForm {
 pub fn lines_of_page(
     alloc: Global,
     page: &str,
-    setting: PageSetting,
+    setting: Extensions,
     form: EventForm,
 ) -> Result<String, AllocError>
     ensures { IfOk result (λ text. AreEventLines form setting page.now (string_bytes text)) }

@@ -14,12 +14,12 @@ ghost use Rattle.page_programs.specs.declared.came.Came.{Came};
 ghost use Rattle.page_programs.specs.declared.stops.Stop.{Stop};
 ghost use Rattle.page_programs.specs.declared.words.Request.TheVariants.{Pages, Help, Version};
 ghost use Rattle.page_events.specs.page.Printed.{IsPrintedTo};
-ghost use Rattle.page_events.specs.words.Words.{extension_options, setting_of};
+ghost use Rattle.page_programs.specs.Extensions.{event_options, extensions_of};
 
 use crate::help::{HELP, USAGE, VERSION};
 use crate::page::{EventForm, lines_of_page};
-use crate::words::setting_of;
-use markdown_events::event_reader::PageSetting;
+use markdown_values::values::Extensions;
+use page_programs::extensions::extensions_of;
 use page_programs::files::OpensFiles;
 use page_programs::program;
 use page_programs::says::Says;
@@ -45,11 +45,11 @@ pub fn run_program<R: StepReader, F: OpensFiles, W: StepWriter, V: StepWriter>(
     ensures status { (result ≡ 0) ⊎ ((result ≡ 2) ⊎ (result ≡ 3)) }
 
     // An option that is not known.
-    ensures only_unknown { result ≡ 2 → IsSome (unknown_of extension_options words.now) }
-    ensures unknown { IfSome (unknown_of extension_options words.now) (λ word. (result ≡ 2)
+    ensures only_unknown { result ≡ 2 → IsSome (unknown_of event_options words.now) }
+    ensures unknown { IfSome (unknown_of event_options words.now) (λ word. (result ≡ 2)
         × AreGiven V.writes faults.old
         (unknown_parts (codes "fillaqut") word.now USAGE.now) faults.new) }
-    ensures untouched { IsSome (unknown_of extension_options words.now) →
+    ensures untouched { IsSome (unknown_of event_options words.now) →
         (input.new ≡ input.old) × (files.new ≡ files.old) × (output.new ≡ output.old) }
 
     // The help, and the version.
@@ -73,7 +73,7 @@ pub fn run_program<R: StepReader, F: OpensFiles, W: StepWriter, V: StepWriter>(
     ensures printed { result ≢ 2 → request_of words.now ≡ Pages →
         (came : Came) × (result ≡ status_of came)
         × PrintsAll no_title
-        (IsPrintedTo (setting_of words.now))
+        (IsPrintedTo (extensions_of words.now))
         is_unwritten (IsRefused false)
         R.remaining R.reads F.opens F.File.remaining F.File.reads
         W.contents W.writes V.writes (codes "fillaqut") (pages_of words.now)
@@ -91,7 +91,7 @@ pub fn run_program<R: StepReader, F: OpensFiles, W: StepWriter, V: StepWriter>(
     };
     let events = Whole {
         printer: Events {
-            setting: setting_of(words),
+            setting: extensions_of(words),
         },
     };
     program::run_program(
@@ -116,7 +116,7 @@ pub fn run_program<R: StepReader, F: OpensFiles, W: StepWriter, V: StepWriter>(
 // What prints the events of pages, which are read in this way.
 #[derive(Drop)]
 struct Events {
-    setting: PageSetting,
+    setting: Extensions,
 }
 
 impl PrintsWholePages for Events {

@@ -2,8 +2,8 @@
 ghost use Rattle.std.specs.Prelude.{◌≡◌};
 ghost use Rattle.page_html.specs.asked.Asked.{asked_of, form_of, is_html};
 
-use markdown_events::event_reader::PageSetting;
-use page_events::words::setting_of;
+use markdown_values::values::Extensions;
+use page_programs::extensions::extensions_of;
 use page_programs::words::has_option;
 
 /// What is printed of a page.
@@ -28,7 +28,7 @@ pub struct Asked {
     /// Whether a page that is not UTF-8 is refused in this form too.
     pub strict: bool,
     /// With what it is read.
-    pub setting: PageSetting,
+    pub setting: Extensions,
 }
 
 /// What the words ask for.
@@ -39,7 +39,7 @@ pub(crate) fn asked_of(words: &[&str]) -> Asked
         form: form_of(words),
         safe: !has_option(words, "--unsafe"),
         strict: has_option(words, "--strict"),
-        setting: setting_of(words),
+        setting: extensions_of(words),
     }
 }
 

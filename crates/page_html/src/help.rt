@@ -19,14 +19,15 @@ for pages by people who are not trusted: raw HTML is written as text, links and 
 addresses of http, https, mailto and tel, and to relative ones, and any other address is left out;
 links say rel=\"nofollow noopener\".
 
-  --unsafe         for text of one's own: raw HTML is written as it stands, and links and images lead
-                   anywhere
-  --strict         prints nothing of a page that is not UTF-8; its HTML has U+FFFD otherwise in place
-                   of each part of the page that is wrong, as the decoder of the Encoding standard
+  --unsafe         for text of one's own: raw HTML is written as it stands, and links and images
+                   lead anywhere
+  --strict         prints nothing of a page that is not UTF-8; its HTML has U+FFFD otherwise in
+                   place of each part of the page that is wrong, as the decoder of the Encoding
+                   standard
   --to html        prints HTML, as where nothing is asked for
   --to events      prints the events of the page in place of HTML, as fillaqut events does
   --to json        prints them as JSON, an object a line
-  -e NAME          reads the page with an extension, which is one of
+  -e NAME          reads pages with an extension, which is one of
 
     tables         tables of GitHub Flavored Markdown
     strikethrough  text between tildes is struck through, as there

@@ -5,4 +5,3 @@ pub mod asked;
 pub mod help;
 pub mod page;
 pub mod program;
-mod settings;

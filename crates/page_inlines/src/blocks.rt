@@ -3,7 +3,7 @@ ghost use Rattle.std.specs.Prelude.{◌≡◌, ◌∷◌, ◌++◌, IfOk, List, 
 ghost use Rattle.std.specs.List.{flat_map};
 ghost use Rattle.markdown_blocks.specs.events.Events.{Event, seen_event, seen_leaf};
 ghost use Rattle.page_inlines.specs.blocks.BlockTexts.{HasPrinted, IsEventsText};
-ghost use Rattle.page_inlines.specs.labels.Labels.{labels_of};
+ghost use Rattle.page_inlines.specs.labels.Labels.{setting_of};
 ghost use Rattle.page_inlines.specs.page.Printed.{AreContentLines, IsLeafText};
 ghost use Rattle.page_inlines.specs.printing.Lines.{inline_line};
 
@@ -12,15 +12,16 @@ use crate::printing::{has_inlines, part_of, push_block_line, push_inline};
 use markdown_blocks::containers::Container;
 use markdown_blocks::content::{Content, content_of};
 use markdown_blocks::events::{BlockEvent, BlockEvents, Leaf};
-use markdown_inlines::extensions::InlineExtensions;
 use markdown_inlines::inlines::InlineFinder;
+use markdown_values::values::Extensions;
 use std::alloc::{AllocError, Global};
 use std::str::from_utf8;
 
-/// A page, and the labels that it defines.
+/// A page, the extensions that it is read with, and the labels that it defines.
 #[derive(Drop)]
 pub(crate) struct Page<'p> {
     pub(crate) bytes: &'p [u8],
+    pub(crate) asked: Extensions,
     pub(crate) labels: PageLabels<'p>,
 }
 
@@ -43,7 +44,7 @@ impl<'p> Page<'p> {
         content: &[u8],
         mut events: BlockEvents,
     ) -> Result<(), AllocError>
-        ensures { OnOk result (HasPrinted (labels_of self.now.labels.definitions) self.now.bytes.now
+        ensures { OnOk result (HasPrinted (setting_of self.now) self.now.bytes.now
             containers.now kept content.now events.entry
             (string_bytes out.old.text) (string_bytes out.new.text)) }
     {
@@ -67,9 +68,9 @@ impl<'p> Page<'p> {
         ensures { IfOk result (λ going_on. (here : List ℕ)
             × (string_bytes out.new.text ≡ string_bytes out.old.text ++ here)
             × ((later : List Event) (more : List ℕ)
-            → IsEventsText (labels_of self.now.labels.definitions) self.now.bytes.now
+            → IsEventsText (setting_of self.now) self.now.bytes.now
             containers.now going_on later more
-            → IsEventsText (labels_of self.now.labels.definitions) self.now.bytes.now
+            → IsEventsText (setting_of self.now) self.now.bytes.now
             containers.now kept (seen_event event.entry ∷ later) (here ++ more))) }
     {
         match event {
@@ -93,7 +94,7 @@ impl<'p> Page<'p> {
         leaf: Leaf,
     ) -> Result<(), AllocError>
         ensures { OnOk result ((here : List ℕ)
-            × IsLeafText (labels_of self.now.labels.definitions) self.now.bytes.now
+            × IsLeafText (setting_of self.now) self.now.bytes.now
             containers.now kept (seen_leaf leaf.entry) here
             × (string_bytes out.new.text ≡ string_bytes out.old.text ++ here)) }
     {
@@ -116,13 +117,12 @@ impl<'p> Page<'p> {
     ) -> Result<(), AllocError>
         requires { length content.now.places ≡ length content.now.text }
         ensures { OnOk result ((lines : List ℕ)
-            × AreContentLines (labels_of self.now.labels.definitions) start content.now lines
+            × AreContentLines (setting_of self.now) start content.now lines
             × (string_bytes out.new.text ≡ string_bytes out.old.text ++ lines)) }
     {
         match from_utf8(content.text()) {
             Ok(words) => {
-                let asked = InlineExtensions::none();
-                out.finder.find(alloc, words, &self.labels, asked)?;
+                out.finder.find(alloc, words, &self.labels, self.asked)?;
                 push_inlines(&mut out.text, start, content, &out.finder)
             }
             Err(_) => out.text.push_str("  not UTF-8\n"),

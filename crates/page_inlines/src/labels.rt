@@ -5,6 +5,7 @@ ghost use Rattle.page_inlines.specs.page.Printed.{AreLabelsOf};
 
 use markdown_blocks::link_definitions::LinkDefinitions;
 use markdown_inlines::links::Labels;
+use markdown_values::values::Extensions;
 use std::alloc::{AllocError, Global};
 
 /// The labels that a page defines. Memory is asked for by the case foldings of long ones that are looked up.
@@ -24,11 +25,16 @@ impl<'a> Labels for PageLabels<'a> {
 }
 
 impl<'a> PageLabels<'a> {
-    /// Those of a page.
-    pub(crate) fn of_page(alloc: Global, page: &'a [u8]) -> Result<PageLabels<'a>, AllocError>
-        ensures { IfOk result (λ labels. AreLabelsOf page.now (labels_of labels.definitions)) }
+    /// Those of a page that is read with these extensions.
+    pub(crate) fn of_page(
+        alloc: Global,
+        page: &'a [u8],
+        asked: Extensions,
+    ) -> Result<PageLabels<'a>, AllocError>
+        ensures { IfOk result (λ labels.
+            AreLabelsOf asked page.now (labels_of labels.definitions)) }
     {
-        let definitions = LinkDefinitions::of_page(alloc, page)?;
+        let definitions = LinkDefinitions::of_page_ext(alloc, page, asked)?;
         Ok(PageLabels { definitions })
     }
 }

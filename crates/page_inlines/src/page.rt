@@ -9,28 +9,30 @@ use markdown_blocks::events::BlockEvents;
 use markdown_blocks::taken::Taken;
 use markdown_blocks::walk::Walk;
 use markdown_inlines::inlines::InlineFinder;
+use markdown_values::values::Extensions;
 use std::alloc::{AllocError, Global};
 
-/// The lines that are printed of a page: for each block that has inlines its own, and then one for
-/// each of its inlines, as `HELP` has them.
+/// The lines that are printed of a page that is read with these extensions: for each block that has
+/// inlines its own, and then one for each of its inlines, as `HELP` has them.
 ///
 /// Memory is asked for by these lines, and as by `content_of` and `InlineFinder::find`.
 ///
 /// # Errors
 ///
 /// `AllocError` where memory is refused.
-pub fn lines_of_page(alloc: Global, page: &[u8]) -> Result<String, AllocError>
-    ensures { IfOk result (λ text. IsPrinted page.now (string_bytes text)) }
+pub fn lines_of_page(alloc: Global, page: &[u8], asked: Extensions) -> Result<String, AllocError>
+    ensures { IfOk result (λ text. IsPrinted asked page.now (string_bytes text)) }
 {
     let printed = Page {
         bytes: page,
-        labels: PageLabels::of_page(alloc, page)?,
+        asked,
+        labels: PageLabels::of_page(alloc, page, asked)?,
     };
     let mut out = Output {
         text: String::new(alloc),
         finder: InlineFinder::new(alloc),
     };
-    let mut walk = Walk::new(alloc);
+    let mut walk = Walk::new_ext(alloc, asked);
     let mut content = Vec::new(alloc);
     let mut lines = 0;
     let mut bytes = text_start(page);

@@ -5,6 +5,7 @@ ghost use Rattle.program_faults.specs.Faults.{AppendsPrefix};
 ghost use Rattle.program_faults.specs.Steps.{AreGiven, CantWrite};
 ghost use Rattle.program_faults.specs.declared.reasons.Reason.{Reason};
 ghost use Rattle.page_programs.specs.Came.{status_of};
+ghost use Rattle.page_programs.specs.Extensions.{extension_options, extensions_of};
 ghost use Rattle.page_programs.specs.Runs.{PrintsAll};
 ghost use Rattle.page_programs.specs.Stops.{stop_parts, unknown_parts};
 ghost use Rattle.page_programs.specs.Texts.{IsRefused, is_unwritten, no_title};
@@ -17,6 +18,8 @@ ghost use Rattle.page_inlines.specs.page.Printed.{IsPrintedTo};
 
 use crate::help::{HELP, USAGE, VERSION};
 use crate::page::lines_of_page;
+use markdown_values::values::Extensions;
+use page_programs::extensions::extensions_of;
 use page_programs::files::OpensFiles;
 use page_programs::program;
 use page_programs::says::Says;
@@ -42,11 +45,11 @@ pub fn run_program<R: StepReader, F: OpensFiles, W: StepWriter, V: StepWriter>(
     ensures status { (result ≡ 0) ⊎ ((result ≡ 2) ⊎ (result ≡ 3)) }
 
     // An option that is not known.
-    ensures only_unknown { result ≡ 2 → IsSome (unknown_of [] words.now) }
-    ensures unknown { IfSome (unknown_of [] words.now) (λ word. (result ≡ 2)
+    ensures only_unknown { result ≡ 2 → IsSome (unknown_of extension_options words.now) }
+    ensures unknown { IfSome (unknown_of extension_options words.now) (λ word. (result ≡ 2)
         × AreGiven V.writes faults.old
         (unknown_parts (codes "fillaqut") word.now USAGE.now) faults.new) }
-    ensures untouched { IsSome (unknown_of [] words.now) →
+    ensures untouched { IsSome (unknown_of extension_options words.now) →
         (input.new ≡ input.old) × (files.new ≡ files.old) × (output.new ≡ output.old) }
 
     // The help, and the version.
@@ -70,7 +73,7 @@ pub fn run_program<R: StepReader, F: OpensFiles, W: StepWriter, V: StepWriter>(
     ensures printed { result ≢ 2 → request_of words.now ≡ Pages →
         (came : Came) × (result ≡ status_of came)
         × PrintsAll no_title
-        IsPrintedTo
+        (IsPrintedTo (extensions_of words.now))
         is_unwritten (IsRefused false)
         R.remaining R.reads F.opens F.File.remaining F.File.reads
         W.contents W.writes V.writes (codes "fillaqut") (pages_of words.now)
@@ -86,11 +89,23 @@ pub fn run_program<R: StepReader, F: OpensFiles, W: StepWriter, V: StepWriter>(
         help: HELP,
         version: VERSION,
     };
-    let inlines = Whole { printer: Inlines };
+    let inlines = Whole {
+        printer: Inlines {
+            asked: extensions_of(words),
+        },
+    };
     program::run_program(
         alloc,
         &says,
-        &[],
+        &[
+            "-e footnotes",
+            "-e definition-lists",
+            "-e tables",
+            "-e strikethrough",
+            "-e tasks",
+            "-e wikilinks",
+            "--gfm",
+        ],
         &inlines,
         words,
         input,
@@ -100,9 +115,11 @@ pub fn run_program<R: StepReader, F: OpensFiles, W: StepWriter, V: StepWriter>(
     )
 }
 
-// What prints the inlines of pages.
+// What prints the inlines of pages that are read with these extensions.
 #[derive(Drop)]
-struct Inlines;
+struct Inlines {
+    asked: Extensions,
+}
 
 impl PrintsWholePages for Inlines {
     ghost use Rattle.std.specs.Prelude.{[], false};
@@ -112,7 +129,7 @@ impl PrintsWholePages for Inlines {
 
     ghost mends = { λ _. false };
 
-    ghost is_printed = { λ _. IsPrinted };
+    ghost is_printed = { λ it. IsPrinted it.asked };
 
     fn make_heading(
         &self,
@@ -128,6 +145,6 @@ impl PrintsWholePages for Inlines {
     }
 
     fn text_of_page(&self, alloc: Global, page: &str) -> Result<String, AllocError> {
-        lines_of_page(alloc, page.as_bytes())
+        lines_of_page(alloc, page.as_bytes(), self.asked)
     }
 }

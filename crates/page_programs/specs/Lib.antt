@@ -1,5 +1,6 @@
 pub mod Came
 pub mod Cuts
+pub mod Extensions
 pub mod Names
 pub mod Runs
 pub mod Stops

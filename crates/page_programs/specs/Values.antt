@@ -13,8 +13,10 @@ spelled word =
     else if bytes_eq word (codes "--to=events") then codes "--to events"
     else if bytes_eq word (codes "--to=json") then codes "--to json"
     else if bytes_eq word (codes "-etables") then codes "-e tables"
+    else if bytes_eq word (codes "-efootnotes") then codes "-e footnotes"
     else if bytes_eq word (codes "-estrikethrough") then codes "-e strikethrough"
     else if bytes_eq word (codes "-etasks") then codes "-e tasks"
+    else if bytes_eq word (codes "-edefinition-lists") then codes "-e definition-lists"
     else if bytes_eq word (codes "-ewikilinks") then codes "-e wikilinks"
     else word
 

@@ -2,6 +2,7 @@
 #![tactic(auto)]
 
 pub mod came;
+pub mod extensions;
 pub mod files;
 pub mod names;
 pub mod pages;

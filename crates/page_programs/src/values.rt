@@ -77,8 +77,10 @@ fn spelled(word: &str) -> &str
         "--to=events" => "--to events",
         "--to=json" => "--to json",
         "-etables" => "-e tables",
+        "-efootnotes" => "-e footnotes",
         "-estrikethrough" => "-e strikethrough",
         "-etasks" => "-e tasks",
+        "-edefinition-lists" => "-e definition-lists",
         "-ewikilinks" => "-e wikilinks",
         _ => word,
     }

@@ -1,13 +1,14 @@
 -- The tables of a page and their rows, by its events. (GitHub Flavored Markdown 0.29, section 4.10, tables)
-use Rattle.std.specs.Prelude.{ℕ, true, false, ◌≡◌, List, [], ◌∷◌}
+use Rattle.std.specs.Prelude.{ℕ, true, ◌≡◌, List, [], ◌∷◌}
 use Rattle.std.specs.List.{flat_map}
 use Rattle.std.specs.declared.ops.Range.{Range}
 use Rattle.markdown_values.specs.declared.values.Alignment.{Alignment}
 use Rattle.markdown_values.specs.declared.values.tags.TagEnd.TheVariants as End
 use Rattle.markdown_values.specs.values.Events.{start, end}
 use Rattle.markdown_values.specs.values.Tags.{table, table_head, table_row}
+use Rattle.markdown_values.specs.declared.values.extensions.Extensions.{Extensions}
+use Rattle.markdown_values.specs.values.Extensions.{commonmark}
 use Rattle.markdown_events.specs.InlineEvents.{RangedEvent}
-use Rattle.markdown_events.specs.declared.settings.PageSetting.{PageSetting}
 use Rattle.markdown_events.specs.page.PageEvents.{ArePageEvents}
 use Rattle.page_tables.specs.declared.marks.Mark.{Mark}
 use Rattle.page_tables.specs.declared.marks.Mark.TheVariants as Marks
@@ -34,12 +35,8 @@ marks_of (end End.Table, range) = ends ∷ []
 marks_of event = []
 
 -- CommonMark with tables
-abbrev pub with_tables : PageSetting
-with_tables = record {
-  tables = true;
-  tasks = false;
-  inlines = record { strikethrough = false; wikilinks = false };
-}
+abbrev pub with_tables : Extensions
+with_tables = record commonmark { tables = true }
 
 -- these are the tables of the page
 pub record AreMarksOf (page : List ℕ) (marks : List MarkView) : Type 0 where

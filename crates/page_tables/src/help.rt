@@ -19,14 +19,13 @@ contents aligned as the delimiter row says, with a pipe on each side; short rows
 else of the page is changed.
 
 With --check nothing is printed but FILE:LINE:COLUMN of the head of each table that is not laid out,
-and of each row of more cells than its table has columns, or of none.
-With --write each file whose page changes is written over, and nothing is printed: its owner, its
-permissions and all else of it stay. While it is written a copy of what it held is beside it, in a
-file of the name .FILE.N.old, which is on the disk before and removed after: where the program is
-cut off, the copy has all of the old text, unless the file has all of the old or of the new. A file
-that has changed since it was read is left as it is, and so is one whose copy can't be made; where it
-can't be written the old text is written back. Standard input is printed then. With both options
-nothing is written.
+and of each row of more cells than its table has columns, or of none. With --write each file whose
+page changes is written over, and nothing is printed: its owner, its permissions and all else of it
+stay. While it is written a copy of what it held is beside it, in a file of the name .FILE.N.old,
+which is on the disk before and removed after: where the program is cut off, the copy has all of the
+old text, unless the file has all of the old or of the new. A file that has changed since it was
+read is left as it is, and so is one whose copy can't be made; where it can't be written the old
+text is written back. Standard input is printed then. With both options nothing is written.
 
 A table with such a row is left as it is; without --check standard error has FILE:LINE:COLUMN of the
 row. The tables of the page printed have the same cells in the same rows and columns, aligned alike,
@@ -39,8 +38,8 @@ another. After the word -- all words are files.
 
 A page is read whole before anything is done with it. Where a page can't be read, is not UTF-8,
 memory is refused or a file is not written over, the program says why on standard error and goes on
-with the next page. Where the output can't be written it stops, and says why unless the reader of the
-output has left.
+with the next page. Where the output can't be written it stops, and says why unless the reader of
+the output has left.
 
 In a name that is printed a tab, a line feed and a carriage return are \\t, \\n and \\r, and another
 control character is \\u{CODE} with its code in hexadecimal digits.

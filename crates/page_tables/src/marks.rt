@@ -3,8 +3,8 @@ ghost use Rattle.std.specs.Prelude.{◌≡◌, ◌++◌, List, IfOk, OnOk, map};
 ghost use Rattle.markdown_events.specs.InlineEvents.{seen_event};
 ghost use Rattle.page_tables.specs.Marks.{AreMarksOf, mark_view, marks_of, with_tables};
 
-use markdown_events::event_reader::{EventReader, PageSetting};
-use markdown_values::values::{Alignment, Event, Tag, TagEnd};
+use markdown_events::event_reader::EventReader;
+use markdown_values::values::{Alignment, Event, Extensions, Tag, TagEnd};
 use std::alloc::{AllocError, Global};
 use std::ops::Range;
 
@@ -38,12 +38,12 @@ pub fn marks_of_page(alloc: Global, page: &str) -> Result<Vec<Mark>, AllocError>
 }
 
 // CommonMark with tables.
-fn with_tables() -> PageSetting
+fn with_tables() -> Extensions
     ensures { result ≡ with_tables }
 {
-    PageSetting {
+    Extensions {
         tables: true,
-        ..PageSetting::commonmark()
+        ..Extensions::none()
     }
 }
 

@@ -7,7 +7,7 @@ use Rattle.std.proofs.lemmas.List.{drop-append-le, drop-drop, take-append-le}
 use Rattle.markdown_scanners_tree.specs.scanners.TextLines.{lines_of}
 use Rattle.markdown_blocks.proofs.ForCallers.{text_within}
 use Rattle.markdown_blocks.specs.byte_order_mark.ByteOrderMark.{byte_order_mark, text_of, text_start}
-use Rattle.markdown_blocks.specs.declared.containers.BlockExtensions.{BlockExtensions}
+use Rattle.markdown_values.specs.declared.values.extensions.Extensions.{Extensions}
 use Rattle.page_blocks.specs.declared.beginning.PagePrinting.{PagePrinting}
 use Rattle.page_blocks.specs.declared.page.Printing.{Printing}
 use Rattle.page_blocks.specs.declared.words.Form.{Form}
@@ -85,7 +85,7 @@ module _ (old : PagePrinting) (mid : Printing) (bytes : List ℕ) (start : ℕ) 
 -- ---- what is written of a page
 
 -- blocks at its front, or nothing
-pub page-printed : (asked : BlockExtensions) (form : Form) (page written longer : List ℕ) (printing : PagePrinting) (left : List ℕ)
+pub page-printed : (asked : Extensions) (form : Form) (page written longer : List ℕ) (printing : PagePrinting) (left : List ℕ)
     → printing.text.printer.form ≡ form → printing.text.walk.extensions ≡ asked → written ++ string_bytes printing.text.printer.text ≡ longer
     → HasPrintedPage page written printing left → PrintsFront asked form page longer
 page-printed asked form page written longer printing left in_form is_asked same has = by printing.has_begun has
@@ -105,7 +105,7 @@ page-printed asked form page written longer printing left in_form is_asked same 
     }
 
 -- those that are written, where no more are printed
-pub page-front : (asked : BlockExtensions) (form : Form) (page written : List ℕ) (printing : PagePrinting) (left : List ℕ)
+pub page-front : (asked : Extensions) (form : Form) (page written : List ℕ) (printing : PagePrinting) (left : List ℕ)
     → printing.text.printer.form ≡ form → printing.text.walk.extensions ≡ asked → string_bytes printing.text.printer.text ≡ []
     → HasPrintedPage page written printing left → PrintsFront asked form page written
 page-front asked form page written printing left in_form is_asked empty has =

@@ -9,7 +9,7 @@ use Rattle.markdown_scanners_tree.specs.declared.scanners.reference_definitions.
 use Rattle.markdown_scanners_tree.specs.line.State.{LineState}
 use Rattle.markdown_scanners_tree.specs.scanners.TextLines.{lines_of}
 use Rattle.markdown_blocks.specs.containers.Containers.{Between, behind, after_marker}
-use Rattle.markdown_blocks.specs.declared.containers.BlockExtensions.{BlockExtensions}
+use Rattle.markdown_values.specs.declared.values.extensions.Extensions.{Extensions}
 use Rattle.markdown_blocks.specs.declared.blocks.BlockKind.{BlockKind}
 use Rattle.markdown_blocks.specs.declared.blocks.BlockKind.TheVariants.{Definition}
 use Rattle.markdown_blocks.specs.declared.containers.Container.{Container}
@@ -204,7 +204,7 @@ printing-first form page p outer text front none empty later shown rest is each 
 }
 
 -- the text, in this form, prints blocks at the front of the page
-pub printing-front : (asked : BlockExtensions) (form other : Form) (page text words : List ℕ) (p : Printed) (outer : Between) (lines : List (List ℕ))
+pub printing-front : (asked : Extensions) (form other : Form) (page text words : List ℕ) (p : Printed) (outer : Between) (lines : List (List ℕ))
     → form ≡ other → outer.extensions ≡ asked → text ≡ words → GoesOnPrinting form page text p outer lines → PrintsFront asked other page words
 unfolding GoesOnPrinting
 printing-front asked form other page text words p outer lines same on is goes =

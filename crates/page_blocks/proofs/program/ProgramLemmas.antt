@@ -5,7 +5,7 @@ use Rattle.std.specs.Io.KnownBytes.{Consumes, Appends, IsAtEnd, append_known}
 use Rattle.markdown_scanners_tree.specs.scanners.TextLines.{lines_of}
 use Rattle.markdown_blocks.specs.blocks.Pages.{root}
 use Rattle.markdown_blocks.specs.byte_order_mark.ByteOrderMark.{text_of, text_start}
-use Rattle.markdown_blocks.specs.declared.containers.BlockExtensions.{BlockExtensions}
+use Rattle.markdown_values.specs.declared.values.extensions.Extensions.{Extensions}
 use Rattle.page_blocks.specs.declared.beginning.PagePrinting.{PagePrinting}
 use Rattle.page_blocks.specs.declared.words.Form.{Form}
 use Rattle.page_blocks.specs.page.Beginning.{HasPrintedPage, PrintsMore}
@@ -21,7 +21,7 @@ use Rattle.page_programs.proofs.ReadingLemmas.{consumes-none, consumes-more, app
 
 -- What was read, and what was written of it after the title: with the lines that are not yet written, it prints what was read as far
 -- as the text that is left.
-pub record Begun (asked : BlockExtensions) (form : Form) (title : List ℕ) (input left old new : Option (List ℕ)) (printing : PagePrinting)
+pub record Begun (asked : Extensions) (form : Form) (title : List ℕ) (input left old new : Option (List ℕ)) (printing : PagePrinting)
     (text : List ℕ) : Type 0 where
   pub read : List ℕ
   pub written : List ℕ
@@ -31,7 +31,7 @@ pub record Begun (asked : BlockExtensions) (form : Form) (title : List ℕ) (inp
   pub in_form : printing.text.printer.form ≡ form
   pub is_asked : printing.text.walk.extensions ≡ asked
 
-module _ (asked : BlockExtensions) (form : Form) (title : List ℕ) (input old : Option (List ℕ)) where
+module _ (asked : Extensions) (form : Form) (title : List ℕ) (input old : Option (List ℕ)) where
   pub begun-first : (new : Option (List ℕ)) (printing : PagePrinting) (text : List ℕ) → Appends old new title → text ≡ []
       → ((page : List ℕ) → HasPrintedPage page [] printing page) → printing.text.printer.form ≡ form → printing.text.walk.extensions ≡ asked
       → Begun asked form title input input old new printing text

@@ -3,7 +3,7 @@ use Rattle.std.specs.Prelude.{ℕ, ◌≡◌, List, [], ◌++◌, length, string
 use Rattle.markdown_blocks.specs.blocks.Pages.{Piece, AreBlocks, IsFront, lines_in}
 use Rattle.markdown_blocks.specs.byte_order_mark.ByteOrderMark.{text_of, text_start}
 use Rattle.markdown_blocks.specs.containers.Containers.{Between}
-use Rattle.markdown_blocks.specs.declared.containers.BlockExtensions.{BlockExtensions}
+use Rattle.markdown_values.specs.declared.values.extensions.Extensions.{Extensions}
 use Rattle.markdown_blocks.specs.events.Events.{open_after}
 use Rattle.markdown_blocks.specs.events.Shown.{AreShownOf, Shown}
 use Rattle.page_blocks.specs.declared.page.Printing.{Printing}
@@ -13,7 +13,7 @@ use Rattle.page_blocks.specs.printer.Printers.{printed_of}
 
 -- With these extensions on, the text has the lines of the events of blocks at the front of the page, and these lines follow them. So far the page is printed
 -- then, and so many containers are open.
-pub record IsPrinted (asked : BlockExtensions) (form : Form) (page text : List ℕ) (p : Printed) (depth : ℕ) (rest : List (List ℕ)) : Type 0 where
+pub record IsPrinted (asked : Extensions) (form : Form) (page text : List ℕ) (p : Printed) (depth : ℕ) (rest : List (List ℕ)) : Type 0 where
   pub pieces : List Piece
   pub shown : List Shown
   pub are_its_blocks : IsFront asked (text_of page) pieces rest

@@ -10,7 +10,7 @@ use Rattle.markdown_scanners_tree.specs.scanners.html_kinds.HtmlKinds.{condition
 use Rattle.markdown_blocks.specs.declared.blocks.BlockKind.{BlockKind}
 use Rattle.markdown_blocks.specs.declared.blocks.BlockKind.TheVariants.{Blank, Break, Heading, Setext, Indented}
 use Rattle.markdown_blocks.specs.declared.blocks.BlockKind.TheVariants.{Fenced, Html, Table, Definition, Paragraph}
-use Rattle.markdown_blocks.specs.declared.containers.BlockExtensions.{BlockExtensions}
+use Rattle.markdown_values.specs.declared.values.extensions.Extensions.{Extensions}
 use Rattle.markdown_blocks.specs.declared.containers.Container.{Container}
 use Rattle.markdown_blocks.specs.declared.containers.Container.TheVariants.{Quote, Item, Footnote, TermDefinition}
 use Rattle.markdown_blocks.specs.declared.lists.ListBlock.{ListBlock}
@@ -206,18 +206,18 @@ title_of Words pages name = []
 title_of Json pages name = if nat_lt 1 pages then page_json name ++ line_end Json else []
 
 -- With these extensions on, the text has the lines of the events of the page in this form, and of its lists. (chapter 3, and sections 4.7 and 5.3)
-pub record PrintsPage (asked : BlockExtensions) (form : Form) (input text : List ℕ) : Type 0 where
+pub record PrintsPage (asked : Extensions) (form : Form) (input text : List ℕ) : Type 0 where
   pub shown : List Shown
   pub are_its_events : IsShownOf asked input shown
   pub are_its_lists : AreListsOf asked input (lists_behind at_start (events_in shown))
   pub lines : text ≡ page_lines form (text_start input) shown
 
 -- known bytes grow by the title and by a text that has the lines of the page
-abbrev pub IsPrintedTo : BlockExtensions → Form → List ℕ → List ℕ → Option (List ℕ) → Option (List ℕ) → Type 0
+abbrev pub IsPrintedTo : Extensions → Form → List ℕ → List ℕ → Option (List ℕ) → Option (List ℕ) → Type 0
 IsPrintedTo asked form title input old new = (text : List ℕ) × PrintsPage asked form input text × Appends old new (title ++ text)
 
 -- with these extensions on, the text has the lines of the events of blocks at the front of the page
-pub record PrintsFront (asked : BlockExtensions) (form : Form) (input text : List ℕ) : Type 0 where
+pub record PrintsFront (asked : Extensions) (form : Form) (input text : List ℕ) : Type 0 where
   pub pieces : List Piece
   pub rest : List (List ℕ)
   pub shown : List Shown
@@ -227,7 +227,7 @@ pub record PrintsFront (asked : BlockExtensions) (form : Form) (input text : Lis
 
 -- Known bytes grow by the title and by a text that has the lines of blocks at the front of what was read of the input, whatever
 -- bytes follow that.
-abbrev pub IsBegunTo : BlockExtensions → Form → List ℕ → Option (List ℕ) → Option (List ℕ) → Option (List ℕ) → Option (List ℕ) → Type 0
+abbrev pub IsBegunTo : Extensions → Form → List ℕ → Option (List ℕ) → Option (List ℕ) → Option (List ℕ) → Option (List ℕ) → Type 0
 IsBegunTo asked form title input left old new =
     (read : List ℕ) × Consumes input left read
     × (text : List ℕ) × ((more : List ℕ) → PrintsFront asked form (read ++ more) text) × Appends old new (title ++ text)

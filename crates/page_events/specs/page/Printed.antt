@@ -3,7 +3,7 @@ use Rattle.std.specs.Prelude.{ℕ, false, ◌≡◌, List, Option}
 use Rattle.std.specs.List.{flat_map}
 use Rattle.std.specs.Str.{IsUtf8}
 use Rattle.markdown_events.specs.InlineEvents.{RangedEvent}
-use Rattle.markdown_events.specs.declared.settings.PageSetting.{PageSetting}
+use Rattle.markdown_values.specs.declared.values.extensions.Extensions.{Extensions}
 use Rattle.markdown_events.specs.page.PageEvents.{ArePageEvents}
 use Rattle.page_programs.specs.Texts.{PrintsText}
 use Rattle.page_events.specs.declared.page.EventForm.{EventForm}
@@ -17,12 +17,12 @@ line_in Words event = event_line event
 line_in Json event = event_json event
 
 -- The text is the lines of the page's events, which is read in this way.
-pub record AreEventLines (form : EventForm) (setting : PageSetting) (page text : List ℕ) : Type 0 where
+pub record AreEventLines (form : EventForm) (setting : Extensions) (page text : List ℕ) : Type 0 where
   pub events : List RangedEvent
   pub is_text : IsUtf8 page
   pub are_events : ArePageEvents page setting events
   pub are_lines : text ≡ flat_map (line_in form) events
 
 -- known bytes grow by the title, which is empty, and by what is printed of the page
-abbrev pub IsPrintedTo : PageSetting → List ℕ → List ℕ → Option (List ℕ) → Option (List ℕ) → Type 0
+abbrev pub IsPrintedTo : Extensions → List ℕ → List ℕ → Option (List ℕ) → Option (List ℕ) → Type 0
 IsPrintedTo setting = PrintsText false (AreEventLines Words setting)

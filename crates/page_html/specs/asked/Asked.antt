@@ -2,7 +2,7 @@
 use Rattle.std.specs.Prelude.{ℕ, Bool, true, false, not, List, ◌∷◌, codes, if◌then◌else◌}
 use Rattle.std.specs.Borrow.{Bor}
 use Rattle.page_programs.specs.Words.{asks}
-use Rattle.page_events.specs.words.Words.{extension_options, setting_of}
+use Rattle.page_programs.specs.Extensions.{event_options, extensions_of}
 use Rattle.page_html.specs.declared.asked.Asked.{Asked}
 use Rattle.page_html.specs.declared.asked.Form.{Form}
 use Rattle.page_html.specs.declared.asked.Form.TheVariants.{Html, Events, Json}
@@ -25,7 +25,7 @@ abbrev pub to_json : List ℕ
 to_json = codes "--to json"
 
 abbrev pub own_options : List (List ℕ)
-own_options = unsafe ∷ strict ∷ to_html ∷ to_events ∷ to_json ∷ extension_options
+own_options = unsafe ∷ strict ∷ to_html ∷ to_events ∷ to_json ∷ event_options
 
 -- ---- what they ask for
 
@@ -39,4 +39,4 @@ is_html Json = false
 
 abbrev pub asked_of : List (Bor (List ℕ)) → Asked
 asked_of words =
-    record { form = form_of words; safe = not (asks unsafe words); strict = asks strict words; setting = setting_of words }
+    record { form = form_of words; safe = not (asks unsafe words); strict = asks strict words; setting = extensions_of words }

@@ -12,7 +12,7 @@ use Rattle.markdown_blocks.specs.content.Parts.{Part}
 use Rattle.markdown_blocks.specs.declared.blocks.BlockKind.{BlockKind}
 use Rattle.markdown_blocks.specs.declared.containers.Container.{Container}
 use Rattle.markdown_blocks.specs.events.Events.{Event, leaf, ends, LeafBlock, started}
-use Rattle.markdown_inlines.specs.Links.{Known}
+use Rattle.markdown_inlines.specs.Inlines.{Setting}
 use Rattle.page_inlines.specs.blocks.BlockTexts.{IsEventsText}
 use Rattle.page_inlines.specs.page.Printed.{IsLeavesText}
 
@@ -48,26 +48,26 @@ content_places kind outer kept lines content is =
 
 -- ---- events
 
-module _ (known : Known) (page : List ℕ) (outer : List Container) where
-  of_leaves : (leaves : List LeafBlock) (kept : ℕ) (text : List ℕ) → IsEventsText known page outer kept (map leaf leaves) text
-      → IsLeavesText known page outer kept leaves text
+module _ (setting : Setting) (page : List ℕ) (outer : List Container) where
+  of_leaves : (leaves : List LeafBlock) (kept : ℕ) (text : List ℕ) → IsEventsText setting page outer kept (map leaf leaves) text
+      → IsLeavesText setting page outer kept leaves text
   of_leaves [] kept text is = is
   of_leaves (block ∷ later) kept text is = (is.0, is.1, is.2, of_leaves later (length outer) is.1 is.3, is.4)
 
   of_started : (cs : List Container) (start : ℕ) (s : LineState) (kept : ℕ) (later : List Event) (text : List ℕ)
-      → IsEventsText known page outer kept (started start s cs ++ later) text → IsEventsText known page outer kept later text
+      → IsEventsText setting page outer kept (started start s cs ++ later) text → IsEventsText setting page outer kept later text
   of_started [] start s kept later text is = is
   of_started (c ∷ cs) start s kept later text is = of_started cs start (after_marker s) kept later text is
 
-  of_ends : (count kept : ℕ) (later : List Event) (text : List ℕ) → IsEventsText known page outer kept (replicate count ends ++ later) text
-      → IsEventsText known page outer kept later text
+  of_ends : (count kept : ℕ) (later : List Event) (text : List ℕ) → IsEventsText setting page outer kept (replicate count ends ++ later) text
+      → IsEventsText setting page outer kept later text
   of_ends zero kept later text is = is
   of_ends (suc count) kept later text is = of_ends count kept later text is
 
   pub leaves_text : (count start : ℕ) (s : LineState) (cs : List Container) (leaves : List LeafBlock) (kept : ℕ) (text : List ℕ)
-      → IsEventsText known page outer kept (replicate count ends ++ started start s cs ++ map leaf leaves) text
-      → IsLeavesText known page outer kept leaves text
+      → IsEventsText setting page outer kept (replicate count ends ++ started start s cs ++ map leaf leaves) text
+      → IsLeavesText setting page outer kept leaves text
   leaves_text count start s cs leaves kept text is =
       of_leaves leaves kept text (of_started cs start s kept (map leaf leaves) text
       (of_ends count kept (started start s cs ++ map leaf leaves) text
-      (subst (λ es. IsEventsText known page outer kept es text) (append_assoc (replicate count ends) (started start s cs) (map leaf leaves)) is)))
+      (subst (λ es. IsEventsText setting page outer kept es text) (append_assoc (replicate count ends) (started start s cs) (map leaf leaves)) is)))

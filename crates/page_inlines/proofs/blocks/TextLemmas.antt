@@ -8,11 +8,11 @@ use Rattle.std.specs.Str.{IsUtf8}
 use Rattle.markdown_blocks.specs.content.Content.{Placed, IsContent}
 use Rattle.markdown_blocks.specs.declared.containers.Container.{Container}
 use Rattle.markdown_blocks.specs.events.Events.{LeafBlock}
-use Rattle.markdown_inlines.specs.Links.{Known}
+use Rattle.markdown_inlines.specs.Inlines.{Setting}
 use Rattle.markdown_inlines.specs.Output.{AreInlines}
 use Rattle.markdown_inlines.specs.declared.inlines.Inline.{Inline}
 use Rattle.markdown_inlines.specs.declared.links.Link.{Link}
-use Rattle.page_inlines.specs.page.Printed.{AreContentLines, IsLeafText, commonmark, lines_in_page}
+use Rattle.page_inlines.specs.page.Printed.{AreContentLines, IsLeafText, lines_in_page}
 use Rattle.page_inlines.specs.printing.Lines.{has_inlines, block_line, inline_line, not_text}
 
 first_of_two : (b : Bool) (A B : Type 0) → b ≡ true → A → MatchBool b A B
@@ -23,10 +23,10 @@ pub second_of_two : (b : Bool) (A B : Type 0) → b ≡ false → B → MatchBoo
 second_of_two true A B is b = cc
 second_of_two false A B is b = b
 
-module _ {T E : Type 0} (known : Known) (start : ℕ) (content : Placed) (old new : List ℕ) where
+module _ {T E : Type 0} (setting : Setting) (start : ℕ) (content : Placed) (old new : List ℕ) where
   pub inlines_printed : (r : Result T E) (inlines : List Inline) (links : List (Option Link)) → IsUtf8 content.text
-      → AreInlines content.text (commonmark known) inlines links → OnOk r (new ≡ old ++ flat_map (inline_line start content links) inlines)
-      → OnOk r ((lines : List ℕ) × AreContentLines known start content lines × (new ≡ old ++ lines))
+      → AreInlines content.text setting inlines links → OnOk r (new ≡ old ++ flat_map (inline_line start content links) inlines)
+      → OnOk r ((lines : List ℕ) × AreContentLines setting start content lines × (new ≡ old ++ lines))
   inlines_printed (Ok t) inlines links text are grown = (
     flat_map (inline_line start content links) inlines,
     inl (record { inlines = inlines; links = links; is_text = text; are_inlines = are; are_lines = refl }),
@@ -35,15 +35,16 @@ module _ {T E : Type 0} (known : Known) (start : ℕ) (content : Placed) (old ne
   inlines_printed (Err e) inlines links text are grown = tt
 
   pub none_printed : (r : Result T E) → ¬ IsUtf8 content.text → new ≡ (if is_ok r then old ++ not_text else old)
-      → OnOk r ((lines : List ℕ) × AreContentLines known start content lines × (new ≡ old ++ lines))
+      → OnOk r ((lines : List ℕ) × AreContentLines setting start content lines × (new ≡ old ++ lines))
   none_printed (Ok t) other grown = (not_text, inr (other, refl), grown)
   none_printed (Err e) other grown = tt
 
-module _ {T E : Type 0} (known : Known) (page : List ℕ) (outer : List Container) (kept : ℕ) (block : LeafBlock) (content : Placed) (old mid new : List ℕ) where
+module _ {T E : Type 0} (setting : Setting) (page : List ℕ) (outer : List Container) (kept : ℕ) (block : LeafBlock) (content : Placed)
+    (old mid new : List ℕ) where
   pub leaf_printed : (r : Result T E) → has_inlines block.kind ≡ true → mid ≡ old ++ block_line (length outer) block
       → IsContent block.kind outer kept (lines_in_page page block) content
-      → OnOk r ((lines : List ℕ) × AreContentLines known block.start content lines × (new ≡ mid ++ lines))
-      → OnOk r ((here : List ℕ) × IsLeafText known page outer kept block here × (new ≡ old ++ here))
+      → OnOk r ((lines : List ℕ) × AreContentLines setting block.start content lines × (new ≡ mid ++ lines))
+      → OnOk r ((here : List ℕ) × IsLeafText setting page outer kept block here × (new ≡ old ++ here))
   leaf_printed (Ok t) has line is printed = (
     block_line (length outer) block ++ printed.0,
     first_of_two (has_inlines block.kind) _ _ has

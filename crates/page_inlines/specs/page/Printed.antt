@@ -4,10 +4,10 @@ use Rattle.std.specs.List.{concat, flat_map}
 use Rattle.std.specs.Option.{is_some}
 use Rattle.std.specs.Str.{IsUtf8}
 use Rattle.markdown_scanners_tree.specs.scanners.TextLines.{lines_of}
+use Rattle.markdown_values.specs.declared.values.extensions.Extensions.{Extensions}
 use Rattle.markdown_blocks.specs.blocks.Pages.{Piece, IsPage}
 use Rattle.markdown_blocks.specs.byte_order_mark.ByteOrderMark.{text_of, text_start}
 use Rattle.markdown_blocks.specs.content.Content.{Placed, IsContent}
-use Rattle.markdown_blocks.specs.containers.Containers.{no_extensions}
 use Rattle.markdown_blocks.specs.declared.containers.Container.{Container}
 use Rattle.markdown_blocks.specs.events.Events.{LeafBlock, AreLeavesOf}
 use Rattle.markdown_blocks.specs.link_definitions.LinkDefinitions.{Named, HasDefinitions, first_of}
@@ -19,28 +19,24 @@ use Rattle.markdown_inlines.specs.declared.links.Link.{Link}
 use Rattle.page_programs.specs.Texts.{PrintsText}
 use Rattle.page_inlines.specs.printing.Lines.{has_inlines, block_line, inline_line, not_text}
 
--- the labels that a page defines (4.7)
-pub record AreLabelsOf (page : List ℕ) (known : Known) : Type 0 where
+-- the labels that a page defines which is read with these extensions (4.7)
+pub record AreLabelsOf (asked : Extensions) (page : List ℕ) (known : Known) : Type 0 where
   pub named : List Named
-  pub defined : HasDefinitions no_extensions page named
+  pub defined : HasDefinitions asked page named
   pub each : (label : List ℕ) → known label ≡ is_some (first_of label named)
 
--- with these labels defined, and no extension asked for
-abbrev pub commonmark : Known → Setting
-commonmark known = record { asked = record { strikethrough = false; wikilinks = false }; known = known }
-
 -- the lines of the inlines of a content that is text, before whose block so many bytes of the page stand
-pub record AreInlineLines (known : Known) (start : ℕ) (content : Placed) (lines : List ℕ) : Type 0 where
+pub record AreInlineLines (setting : Setting) (start : ℕ) (content : Placed) (lines : List ℕ) : Type 0 where
   pub inlines : List Inline
   pub links : List (Option Link)
   pub is_text : IsUtf8 content.text
-  pub are_inlines : AreInlines content.text (commonmark known) inlines links
+  pub are_inlines : AreInlines content.text setting inlines links
   pub are_lines : lines ≡ flat_map (inline_line start content links) inlines
 
 -- a content that is not UTF-8 has no inlines, but a line that says so
-abbrev pub AreContentLines : Known → ℕ → Placed → List ℕ → Type 0
-AreContentLines known start content lines =
-    AreInlineLines known start content lines ⊎ ((¬ IsUtf8 content.text) × (lines ≡ not_text))
+abbrev pub AreContentLines : Setting → ℕ → Placed → List ℕ → Type 0
+AreContentLines setting start content lines =
+    AreInlineLines setting start content lines ⊎ ((¬ IsUtf8 content.text) × (lines ≡ not_text))
 
 -- the lines of the page that a leaf block has
 abbrev pub lines_in_page : List ℕ → LeafBlock → List (List ℕ)
@@ -48,43 +44,43 @@ lines_in_page page block = lines_of (take block.bytes (drop block.start page))
 
 -- What is printed of a leaf block that has inlines, in these containers; its first line goes on with so many of them: its line, and
 -- those of its content.
-pub record IsBlockText (known : Known) (page : List ℕ) (outer : List Container) (kept : ℕ) (block : LeafBlock) (text : List ℕ) : Type 0 where
+pub record IsBlockText (setting : Setting) (page : List ℕ) (outer : List Container) (kept : ℕ) (block : LeafBlock) (text : List ℕ) : Type 0 where
   pub content : Placed
   pub lines : List ℕ
   pub is_content : IsContent block.kind outer kept (lines_in_page page block) content
-  pub are_lines : AreContentLines known block.start content lines
+  pub are_lines : AreContentLines setting block.start content lines
   pub text_is : text ≡ block_line (length outer) block ++ lines
 
 -- of other leaf blocks nothing is printed
-abbrev pub IsLeafText : Known → List ℕ → List Container → ℕ → LeafBlock → List ℕ → Type 0
-IsLeafText known page outer kept block text =
-    MatchBool (has_inlines block.kind) (IsBlockText known page outer kept block text) (text ≡ [])
+abbrev pub IsLeafText : Setting → List ℕ → List Container → ℕ → LeafBlock → List ℕ → Type 0
+IsLeafText setting page outer kept block text =
+    MatchBool (has_inlines block.kind) (IsBlockText setting page outer kept block text) (text ≡ [])
 
 -- What is printed of leaf blocks in these containers, one after another. The first line of the first goes on with so many of them; the
 -- others, which follow link reference definitions, go on with all.
-abbrev pub IsLeavesText : Known → List ℕ → List Container → ℕ → List LeafBlock → List ℕ → Type 0
-IsLeavesText known page outer kept [] text = text ≡ []
-IsLeavesText known page outer kept (block ∷ later) text =
-    (here : List ℕ) × (more : List ℕ) × IsLeafText known page outer kept block here
-    × IsLeavesText known page outer (length outer) later more × (text ≡ here ++ more)
+abbrev pub IsLeavesText : Setting → List ℕ → List Container → ℕ → List LeafBlock → List ℕ → Type 0
+IsLeavesText setting page outer kept [] text = text ≡ []
+IsLeavesText setting page outer kept (block ∷ later) text =
+    (here : List ℕ) × (more : List ℕ) × IsLeafText setting page outer kept block here
+    × IsLeavesText setting page outer (length outer) later more × (text ≡ here ++ more)
 
 -- what is printed of the leaf blocks of pieces, before which so many lines and bytes of the page stand
-abbrev pub IsPiecesText : Known → List ℕ → ℕ → ℕ → List Piece → List ℕ → Type 0
-IsPiecesText known page line start [] text = text ≡ []
-IsPiecesText known page line start (piece ∷ later) text =
+abbrev pub IsPiecesText : Setting → List ℕ → ℕ → ℕ → List Piece → List ℕ → Type 0
+IsPiecesText setting page line start [] text = text ≡ []
+IsPiecesText setting page line start (piece ∷ later) text =
     (leaves : List LeafBlock) × (here : List ℕ) × (more : List ℕ) × AreLeavesOf line start piece leaves
-    × IsLeavesText known page (piece.kept ++ piece.begun) (length piece.kept) leaves here
-    × IsPiecesText known page (line + length (piece.first ∷ piece.later)) (start + length (concat (piece.first ∷ piece.later))) later more
+    × IsLeavesText setting page (piece.kept ++ piece.begun) (length piece.kept) leaves here
+    × IsPiecesText setting page (line + length (piece.first ∷ piece.later)) (start + length (concat (piece.first ∷ piece.later))) later more
     × (text ≡ here ++ more)
 
--- The text is what is printed of the page.
-pub record IsPrinted (page text : List ℕ) : Type 0 where
+-- The text is what is printed of the page, which is read with these extensions.
+pub record IsPrinted (asked : Extensions) (page text : List ℕ) : Type 0 where
   pub known : Known
-  pub are_its_labels : AreLabelsOf page known
+  pub are_its_labels : AreLabelsOf asked page known
   pub pieces : List Piece
-  pub is_page : IsPage no_extensions (text_of page) pieces
-  pub is_text : IsPiecesText known page 0 (text_start page) pieces text
+  pub is_page : IsPage asked (text_of page) pieces
+  pub is_text : IsPiecesText (record { asked = asked; known = known }) page 0 (text_start page) pieces text
 
 -- known bytes grow by the title, which is empty, and by what is printed of the page
-abbrev pub IsPrintedTo : List ℕ → List ℕ → Option (List ℕ) → Option (List ℕ) → Type 0
-IsPrintedTo = PrintsText false IsPrinted
+abbrev pub IsPrintedTo : Extensions → List ℕ → List ℕ → Option (List ℕ) → Option (List ℕ) → Type 0
+IsPrintedTo asked = PrintsText false (IsPrinted asked)

@@ -1,5 +1,5 @@
 use Rattle.std.proofs.Common.{ℕ, List, ◌-◌, ◌≤◌, ◌++◌, drop, length, string_bytes}
-use Rattle.page_inlines.specs.labels.Labels.{labels_of}
+use Rattle.page_inlines.specs.labels.Labels.{setting_of}
 use Rattle.page_inlines.specs.page.Printed.{IsPrinted}
 use Rattle.page_inlines.proofs.page.PageLemmas.{LeftText}
 use Rattle.page_inlines.proofs.page.lines_of_page.Given as goal
@@ -9,8 +9,8 @@ abbrev pub invariant-loop-content : goal.invariant-loop-content
 invariant-loop-content l = record {
   within : l.bytes ≤ length l.page;
   few : l.lines ≤ l.bytes;
-  goes : (later : List ℕ) → LeftText (labels_of l.printed.labels.definitions) l.page l.lines l.bytes l.walk (drop l.bytes l.page) later
-      → IsPrinted l.page (string_bytes l.out.text ++ later);
+  goes : (later : List ℕ) → LeftText (setting_of l.printed) l.page l.lines l.bytes l.walk (drop l.bytes l.page) later
+      → IsPrinted l.printed.asked l.page (string_bytes l.out.text ++ later);
 }
 
 abbrev pub decreases-loop-content : goal.decreases-loop-content

@@ -2,15 +2,15 @@ use Rattle.std.proofs.Common.{List, ℕ, ◌++◌, string_bytes}
 use Rattle.markdown_blocks.specs.events.Events.{Event}
 use Rattle.markdown_blocks.specs.events.Given.{GivesBlock, block_events_left}
 use Rattle.page_inlines.specs.blocks.BlockTexts.{HasPrinted, IsEventsText}
-use Rattle.page_inlines.specs.labels.Labels.{labels_of}
+use Rattle.page_inlines.specs.labels.Labels.{setting_of}
 use Rattle.page_inlines.proofs.blocks.Page.push_block.Given as goal
 
 -- whatever is printed of the events that are left, with it those of the whole block are printed
 abbrev pub invariant-loop-event : goal.invariant-loop-event
 invariant-loop-event l =
     (later : List Event) (more : List ℕ) → GivesBlock l.containers l.content l.events later
-    → IsEventsText (labels_of l.self.labels.definitions) l.self.bytes.now l.containers l.going_on later more
-    → HasPrinted (labels_of l.self.labels.definitions) l.self.bytes.now l.containers l.kept l.content l.fn.events
+    → IsEventsText (setting_of l.self) l.self.bytes.now l.containers l.going_on later more
+    → HasPrinted (setting_of l.self) l.self.bytes.now l.containers l.kept l.content l.fn.events
     (string_bytes l.fn.out.text) (string_bytes l.out.text ++ more)
 
 abbrev pub decreases-loop-event : goal.decreases-loop-event

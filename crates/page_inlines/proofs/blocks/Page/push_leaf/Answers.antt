@@ -2,7 +2,7 @@ use Rattle.std.proofs.Common.{◌+◌, ◌-◌, ◌≡◌, true, take, drop, str
 use Rattle.markdown_scanners_tree.specs.scanners.TextLines.{lines_of}
 use Rattle.markdown_blocks.specs.content.Content.{IsContent}
 use Rattle.markdown_blocks.specs.events.Events.{seen_leaf}
-use Rattle.page_inlines.specs.labels.Labels.{labels_of}
+use Rattle.page_inlines.specs.labels.Labels.{setting_of}
 use Rattle.page_inlines.specs.printing.Lines.{has_inlines}
 use Rattle.page_inlines.proofs.blocks.BlockLemmas.{content_places}
 use Rattle.page_inlines.proofs.blocks.TextLemmas.{leaf_printed}
@@ -18,7 +18,7 @@ returns c =
     let page = c.args.self.now.bytes.now in
     let has : has_inlines c.args.leaf.kind ≡ true = sym c.if-not-has_inlines.ensures in
     let size : (c.args.leaf.start + c.args.leaf.bytes) - c.args.leaf.start ≡ c.args.leaf.bytes = omega arith in
-    leaf_printed (labels_of c.args.self.now.labels.definitions) page c.args.containers.now c.args.kept (seen_leaf c.args.leaf) c.in_ok-content.content
+    leaf_printed (setting_of c.args.self.now) page c.args.containers.now c.args.kept (seen_leaf c.args.leaf) c.in_ok-content.content
     (string_bytes c.args.out.now.text) (string_bytes c.push_block_line.new.text) (string_bytes c.push_content.new.out.text) c.push_content.result has
     (c.in_ok-push_block_line.ensures has)
     (subst (λ bytes. IsContent c.args.leaf.kind c.args.containers.now c.args.kept (lines_of bytes) c.in_ok-content.content)

@@ -1,0 +1,48 @@
+-- The extensions that the words of the command line ask for. An option and its value are one word.
+use Rattle.std.specs.Prelude.{ℕ, Bool, ◌||◌, List, [], ◌∷◌, codes}
+use Rattle.std.specs.Borrow.{Bor}
+use Rattle.markdown_values.specs.declared.values.extensions.Extensions.{Extensions}
+use Rattle.page_programs.specs.Words.{asks}
+
+abbrev pub tables : List ℕ
+tables = codes "-e tables"
+
+abbrev pub footnotes : List ℕ
+footnotes = codes "-e footnotes"
+
+abbrev pub strikethrough : List ℕ
+strikethrough = codes "-e strikethrough"
+
+abbrev pub tasks : List ℕ
+tasks = codes "-e tasks"
+
+abbrev pub definition_lists : List ℕ
+definition_lists = codes "-e definition-lists"
+
+abbrev pub wikilinks : List ℕ
+wikilinks = codes "-e wikilinks"
+
+abbrev pub gfm : List ℕ
+gfm = codes "--gfm"
+
+-- the options that ask for extensions of which events are built
+abbrev pub event_options : List (List ℕ)
+event_options = tables ∷ strikethrough ∷ tasks ∷ wikilinks ∷ gfm ∷ []
+
+-- those that ask for any extension
+abbrev pub extension_options : List (List ℕ)
+extension_options = footnotes ∷ definition_lists ∷ event_options
+
+-- an extension of GitHub Flavored Markdown is on where its option asks for it, or `--gfm`
+abbrev pub is_on : List ℕ → List (Bor (List ℕ)) → Bool
+is_on option words = asks gfm words || asks option words
+
+abbrev pub extensions_of : List (Bor (List ℕ)) → Extensions
+extensions_of words = record {
+  tables = is_on tables words;
+  footnotes = asks footnotes words;
+  strikethrough = is_on strikethrough words;
+  tasks = is_on tasks words;
+  definition_lists = asks definition_lists words;
+  wikilinks = asks wikilinks words;
+}
