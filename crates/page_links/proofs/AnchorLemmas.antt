@@ -1,5 +1,5 @@
 -- Anchors that are kept in the order of their bytes, and counts of slugs.
-use Rattle.std.proofs.Common.{ℕ, ◌+◌, ◌<◌, List, [], ◌∷◌, ◌++◌, ◌≡◌, Bool, true, false, cond, ◌||◌, Decides, Option, Some, None, String, arith}
+use Rattle.std.proofs.Common.{ℕ, ◌+◌, ◌<◌, List, [], ◌∷◌, ◌++◌, ◌≡◌, Bool, true, false, cond, ◌||◌, Decides, Some, String, arith}
 use Rattle.std.proofs.Common.{bytes_eq, inl, inr, map, string_bytes, string_cmp, refl, sym, ap, subst, ◌∙◌, append_assoc, drop, get_or, length, take}
 use Rattle.std.specs.BTreeMap.{BTreeMap, get_by_text, is_at, Updates as UpdatesMap}
 use Rattle.std.specs.BTreeSet.{BTreeSet, Updates}

@@ -4,7 +4,7 @@ use Rattle.std.specs.Prelude.{⊤}
 use Rattle.std.proofs.Common.{inl, refl, sym, subst}
 use Rattle.std.proofs.KnownBytes.{Appends-nil}
 use Rattle.std.specs.Io.KnownBytes.{Appends, IsAtEnd}
-use Rattle.markdown_events.specs.declared.settings.PageSetting.{PageSetting}
+use Rattle.markdown_values.specs.declared.values.extensions.Extensions.{Extensions}
 use Rattle.program_faults.specs.Faults.{AppendsPrefix}
 use Rattle.program_faults.specs.Steps.{AreReads, HasEnded, HasFailed}
 use Rattle.program_faults.specs.declared.reasons.Reason.{Reason}
@@ -29,7 +29,7 @@ use Rattle.page_links.specs.page.Printed.{IsChecked, IsCheckedTo, by_name}
 nothing_written : {W : Type 0} (contents : W → Option (List ℕ)) (out longer : W) → longer ≡ out → Appends (contents out) (contents longer) []
 nothing_written contents out longer same = subst (λ w. Appends (contents out) (contents w) []) (sym same) (Appends-nil (contents out))
 
-module _ {R : Type 0} (finds : List ℕ → FileState → Type 0) (form : LinkForm) (setting : PageSetting) (remaining : R → Option (List ℕ))
+module _ {R : Type 0} (finds : List ℕ → FileState → Type 0) (form : LinkForm) (setting : Extensions) (remaining : R → Option (List ℕ))
     (reads : R → Result (List ℕ) Reason → R → Type 0) (name : List ℕ) (old new : R) where
   -- the page that a reader gives is checked, or it stopped: this text is printed of it
   abbrev pub Checks : List ℕ → Option Stop → Type 0
@@ -85,7 +85,7 @@ ends_of : (A : Type 0) (found : Bool) → A → Ends ⊤ (came_of found) A
 ends_of A true a = (tt, a)
 ends_of A false a = a
 
-module _ {R O F W V : Type 0} (finds : List ℕ → FileState → Type 0) (form : LinkForm) (setting : PageSetting)
+module _ {R O F W V : Type 0} (finds : List ℕ → FileState → Type 0) (form : LinkForm) (setting : Extensions)
     (remaining : R → Option (List ℕ)) (reads : R → Result (List ℕ) Reason → R → Type 0)
     (opens : F → List ℕ → Result O Reason → F → Type 0)
     (file_remaining : O → Option (List ℕ)) (file_reads : O → Result (List ℕ) Reason → O → Type 0)

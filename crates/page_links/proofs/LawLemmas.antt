@@ -10,7 +10,7 @@ use Rattle.markdown_values.specs.values.Tags.{definition_list, definition_list_t
 use Rattle.markdown_values.specs.values.Tags.{table_cell, emphasis, strong, strikethrough, superscript, subscript, link, image, metadata_block}
 use Rattle.markdown_events.specs.EventLaws.{LiesIn, RiseIn}
 use Rattle.markdown_events.specs.InlineEvents.{RangedEvent}
-use Rattle.markdown_events.specs.declared.settings.PageSetting.{PageSetting}
+use Rattle.markdown_values.specs.declared.values.extensions.Extensions.{Extensions}
 use Rattle.markdown_events.proofs.ForCallers.{page_events_within}
 use Rattle.page_links.specs.links.Laws.{AreStarted, RiseFrom, starts_link}
 use Rattle.page_links.specs.links.Links.{AreLinksOf, Seen, link_of}
@@ -139,12 +139,12 @@ links_rise size (to ∷ outer) from ((task_list_marker is_checked, range) ∷ la
 
 -- ---- of a page
 
-pub page_links_rise : (page : List ℕ) (setting : PageSetting) (links : List Seen) → AreLinksOf page setting links → RiseFrom 0 (length page) links
+pub page_links_rise : (page : List ℕ) (setting : Extensions) (links : List Seen) → AreLinksOf page setting links → RiseFrom 0 (length page) links
 page_links_rise page setting links are =
     subst (RiseFrom 0 (length page)) (sym are.are_links)
     (links_rise (length page) (length page ∷ []) 0 are.events (omega arith, tt) (page_events_within page setting are.events are.are_events))
 
-pub page_links_at_starts : (page : List ℕ) (setting : PageSetting) (links : List Seen) → AreLinksOf page setting links → AreStarted page setting links
+pub page_links_at_starts : (page : List ℕ) (setting : Extensions) (links : List Seen) → AreLinksOf page setting links → AreStarted page setting links
 page_links_at_starts page setting links are = record {
   events = are.events;
   are_events = are.are_events;

@@ -1,5 +1,5 @@
 -- Texts that grow, piece by piece.
-use Rattle.std.proofs.Common.{ℕ, ◌+◌, ◌<◌, ◌≤◌, List, ◌∷◌, ◌++◌, Result, Ok, Err, OnOk, is_ok, length, drop, get_or, map, ◌≡◌, ◌∙◌, sym, ap}
+use Rattle.std.proofs.Common.{ℕ, ◌+◌, ◌<◌, ◌≤◌, List, ◌++◌, Result, Ok, Err, OnOk, is_ok, length, drop, get_or, map, ◌≡◌, ◌∙◌, sym, ap}
 use Rattle.std.proofs.Common.{append_assoc, append-nil, if◌then◌else◌}
 use Rattle.std.specs.List.{flat_map}
 use Rattle.std.proofs.lemmas.List.{at_drop_all, at_drop_more}

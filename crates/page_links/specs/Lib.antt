@@ -3,6 +3,8 @@ pub mod checking
 pub mod checks
 pub mod definitions
 pub mod headings
+pub mod html
+pub mod html_links
 pub mod label_set
 pub mod labels
 pub mod links

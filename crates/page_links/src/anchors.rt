@@ -1,12 +1,19 @@
-//! The anchors that the headings of a page make, by GitHub's rule.
+//! The anchors of a page: what its headings make by GitHub's rule, and what its raw HTML makes.
 ghost use Rattle.std.specs.Prelude.{◌≡◌, ◌++◌, ◌+◌, ◌<◌, ◌^◌, [], ◌∷◌, List, ℕ, length, map, IfOk, OnOk, string_bytes};
 ghost use Rattle.std.specs.BTreeMap.{get_by_text};
 ghost use Rattle.std.specs.Map.{count_at};
+ghost use Rattle.std.specs.Option.{option_map};
+ghost use Rattle.html_attributes.specs.StartTags.{seen_tag};
+ghost use Rattle.page_links.specs.anchors.Anchors.{AreOfTag, AreOfTags, AreOfValue, name_of};
 ghost use Rattle.page_links.specs.anchors.Anchors.{AreAnchorsOf, HasAnchors, anchor_of, anchors_of, counted, is_among};
 ghost use Rattle.page_links.specs.anchors.private.Counts.{AreCounts};
 
 use crate::headings::slugs_of_page;
-use markdown_events::event_reader::PageSetting;
+use crate::html::html_of_page;
+use html_attributes::tags::{StartTag, start_tags};
+use html_attributes::values::meaning_of;
+use html_entities::HtmlEntities;
+use markdown_values::values::Extensions;
 use std::alloc::{AllocError, Global};
 use std::collections::{BTreeMap, BTreeSet};
 use std::marker::Model;
@@ -28,18 +35,23 @@ impl Model for Anchors {
 }
 
 impl Anchors {
-    /// What the headings of a page make, as `slugs_of_page` does; one that was made before has `-1`
-    /// after it, then `-2`, and so on.
+    /// What the headings of a page make, as `slugs_of_page` does, where one that was made before has
+    /// `-1` after it, then `-2`, and so on; and what its raw HTML makes: the `id` of each element, and
+    /// the `name` of each `a`, with their character references decoded.
     ///
     /// # Errors
     ///
     /// `AllocError` where memory is refused.
-    pub fn of_page(alloc: Global, page: &str, setting: PageSetting) -> Result<Anchors, AllocError>
+    pub fn of_page(alloc: Global, page: &str, setting: Extensions) -> Result<Anchors, AllocError>
         ensures { IfOk result (λ kept. (anchors : List (List ℕ))
             × AreAnchorsOf page.now setting anchors × HasAnchors kept anchors) }
     {
         let slugs = slugs_of_page(alloc, page, setting)?;
-        Anchors::of_slugs(alloc, &slugs)
+        let mut anchors = Anchors::of_slugs(alloc, &slugs)?;
+        let html = html_of_page(alloc, page, setting)?;
+        let tags = start_tags(alloc, &html)?;
+        anchors.add_tags(alloc, &tags)?;
+        Ok(anchors)
     }
 
     /// Whether a text is one of them.
@@ -73,6 +85,44 @@ impl Anchors {
         Ok(anchors)
     }
 
+    // Adds those that start tags make.
+    fn add_tags(&mut self, alloc: Global, tags: &[StartTag]) -> Result<(), AllocError>
+        ensures { OnOk result ((made : List (List ℕ)) × AreOfTags (map seen_tag tags.now) made
+            × ((anchors : List (List ℕ)) → HasAnchors self.old anchors
+            → HasAnchors self.new (anchors ++ made))) }
+    {
+        for tag in tags {
+            self.add_tag(alloc, tag)?;
+        }
+        Ok(())
+    }
+
+    // Adds those that a start tag makes.
+    fn add_tag(&mut self, alloc: Global, tag: &StartTag) -> Result<(), AllocError>
+        ensures { OnOk result ((made : List (List ℕ)) × AreOfTag (seen_tag tag.now) made
+            × ((anchors : List (List ℕ)) → HasAnchors self.old anchors
+            → HasAnchors self.new (anchors ++ made))) }
+    {
+        self.add_value(alloc, tag.value_of(b"id"))?;
+        self.add_value(alloc, name_of(tag))?;
+        Ok(())
+    }
+
+    // Adds the one that a value makes, if there is one.
+    fn add_value(&mut self, alloc: Global, value: Option<&[u8]>) -> Result<(), AllocError>
+        ensures { OnOk result ((made : List (List ℕ))
+            × AreOfValue (option_map (λ value. value.now) value.entry) made
+            × ((anchors : List (List ℕ)) → HasAnchors self.old anchors
+            → HasAnchors self.new (anchors ++ made))) }
+    {
+        let Some(value) = value else {
+            return Ok(());
+        };
+        let anchor = meaning_of(alloc, value, &HtmlEntities)?;
+        self.add(anchor)?;
+        Ok(())
+    }
+
     // Adds one.
     fn add(&mut self, anchor: String) -> Result<(), AllocError>
         ensures { OnOk result ((anchors : List (List ℕ)) → HasAnchors self.old anchors
@@ -81,6 +131,16 @@ impl Anchors {
         self.texts.insert(anchor)?;
         Ok(())
     }
+}
+
+// The value of the attribute `name` of an `a`.
+fn name_of<'a>(tag: &StartTag<'a>) -> Option<&'a [u8]>
+    ensures { option_map (λ value. value.now) result ≡ name_of (seen_tag tag.now) }
+{
+    if tag.is_named(b"a") {
+        return tag.value_of(b"name");
+    }
+    None
 }
 
 // How often a slug is counted.

@@ -14,7 +14,7 @@ ghost use Rattle.page_links.specs.page.Printed.{IsChecked};
 
 use crate::checks::FindsFiles;
 use crate::page::{LinkForm, check_of_page};
-use markdown_events::event_reader::PageSetting;
+use markdown_values::values::Extensions;
 use page_programs::came::{Came, came_at, came_of, is_reported};
 use page_programs::files::OpensFiles;
 use page_programs::names::shown_name;
@@ -31,7 +31,7 @@ use std::alloc::Global;
 pub(crate) struct Checks<'l, L> {
     pub(crate) finder: &'l L,
     pub(crate) form: LinkForm,
-    pub(crate) setting: PageSetting,
+    pub(crate) setting: Extensions,
 }
 
 impl<L: FindsFiles, R: StepReader, F: OpensFiles, W: StepWriter, V: StepWriter> TriesPages<

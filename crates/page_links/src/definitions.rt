@@ -7,17 +7,17 @@ ghost use Rattle.markdown_scanners_tree.specs.SomeExactly.{SomeExactly};
 ghost use Rattle.markdown_scanners_tree.specs.linklabel.Label.{Label, IsLabelInBytes};
 ghost use Rattle.markdown_blocks.specs.containers.Containers.{settled};
 ghost use Rattle.markdown_blocks.specs.events.Events.{Event, seen_event, seen_leaf};
-ghost use Rattle.markdown_events.specs.page.PageEvents.{blocks_of};
 ghost use Rattle.page_links.specs.definitions.Definitions.{AreDefinedIn, AreDefinitionsIn, Defined, HasDefinition};
 ghost use Rattle.page_links.specs.definitions.Definitions.{IsDefinedBy, IsNamedAt, after_end, is_definition, seen_definition};
 
 use markdown_blocks::blocks::BlockKind;
-use markdown_blocks::containers::{BlockExtensions, Container, settled};
+use markdown_blocks::containers::{Container, settled};
 use markdown_blocks::definitions::add_content;
 use markdown_blocks::events::{BlockEvent, Blocks, Leaf};
-use markdown_events::event_reader::PageSetting;
+use markdown_events::settings::built;
 use markdown_scanners_tree::linklabel::scan_link_label_bytes;
 use markdown_values::strings::CowStr;
+use markdown_values::values::Extensions;
 use std::alloc::{AllocError, Global};
 
 /// A link reference definition of a page.
@@ -40,28 +40,18 @@ pub struct PageDefinition {
 pub fn definitions_of_page(
     alloc: Global,
     page: &[u8],
-    setting: PageSetting,
+    setting: Extensions,
 ) -> Result<Vec<PageDefinition>, AllocError>
     ensures { IfOk result (λ found.
         AreDefinitionsIn page.now setting (map seen_definition found.items)) }
 {
-    let mut blocks = Blocks::new_ext(alloc, page, blocks_of(setting));
+    let mut blocks = Blocks::new_ext(alloc, page, built(setting));
     let mut outer = Vec::new(alloc);
     let mut found = Vec::new(alloc);
     while let Some(event) = blocks.next(alloc)? {
         pass_event(alloc, page, &mut outer, &mut found, event)?;
     }
     Ok(found)
-}
-
-// The extensions of blocks that a setting asks for.
-fn blocks_of(setting: PageSetting) -> BlockExtensions
-    ensures { result ≡ blocks_of setting }
-{
-    BlockExtensions {
-        no_tables: !setting.tables,
-        ..BlockExtensions::none()
-    }
 }
 
 // Passes an event in these containers, and adds the definition that it is, if it is one.

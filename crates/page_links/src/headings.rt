@@ -4,8 +4,8 @@ ghost use Rattle.markdown_events.specs.InlineEvents.{seen_event};
 ghost use Rattle.page_links.specs.headings.Headings.{AreSlugsOf, ended, is_word, is_word_category, kept, none_read};
 ghost use Rattle.page_links.specs.headings.Headings.{passed, seen_headings, slug_of, with_words};
 
-use markdown_events::event_reader::{EventReader, PageSetting};
-use markdown_values::values::{Event, Tag, TagEnd};
+use markdown_events::event_reader::EventReader;
+use markdown_values::values::{Event, Extensions, Tag, TagEnd};
 use std::alloc::{AllocError, Global};
 use std::ops::Range;
 use ucd_category::{GeneralCategory, GeneralCategoryGroup};
@@ -21,7 +21,7 @@ use ucd_category::{GeneralCategory, GeneralCategoryGroup};
 pub(crate) fn slugs_of_page(
     alloc: Global,
     page: &str,
-    setting: PageSetting,
+    setting: Extensions,
 ) -> Result<Vec<String>, AllocError>
     ensures { IfOk result (λ slugs.
         AreSlugsOf page.now setting (map string_bytes slugs.items)) }

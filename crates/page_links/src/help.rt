@@ -53,10 +53,11 @@ label //, which is a comment.
                    is link or image, type, which is HOW, destination, title and label; of a label
                    fault and text
   --check          prints only what is wrong, and no links: the labels, and then the links that lead
-                   nowhere, as no such file \"DESTINATION\" where that is relative and its file is not
-                   there, as permission denied \"DESTINATION\" where a folder on the way to it may not
-                   be searched, and as no such heading \"DESTINATION\" where that is a #FRAGMENT alone
-                   that no heading of the page makes, and not #top, the front of the page
+                   nowhere, those of raw HTML after all others; as no such file \"DESTINATION\" where
+                   that is relative and its file is not there, as permission denied \"DESTINATION\"
+                   where a folder on the way to it may not be searched, and as no such heading
+                   \"DESTINATION\" where that is a #FRAGMENT alone that no heading and no raw HTML of
+                   the page makes, and not #top, the front of the page
   -e NAME          reads pages with an extension, which is one of
 
     tables         tables of GitHub Flavored Markdown
@@ -73,16 +74,18 @@ its percent-encoded bytes decoded. Destinations with a scheme or a slash at the 
 wikilinks are not looked for, and the network is never asked. A heading makes the fragment that it
 makes on GitHub: its text, without that of images, in lower case, each space a hyphen, and no other
 characters but alphabetic ones, marks, digits, hyphens and underscores; one that was made before has
--1 after it, then -2, and so on. Anchors of raw HTML are not read.
+-1 after it, then -2, and so on. Raw HTML makes the id of each element and the name of each <a>, and
+its links and images are the href of each <a> and the src of each <img>. Its tags are read as
+browsers read them, with their character references decoded, and a link begins where its tag does.
 
 FILE is a page; - is standard input, and so is no FILE. The lines of the pages follow one another.
 After the word -- all words are files.
 
 A page is read whole before its lines are printed. Of one that is not UTF-8 nothing is printed, and
 standard error has its name and how many bytes stand before the first that is wrong. Where a page
-can't be read, is not UTF-8, or memory is refused, the program says why on standard error and goes on
-with the next page. Where the output can't be written it stops, and says why unless the reader of the
-output has left.
+can't be read, is not UTF-8, or memory is refused, the program says why on standard error and goes
+on with the next page. Where the output can't be written it stops, and says why unless the reader of
+the output has left.
 
 In a name, but as JSON, a tab, a line feed and a carriage return are \\t, \\n and \\r, and another
 control character is \\u{CODE} with its code in hexadecimal digits.

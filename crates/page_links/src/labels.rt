@@ -14,9 +14,9 @@ use crate::label_set::LabelSet;
 use crate::links::{PageLink, push_link};
 use crate::reports::{Fault, Report};
 use markdown_events::definitions::{Definitions, Target};
-use markdown_events::event_reader::{EventReader, PageSetting};
+use markdown_events::event_reader::EventReader;
 use markdown_values::strings::CowStr;
-use markdown_values::values::LinkType;
+use markdown_values::values::{Extensions, LinkType};
 use std::alloc::{AllocError, Global};
 
 /// What is reported of the labels of a page that has these links: first each that a full or a
@@ -31,7 +31,7 @@ use std::alloc::{AllocError, Global};
 pub fn label_reports(
     alloc: Global,
     page: &str,
-    setting: PageSetting,
+    setting: Extensions,
     links: &[PageLink],
 ) -> Result<Vec<Report>, AllocError>
     ensures { IfOk result (λ reports. AreLabelReports page.now setting
@@ -95,7 +95,7 @@ impl<'a> Definitions<'a> for Everywhere {
 fn links_if_defined<'a>(
     alloc: Global,
     page: &'a str,
-    setting: PageSetting,
+    setting: Extensions,
 ) -> Result<Vec<PageLink<'a>>, AllocError>
     ensures { IfOk result (λ links.
         AreLinksIfDefined page.now setting (map seen_link links.items)) }

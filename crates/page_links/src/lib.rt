@@ -7,6 +7,8 @@ pub mod checks;
 pub mod definitions;
 mod headings;
 pub mod help;
+mod html;
+mod html_links;
 mod label_set;
 pub mod labels;
 pub mod links;

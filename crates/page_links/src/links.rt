@@ -5,9 +5,9 @@ ghost use Rattle.markdown_events.specs.InlineEvents.{seen_event};
 ghost use Rattle.page_links.specs.links.Laws.{AreStarted, RiseFrom};
 ghost use Rattle.page_links.specs.links.Links.{AreLinksOf, link_of, seen_link};
 
-use markdown_events::event_reader::{EventReader, PageSetting};
+use markdown_events::event_reader::EventReader;
 use markdown_values::strings::CowStr;
-use markdown_values::values::{Event, LinkType, Tag};
+use markdown_values::values::{Event, Extensions, LinkType, Tag};
 use std::alloc::{AllocError, Global};
 use std::ops::Range;
 
@@ -39,7 +39,7 @@ pub struct PageLink<'a> {
 pub fn links_of_page<'a>(
     alloc: Global,
     page: &'a str,
-    setting: PageSetting,
+    setting: Extensions,
 ) -> Result<Vec<PageLink<'a>>, AllocError>
     ensures links { IfOk result (λ links. AreLinksOf page.now setting (map seen_link links.items)) }
     ensures starts { IfOk result (λ links. AreStarted page.now setting

@@ -8,12 +8,15 @@ ghost use Rattle.page_links.specs.reports.Reports.{seen_report};
 
 use crate::anchors::Anchors;
 use crate::checks::{FindsFiles, push_target_reports};
+use crate::html::html_of_page;
+use crate::html_links::html_links;
 use crate::labels::label_reports;
 use crate::links::{PageLink, links_of_page};
 pub use crate::printing::LinkForm;
 use crate::printing::{push_fault, push_line};
 use crate::reports::Report;
-use markdown_events::event_reader::PageSetting;
+use html_attributes::tags::start_tags;
+use markdown_values::values::Extensions;
 use page_positions::{Line, text_position_at};
 use page_programs::names::shown;
 use std::alloc::{AllocError, Global};
@@ -28,7 +31,7 @@ pub fn list_of_page(
     alloc: Global,
     name: &str,
     page: &str,
-    setting: PageSetting,
+    setting: Extensions,
     form: LinkForm,
 ) -> Result<String, AllocError>
     ensures { IfOk result (λ text. IsList form setting name.now page.now (string_bytes text)) }
@@ -118,8 +121,8 @@ fn push_reported(
 }
 
 /// What is printed of a page of this name where it is checked: a line for each report of its labels,
-/// and then for each of its links that leads to a file that is not there, or to an anchor that no
-/// heading of the page makes. All are in this form.
+/// and then for each of its links, and of those that are raw HTML, that leads to a file that is not
+/// there, or to an anchor that nothing in the page makes. All are in this form.
 ///
 /// # Errors
 ///
@@ -129,7 +132,7 @@ pub fn check_of_page<L: FindsFiles>(
     finder: &L,
     name: &str,
     page: &str,
-    setting: PageSetting,
+    setting: Extensions,
     form: LinkForm,
 ) -> Result<String, AllocError>
     ensures { IfOk result (λ text.
@@ -139,6 +142,10 @@ pub fn check_of_page<L: FindsFiles>(
     let anchors = Anchors::of_page(alloc, page, setting)?;
     let mut reports = label_reports(alloc, page, setting, &links)?;
     push_target_reports(alloc, &mut reports, finder, name, &anchors, &links)?;
+    let html = html_of_page(alloc, page, setting)?;
+    let tags = start_tags(alloc, &html)?;
+    let shown = html_links(alloc, &tags)?;
+    push_target_reports(alloc, &mut reports, finder, name, &anchors, &shown)?;
     let called = name_in(alloc, form, name)?;
     let mut text = String::new(alloc);
     push_reports(

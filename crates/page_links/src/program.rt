@@ -15,7 +15,7 @@ ghost use Rattle.page_programs.specs.declared.stops.Stop.{Stop};
 ghost use Rattle.page_programs.specs.declared.words.Request.TheVariants.{Pages, Help, Version};
 ghost use Rattle.page_links.specs.checking.Checking.{ChecksAll};
 ghost use Rattle.page_links.specs.page.Printed.{IsPrintedTo, name_in};
-ghost use Rattle.page_events.specs.words.Words.{setting_of};
+ghost use Rattle.page_programs.specs.Extensions.{extensions_of};
 ghost use Rattle.page_links.specs.words.Words.{form_of, is_check, own_options};
 
 use crate::checking::Checks;
@@ -23,8 +23,8 @@ use crate::checks::FindsFiles;
 use crate::help::{HELP, USAGE, VERSION};
 use crate::page::{LinkForm, list_of_page, name_in};
 use crate::words::{OPTIONS, form_of, is_check};
-use markdown_events::event_reader::PageSetting;
-use page_events::words::setting_of;
+use markdown_values::values::Extensions;
+use page_programs::extensions::extensions_of;
 use page_programs::files::OpensFiles;
 use page_programs::pages::PrintsPages;
 use page_programs::program;
@@ -82,7 +82,7 @@ pub fn run_program<L: FindsFiles, R: StepReader, F: OpensFiles, W: StepWriter, V
     ensures printed { result ≢ 2 → request_of words.now ≡ Pages → is_check words.now ≡ false →
         (came : Came) × (result ≡ status_of came)
         × PrintsAll (name_in (form_of words.now))
-        (IsPrintedTo (form_of words.now) (setting_of words.now))
+        (IsPrintedTo (form_of words.now) (extensions_of words.now))
         is_unwritten (IsRefused false)
         R.remaining R.reads F.opens F.File.remaining F.File.reads
         W.contents W.writes V.writes (codes "fillaqut") (pages_of words.now)
@@ -92,7 +92,7 @@ pub fn run_program<L: FindsFiles, R: StepReader, F: OpensFiles, W: StepWriter, V
     // Pages that are checked: all that is reported of them; the status says whether anything is.
     ensures checked { result ≢ 2 → request_of words.now ≡ Pages → is_check words.now ≡ true →
         (came : Came) × (result ≡ status_of came)
-        × ChecksAll (L.finds finder.now) (form_of words.now) (setting_of words.now)
+        × ChecksAll (L.finds finder.now) (form_of words.now) (extensions_of words.now)
         R.remaining R.reads F.opens F.File.remaining F.File.reads
         W.contents W.writes V.writes (pages_of words.now)
         (world input.old files.old output.old faults.old)
@@ -110,7 +110,7 @@ pub fn run_program<L: FindsFiles, R: StepReader, F: OpensFiles, W: StepWriter, V
         version: VERSION,
     };
     let form = form_of(words);
-    let setting = setting_of(words);
+    let setting = extensions_of(words);
     if is_check(words) {
         let checks = Checks {
             finder,
@@ -131,7 +131,7 @@ pub fn run_program<L: FindsFiles, R: StepReader, F: OpensFiles, W: StepWriter, V
 #[derive(Drop)]
 struct Links {
     form: LinkForm,
-    setting: PageSetting,
+    setting: Extensions,
 }
 
 impl PrintsPages for Links {

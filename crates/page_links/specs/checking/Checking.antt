@@ -1,7 +1,7 @@
 -- What checking pages comes to.
 use Rattle.std.specs.Prelude.{ℕ, false, ◌≡◌, List, [], Option, Some, None, Result, codes}
 use Rattle.std.specs.Io.KnownBytes.{Appends}
-use Rattle.markdown_events.specs.declared.settings.PageSetting.{PageSetting}
+use Rattle.markdown_values.specs.declared.values.extensions.Extensions.{Extensions}
 use Rattle.program_faults.specs.Steps.{AreGiven, CantWrite}
 use Rattle.program_faults.specs.declared.reasons.Reason.{Reason}
 use Rattle.page_programs.specs.Came.{came_at, came_of, is_reported}
@@ -16,7 +16,7 @@ use Rattle.page_links.specs.declared.checks.FileState.{FileState}
 use Rattle.page_links.specs.declared.printing.LinkForm.{LinkForm}
 use Rattle.page_links.specs.page.Printed.{IsCheckedTo, by_name}
 
-module _ {R O F : Type 0} (finds : List ℕ → FileState → Type 0) (form : LinkForm) (setting : PageSetting)
+module _ {R O F : Type 0} (finds : List ℕ → FileState → Type 0) (form : LinkForm) (setting : Extensions)
     (remaining : R → Option (List ℕ)) (reads : R → Result (List ℕ) Reason → R → Type 0)
     (opens : F → List ℕ → Result O Reason → F → Type 0)
     (file_remaining : O → Option (List ℕ)) (file_reads : O → Result (List ℕ) Reason → O → Type 0) where

@@ -9,8 +9,8 @@ use Rattle.markdown_blocks.specs.declared.blocks.BlockKind.TheVariants.{Definiti
 use Rattle.markdown_blocks.specs.declared.containers.Container.{Container}
 use Rattle.markdown_blocks.specs.definitions.Content.{content_in}
 use Rattle.markdown_blocks.specs.events.Events.{Event, LeafBlock, IsEventsOf, starts, leaf, ends}
-use Rattle.markdown_events.specs.declared.settings.PageSetting.{PageSetting}
-use Rattle.markdown_events.specs.page.PageEvents.{blocks_of}
+use Rattle.markdown_values.specs.declared.values.extensions.Extensions.{Extensions}
+use Rattle.markdown_events.specs.page.Settings.{built}
 use Rattle.page_links.specs.declared.definitions.PageDefinition.{PageDefinition}
 
 -- A definition: how many bytes of the page stand before it, and its label, in which each run of white space is one space.
@@ -62,7 +62,7 @@ AreDefinedIn page outer (leaf block ∷ later) defined =
     × (defined ≡ here ++ rest)
 
 -- These are the definitions of a page that is read with this setting.
-pub record AreDefinitionsIn (page : List ℕ) (setting : PageSetting) (defined : List Defined) : Type 0 where
+pub record AreDefinitionsIn (page : List ℕ) (setting : Extensions) (defined : List Defined) : Type 0 where
   pub events : List Event
-  pub are_events : IsEventsOf (blocks_of setting) page events
+  pub are_events : IsEventsOf (built setting) page events
   pub are_defined : AreDefinedIn page [] events defined

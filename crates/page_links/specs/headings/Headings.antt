@@ -13,7 +13,7 @@ use Rattle.markdown_values.specs.declared.values.tags.TagEnd.TheVariants as End
 use Rattle.markdown_values.specs.values.Events.{start, end, text, code}
 use Rattle.markdown_values.specs.values.Tags.{heading, image}
 use Rattle.markdown_events.specs.InlineEvents.{RangedEvent}
-use Rattle.markdown_events.specs.declared.settings.PageSetting.{PageSetting}
+use Rattle.markdown_values.specs.declared.values.extensions.Extensions.{Extensions}
 use Rattle.markdown_events.specs.page.PageEvents.{ArePageEvents}
 use Rattle.page_links.specs.declared.headings.Headings.{Headings}
 
@@ -75,7 +75,7 @@ abbrev pub none_read : Reading
 none_read = record { slugs = []; is_open = false; words = []; images_end = 0 }
 
 -- These are what the headings of a page make, in order.
-pub record AreSlugsOf (page : List ℕ) (setting : PageSetting) (slugs : List (List ℕ)) : Type 0 where
+pub record AreSlugsOf (page : List ℕ) (setting : Extensions) (slugs : List (List ℕ)) : Type 0 where
   pub events : List RangedEvent
   pub are_events : ArePageEvents page setting events
   pub are_slugs : slugs ≡ (after_events events none_read).slugs

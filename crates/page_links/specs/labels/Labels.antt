@@ -7,12 +7,10 @@ use Rattle.markdown_values.specs.declared.values.LinkType.{LinkType}
 use Rattle.markdown_values.specs.declared.values.LinkType.TheVariants as Kind
 use Rattle.markdown_scanners_tree.specs.Bytes.{begins_with}
 use Rattle.markdown_scanners_tree.specs.linklabel.Key.{label_key}
-use Rattle.markdown_blocks.specs.link_definitions.LinkDefinitions.{Target}
 use Rattle.markdown_events.specs.Targets.{Targets}
 use Rattle.markdown_events.specs.InlineEvents.{RangedEvent}
-use Rattle.markdown_events.specs.declared.settings.PageSetting.{PageSetting}
+use Rattle.markdown_values.specs.declared.values.extensions.Extensions.{Extensions}
 use Rattle.markdown_events.specs.page.PageEvents.{ArePageEventsWith}
-use Rattle.page_links.specs.declared.reports.Fault.{Fault}
 use Rattle.page_links.specs.declared.reports.Fault.TheVariants.{NotDefined, NotUsed, DefinedBefore}
 use Rattle.page_links.specs.definitions.Definitions.{AreDefinitionsIn, Defined}
 use Rattle.page_links.specs.links.Links.{Seen, link_of}
@@ -55,7 +53,7 @@ abbrev pub everywhere : Targets
 everywhere label = Some (record { destination = []; title = None })
 
 -- The links that a page would have if every label were defined.
-pub record AreLinksIfDefined (page : List ℕ) (setting : PageSetting) (links : List Seen) : Type 0 where
+pub record AreLinksIfDefined (page : List ℕ) (setting : Extensions) (links : List Seen) : Type 0 where
   pub events : List RangedEvent
   pub are_events : ArePageEventsWith page setting everywhere events
   pub are_links : links ≡ filter_map link_of events
@@ -93,7 +91,7 @@ of_definitions used before (it ∷ later) =
 -- ---- a page
 
 -- What is reported of the labels of a page that has these links.
-pub record AreLabelReports (page : List ℕ) (setting : PageSetting) (links : List Seen) (reports : List Reported) : Type 0 where
+pub record AreLabelReports (page : List ℕ) (setting : Extensions) (links : List Seen) (reports : List Reported) : Type 0 where
   pub defined : List Defined
   pub are_defined : AreDefinitionsIn page setting defined
   pub asked : List Seen

@@ -6,7 +6,7 @@ use Rattle.markdown_values.specs.values.Events.{start}
 use Rattle.markdown_events.specs.EventLaws.{LiesIn}
 use Rattle.markdown_events.specs.InlineEvents.{RangedEvent}
 use Rattle.markdown_events.specs.TagEnds.{tag_end}
-use Rattle.markdown_events.specs.declared.settings.PageSetting.{PageSetting}
+use Rattle.markdown_values.specs.declared.values.extensions.Extensions.{Extensions}
 use Rattle.markdown_events.specs.page.PageEvents.{ArePageEvents}
 use Rattle.page_links.specs.links.Links.{Seen}
 
@@ -22,7 +22,7 @@ starts_link (start tag, range) = is_link (tag_end tag)
 starts_link event = false
 
 -- As many links as events of the page start one, and each where that event is.
-pub record AreStarted (page : List ℕ) (setting : PageSetting) (links : List Seen) : Type 0 where
+pub record AreStarted (page : List ℕ) (setting : Extensions) (links : List Seen) : Type 0 where
   pub events : List RangedEvent
   pub are_events : ArePageEvents page setting events
   pub at_starts : map (λ it. it.range) links ≡ map (λ event. event.1) (filter starts_link events)

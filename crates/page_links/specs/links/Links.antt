@@ -7,7 +7,7 @@ use Rattle.markdown_values.specs.strings.Text.{cow_text}
 use Rattle.markdown_values.specs.values.Events.{start}
 use Rattle.markdown_values.specs.values.Tags.{link, image}
 use Rattle.markdown_events.specs.InlineEvents.{RangedEvent}
-use Rattle.markdown_events.specs.declared.settings.PageSetting.{PageSetting}
+use Rattle.markdown_values.specs.declared.values.extensions.Extensions.{Extensions}
 use Rattle.markdown_events.specs.page.PageEvents.{ArePageEvents}
 use Rattle.page_links.specs.declared.links.PageLink.{PageLink}
 
@@ -39,7 +39,7 @@ link_of (start (image kind destination title label), range) =
 link_of event = None
 
 -- These are the links and the images of a page: those that its events start, in their order.
-pub record AreLinksOf (page : List ℕ) (setting : PageSetting) (links : List Seen) : Type 0 where
+pub record AreLinksOf (page : List ℕ) (setting : Extensions) (links : List Seen) : Type 0 where
   pub events : List RangedEvent
   pub are_events : ArePageEvents page setting events
   pub are_links : links ≡ filter_map link_of events

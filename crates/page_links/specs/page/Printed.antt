@@ -3,13 +3,16 @@ use Rattle.std.specs.Prelude.{ℕ, ◌≡◌, List, ◌++◌, Option}
 use Rattle.std.specs.Io.KnownBytes.{Appends}
 use Rattle.std.specs.List.{flat_map}
 use Rattle.std.specs.Str.{IsUtf8}
-use Rattle.markdown_events.specs.declared.settings.PageSetting.{PageSetting}
+use Rattle.markdown_values.specs.declared.values.extensions.Extensions.{Extensions}
 use Rattle.page_links.specs.declared.checks.FileState.{FileState}
 use Rattle.page_programs.specs.Names.{shown}
 use Rattle.page_links.specs.declared.printing.LinkForm.{LinkForm}
 use Rattle.page_links.specs.declared.printing.LinkForm.TheVariants.{Words, Json}
 use Rattle.page_links.specs.anchors.Anchors.{AreAnchorsOf}
 use Rattle.page_links.specs.checks.Checks.{AreTargetReports}
+use Rattle.html_attributes.specs.StartTags.{WrittenTag}
+use Rattle.page_links.specs.html.Html.{AreTagsOf}
+use Rattle.page_links.specs.html_links.HtmlLinks.{AreHtmlLinks}
 use Rattle.page_links.specs.labels.Labels.{AreLabelReports}
 use Rattle.page_links.specs.links.Links.{AreLinksOf, Seen}
 use Rattle.page_positions.specs.Positions.{text_position}
@@ -39,7 +42,7 @@ abbrev pub reports_of : LinkForm → List ℕ → List ℕ → List Reported →
 reports_of form name page reports = flat_map (report_line_of form name page) reports
 
 -- The text is the lines of all links and images of the page of this name, and of no others; and then of what is reported of its labels.
-pub record IsList (form : LinkForm) (setting : PageSetting) (name page text : List ℕ) : Type 0 where
+pub record IsList (form : LinkForm) (setting : Extensions) (name page text : List ℕ) : Type 0 where
   pub is_text : IsUtf8 page
   pub links : List Seen
   pub are_links : AreLinksOf page setting links
@@ -48,7 +51,7 @@ pub record IsList (form : LinkForm) (setting : PageSetting) (name page text : Li
   pub is_list : text ≡ list_of form name page links ++ reports_of form name page reports
 
 -- The text is the lines of what is reported of the page of this name where it is checked, and files may be found or not.
-pub record IsChecked (finds : List ℕ → FileState → Type 0) (form : LinkForm) (setting : PageSetting) (name page text : List ℕ) : Type 0 where
+pub record IsChecked (finds : List ℕ → FileState → Type 0) (form : LinkForm) (setting : Extensions) (name page text : List ℕ) : Type 0 where
   pub is_text : IsUtf8 page
   pub links : List Seen
   pub are_links : AreLinksOf page setting links
@@ -58,16 +61,22 @@ pub record IsChecked (finds : List ℕ → FileState → Type 0) (form : LinkFor
   pub are_labels : AreLabelReports page setting links labels
   pub targets : List Reported
   pub are_targets : AreTargetReports finds name anchors links targets
-  pub is_list : text ≡ reports_of form (name_in form name) page (labels ++ targets)
+  pub tags : List WrittenTag
+  pub are_tags : AreTagsOf page setting tags
+  pub html_links : List Seen
+  pub are_html_links : AreHtmlLinks tags html_links
+  pub html_targets : List Reported
+  pub are_html_targets : AreTargetReports finds name anchors html_links html_targets
+  pub is_list : text ≡ reports_of form (name_in form name) page ((labels ++ targets) ++ html_targets)
 
 -- each line begins with the name of the page that is checked, and nothing else is printed before it
 abbrev pub by_name : List ℕ → List ℕ
 by_name name = name
 
 -- known bytes grow by what is printed of the page that is named so
-abbrev pub IsPrintedTo : LinkForm → PageSetting → List ℕ → List ℕ → Option (List ℕ) → Option (List ℕ) → Type 0
+abbrev pub IsPrintedTo : LinkForm → Extensions → List ℕ → List ℕ → Option (List ℕ) → Option (List ℕ) → Type 0
 IsPrintedTo form setting name page old new = (text : List ℕ) × IsList form setting name page text × Appends old new text
 
 -- known bytes grow by what is printed of the page of this name where it is checked
-abbrev pub IsCheckedTo : (List ℕ → FileState → Type 0) → LinkForm → PageSetting → List ℕ → List ℕ → Option (List ℕ) → Option (List ℕ) → Type 0
+abbrev pub IsCheckedTo : (List ℕ → FileState → Type 0) → LinkForm → Extensions → List ℕ → List ℕ → Option (List ℕ) → Option (List ℕ) → Type 0
 IsCheckedTo finds form setting name page old new = (text : List ℕ) × IsChecked finds form setting name page text × Appends old new text

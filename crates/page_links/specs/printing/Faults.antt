@@ -1,6 +1,5 @@
 -- The lines that are printed of faults, in words and as JSON.
 use Rattle.std.specs.Prelude.{ℕ, List, [], ◌∷◌, ◌++◌, codes}
-use Rattle.std.specs.Fmt.{decimal}
 use Rattle.markdown_scanners_tree.specs.Ascii.{line_feed}
 use Rattle.page_events.specs.json.Json.{member, text_member, word_json}
 use Rattle.page_events.specs.printing.Lines.{quoted}

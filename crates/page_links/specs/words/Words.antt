@@ -2,7 +2,7 @@
 use Rattle.std.specs.Prelude.{ℕ, Bool, List, ◌∷◌, codes, if◌then◌else◌}
 use Rattle.std.specs.Borrow.{Bor}
 use Rattle.page_programs.specs.Words.{asks}
-use Rattle.page_events.specs.words.Words.{extension_options}
+use Rattle.page_programs.specs.Extensions.{event_options}
 use Rattle.page_links.specs.declared.printing.LinkForm.{LinkForm}
 use Rattle.page_links.specs.declared.printing.LinkForm.TheVariants as Form
 
@@ -14,7 +14,7 @@ check = codes "--check"
 
 -- the options that the program has of its own
 abbrev pub own_options : List (List ℕ)
-own_options = json ∷ check ∷ extension_options
+own_options = json ∷ check ∷ event_options
 
 -- a line is a JSON object where `--json` asks for that
 abbrev pub form_of : List (Bor (List ℕ)) → LinkForm

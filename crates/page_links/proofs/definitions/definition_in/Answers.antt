@@ -1,4 +1,4 @@
-use Rattle.std.proofs.Common.{ℕ, List, ◌∷◌, ◌∙◌}
+use Rattle.std.proofs.Common.{◌∷◌, ◌∙◌}
 use Rattle.std.proofs.lemmas.Result.{IfOk-weaker}
 use Rattle.page_links.proofs.DefinitionLemmas.{lines_taken}
 use Rattle.page_links.proofs.definitions.definition_in.Goals as goal

@@ -1,4 +1,4 @@
-use Rattle.std.proofs.Common.{List, [], ◌∷◌, ◌++◌, ◌≡◌, map, refl, sym, ap, subst, ◌∙◌, append_assoc, append-nil}
+use Rattle.std.proofs.Common.{List, [], ◌∷◌, ◌++◌, map, refl, sym, ap, subst, ◌∙◌, append_assoc, append-nil}
 use Rattle.markdown_blocks.specs.events.Events.{seen_event}
 use Rattle.page_links.specs.definitions.Definitions.{AreDefinedIn, Defined, seen_definition}
 use Rattle.page_links.proofs.definitions.definitions_of_page.Goals as goal
@@ -6,7 +6,7 @@ use Rattle.page_links.proofs.definitions.definitions_of_page.Goals as goal
 pub loop-found-init : goal.loop-found-init
 loop-found-init c = λ later gives. (
   later,
-  rw c.blocks_of.ensures at (c.new_ext-blocks.ensures.page later gives),
+  rw c.built.ensures at (c.new_ext-blocks.ensures.page later gives),
   λ rest are. rw (c.new-found.ensures.items) (rw c.new-outer.ensures.items at are),
 )
 

@@ -13,7 +13,7 @@ returns-then-is_check-clause-printed g c = λ known pages unchecked.
 
 pub returns-then-is_check-clause-checked : goal.returns-then-is_check-clause-checked
 returns-then-is_check-clause-checked g c =
-    rw (← c.form_of-form.ensures) (rw (← c.setting_of-setting.ensures) (λ known pages so. c.run_pages.ensures.handled known pages))
+    rw (← c.form_of-form.ensures) (rw (← c.extensions_of-setting.ensures) (λ known pages so. c.run_pages.ensures.handled known pages))
 
 pub returns-then-is_check-clause-only_checked : goal.returns-then-is_check-clause-only_checked
 returns-then-is_check-clause-only_checked g c = λ one. (c.run_pages.ensures.only_pages one, sym c.is_check.ensures ∙ c.if-is_check.true)
@@ -25,7 +25,7 @@ returns-then-is_check-clause-done g c = λ done.
       | inl none ↦ absurd (omega (arith, none, two))
       | inr one ↦ absurd (omega (arith, one, two))
     ]) pages in
-    let ends = checks_end (g.L.FindsFiles.finds c.args.finder.now) c.form_of-form.result c.setting_of-setting.result
+    let ends = checks_end (g.L.FindsFiles.finds c.args.finder.now) c.form_of-form.result c.extensions_of-setting.result
     g.R.Read.remaining g.R.StepReader.reads g.F.OpensFiles.opens g.F.File.Read.remaining g.F.File.StepReader.reads
     g.W.Write.contents g.W.StepWriter.writes g.V.StepWriter.writes (pages_of c.args.words.now)
     (world c.args.input.now c.args.files.now c.args.output.now c.args.faults.now)
@@ -41,7 +41,7 @@ returns-then-is_check-clause-done g c = λ done.
 
 pub returns-clause-printed : goal.returns-clause-printed
 returns-clause-printed g c =
-    rw (← c.form_of-form.ensures) (rw (← c.setting_of-setting.ensures) (λ known pages unchecked. c.run_program.ensures.printed known pages))
+    rw (← c.form_of-form.ensures) (rw (← c.extensions_of-setting.ensures) (λ known pages unchecked. c.run_program.ensures.printed known pages))
 
 pub returns-clause-checked : goal.returns-clause-checked
 returns-clause-checked g c = λ known pages so. absurd (false≢true (sym (sym c.is_check.ensures ∙ c.if-is_check.false) ∙ so))

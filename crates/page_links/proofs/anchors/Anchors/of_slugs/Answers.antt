@@ -1,4 +1,4 @@
-use Rattle.std.proofs.Common.{List, String, [], ◌∷◌, ◌++◌, ◌+◌, ◌<◌, ◌^◌, ◌≡◌, ap, append-nil, arith, length, map}
+use Rattle.std.proofs.Common.{[], ◌∷◌, ◌++◌, ◌+◌, ◌<◌, ◌^◌, ◌≡◌, ap, append-nil, arith, length, map}
 use Rattle.std.proofs.Common.{refl, string_bytes, subst, sym, take, ◌∙◌}
 use Rattle.std.proofs.lemmas.List.{at_drop_all, length-map, length-take, map_more}
 use Rattle.page_links.specs.anchors.Anchors.{anchor_of, anchors_of, is_among}
