@@ -13,10 +13,10 @@
  *     start.listItem(2); // { delimiter: "-", start: 0, indent: 4 }
  *     page.scanLinkDest(start.place + 4); // { end: 25, start: 21, stop: 24 }
  */
-import { DEFINITION_LISTS, FOOTNOTES, VERSION } from "./lib/c.mjs";
+import { VERSION } from "./lib/c.mjs";
 import { Block, Engine } from "./lib/engine.mjs";
 import { BadModule, isAnswer, ModuleMissing, WrongVersion } from "./lib/errors.mjs";
-import { byteOf, bytesOf, characterOf, flagOf, optionsOf, wrongType } from "./lib/given.mjs";
+import { bitsOf, byteOf, bytesOf, characterOf, optionsOf, wrongType } from "./lib/given.mjs";
 import { BlockReader } from "./lib/readers.mjs";
 import { Text } from "./lib/text.mjs";
 
@@ -65,7 +65,7 @@ export class Scanners {
      * NotUtf8 and LoneSurrogate as of `text`. (3 to 6)
      * @template {string | Uint8Array} Made
      * @param {Made} page
-     * @param {{ extensions?: import("./lib/text.mjs").Extension[] }} [options]
+     * @param {{ extensions?: import("./lib/extensions.mjs").BuiltExtension[] }} [options]
      */
     html(page, options = {}) {
         return this.text(page).html(options);
@@ -75,7 +75,7 @@ export class Scanners {
      * The same with its raw HTML and all its addresses, for text of one's own, as `Text.htmlUnsafe` says.
      * @template {string | Uint8Array} Made
      * @param {Made} page
-     * @param {{ extensions?: import("./lib/text.mjs").Extension[] }} [options]
+     * @param {{ extensions?: import("./lib/extensions.mjs").BuiltExtension[] }} [options]
      */
     htmlUnsafe(page, options = {}) {
         return this.text(page).htmlUnsafe(options);
@@ -85,21 +85,18 @@ export class Scanners {
      * The events of a page, as `Text.events` has them: their places are those of the string, in UTF-16 units, or of the bytes.
      * @template {string | Uint8Array} Made
      * @param {Made} page
-     * @param {{ extensions?: import("./lib/text.mjs").Extension[] }} [options]
+     * @param {{ extensions?: import("./lib/extensions.mjs").BuiltExtension[] }} [options]
      */
     events(page, options = {}) {
         return this.text(page, { units: typeof page === "string" ? "utf-16" : "utf-8" }).events(options);
     }
 
     /**
-     * What reads a page that comes piece by piece. Where `footnotes` is true, `[^label]:` begins a footnote definition, as on
-     * GitHub; where `definitionLists` is, `:` after a paragraph begins a definition of it. (3, 4, 5)
-     * @param {{ footnotes?: boolean, definitionLists?: boolean }} [options]
+     * What reads a page that comes piece by piece. `extensions` is as of `Text.scanBlocks`. (3, 4, 5)
+     * @param {{ extensions?: import("./lib/extensions.mjs").Extension[] }} [options]
      */
     blockReader(options = {}) {
-        const { footnotes = false, definitionLists = false } = optionsOf(options, "footnotes", "definitionLists");
-        const asked = flagOf("footnotes", footnotes) ? FOOTNOTES : 0;
-        return new BlockReader(this.#engine, flagOf("definitionLists", definitionLists) ? asked + DEFINITION_LISTS : asked);
+        return new BlockReader(this.#engine, bitsOf(optionsOf(options, "extensions").extensions));
     }
 
     /**

@@ -10,7 +10,7 @@ import { load } from "../fillaqut.mjs"; // where the package is installed, "fill
 
 /** @param {import("../fillaqut.mjs").Text<Uint8Array>} page */
 function printHeadings(page) {
-    for (const block of page.scanBlocks()) {
+    for (const block of page.scanBlocks(0, page.length, { extensions: ["tables"] })) {
         if (!block.level) continue;
         const lines = new TextDecoder().decode(block.content()).split(/[ \t]*(?:\r\n|\r|\n)/);
         console.log(`${block.line + 1}: ${"#".repeat(block.level)} ${lines.join(" ")}`);

@@ -18,6 +18,13 @@ export const SPACE_PENDING = 12;
 export const BAD_KIND = 13;
 export const BAD_STATE = 14;
 
+export const TABLES = 2;
+export const FOOTNOTES = 4;
+export const STRIKETHROUGH = 8;
+export const TASKS = 16;
+export const DEFINITION_LISTS = 4096;
+export const WIKILINKS = 32768;
+
 export const ALERT_NOTE = 1;
 export const ALERT_TIP = 2;
 export const ALERT_IMPORTANT = 3;
@@ -52,9 +59,6 @@ export const BLOCK_PARAGRAPH = 12;
 export const BLOCK_FOOTNOTE = 13;
 export const BLOCK_TERM_DEFINITION = 14;
 
-export const FOOTNOTES = 1;
-export const DEFINITION_LISTS = 2;
-
 export const INLINE_TEXT = 0;
 export const INLINE_ESCAPE = 1;
 export const INLINE_REFERENCE = 2;
@@ -74,19 +78,11 @@ export const INLINE_LINK_END = 15;
 export const INLINE_STRIKETHROUGH = 16;
 export const INLINE_STRIKETHROUGH_END = 17;
 
-export const STRIKETHROUGH = 1;
-export const WIKILINKS = 2;
-
 export const TARGET_INLINE = 1;
 export const TARGET_FULL = 2;
 export const TARGET_COLLAPSED = 3;
 export const TARGET_SHORTCUT = 4;
 export const TARGET_WIKI = 5;
-
-export const OPTION_TABLES = 2;
-export const OPTION_STRIKETHROUGH = 8;
-export const OPTION_TASKS = 16;
-export const OPTION_WIKILINKS = 32768;
 
 export const EVENT_START = 0;
 export const EVENT_END = 1;
@@ -525,10 +521,10 @@ export const FUNCTIONS = {
     interruptsParagraph: ["mds_interrupts_paragraph", "bool", ["pointer", "size_t"]],
     scanReferenceDefinition: ["mds_scan_reference_definition", "referenceDefinition", ["pointer", "size_t", "size_t", "size_t"]],
     scanTableHead: ["mds_scan_table_head", "text", ["pointer", "size_t", "pointer", "size_t"]],
-    scanBlocks: ["mds_scan_blocks", "blocks", ["pointer", "size_t", "pointer", "size_t"]],
+    scanBlocks: ["mds_scan_blocks", "blocks", ["pointer", "size_t", "uint32_t", "pointer", "size_t"]],
     blockContent: ["mds_block_content", "text", ["pointer", "size_t", "pointer", "pointer", "size_t", "size_t", "pointer", "size_t"]],
     blockLine: ["mds_block_line", "lineBlock", ["pointer", "size_t", "bool", "pointer", "size_t", "pointer", "pointer"]],
-    scanLists: ["mds_scan_lists", "blocks", ["pointer", "size_t", "pointer", "size_t"]],
+    scanLists: ["mds_scan_lists", "blocks", ["pointer", "size_t", "uint32_t", "pointer", "size_t"]],
     scanInlines: ["mds_scan_inlines", "inlines", ["pointer", "size_t", "pointer", "size_t", "uint32_t", "pointer", "size_t"]],
     html: ["mds_html", "text", ["pointer", "size_t", "uint32_t", "pointer", "size_t", "pointer", "size_t"]],
     htmlUnsafe: ["mds_html_unsafe", "text", ["pointer", "size_t", "uint32_t", "pointer", "size_t"]],

@@ -81,17 +81,17 @@ const LINKS = {
 };
 
 /**
- * The events of a text, a page that is read with these options.
+ * The events of a text, a page that is read with these bits of extensions.
  * @param {import("./source.mjs").Source<any>} page
  * @param {import("./engine.mjs").Engine} engine
- * @param {number} options
+ * @param {number} bits
  */
-export function eventsOf(page, engine, options) {
+export function eventsOf(page, engine, bits) {
     const { length } = page.bytes;
     for (let count = Math.ceil(length / 8) + ROOM, size = length + ROOM; ; ) {
         engine.bring(page.block);
         const [records, texts] = [engine.room(count * SIZE), engine.room(size)];
-        const found = engine.calls.events(page.block.address, length, options, records, count, texts, size);
+        const found = engine.calls.events(page.block.address, length, bits, records, count, texts, size);
         if (found.status !== c.TOO_SHORT) {
             isAnswer(found.status);
             const words = wordsOf(engine.heap.bytes.subarray(texts, texts + found.length), page.isString);

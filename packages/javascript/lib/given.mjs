@@ -1,5 +1,9 @@
 /** What calls are given: each is refused by its name where it is of another type, and where there is no such word. */
 import { LoneSurrogate } from "./errors.mjs";
+import { BITS, NOT_BUILT } from "./extensions.mjs";
+
+/** @typedef {import("./extensions.mjs").Extension} Extension */
+/** @typedef {import("./extensions.mjs").BuiltExtension} BuiltExtension */
 
 const ENCODER = new TextEncoder();
 
@@ -91,6 +95,34 @@ export function flagOf(name, given) {
 export function listOf(name, given) {
     if (!Array.isArray(given)) throw wrongType(name, given, "a list");
     return given;
+}
+
+/**
+ * The bits of these extensions.
+ * @param {Extension[]} [extensions]
+ */
+export function bitsOf(extensions) {
+    return listOf("extensions", extensions ?? []).reduce((bits, extension) => bits | bitOf(extension), 0);
+}
+
+/**
+ * The same, where events and HTML are built of each of them.
+ * @param {BuiltExtension[]} [extensions]
+ */
+export function builtBitsOf(extensions) {
+    const bits = bitsOf(extensions);
+    const left = extensions?.find((extension) => NOT_BUILT.has(extension));
+    if (left) throw new TypeError(`events and HTML are not built of the extension ${written(left)} yet`);
+    return bits;
+}
+
+/**
+ * The bit of an extension.
+ * @param {Extension} name
+ */
+function bitOf(name) {
+    if (Object.hasOwn(BITS, name)) return BITS[name];
+    throw new TypeError(`there is no extension ${written(name)}, but ${Object.keys(BITS).join(", ")}`);
 }
 
 /**

@@ -3,7 +3,7 @@ import * as c from "./c.mjs";
 import { Blocks } from "./blocks.mjs";
 import { Block, NONE } from "./engine.mjs";
 import { isAnswer } from "./errors.mjs";
-import { bytesOf, flagOf, listOf, optionsOf } from "./given.mjs";
+import { bitsOf, bytesOf, listOf, optionsOf } from "./given.mjs";
 
 /** @typedef {import("./blocks.mjs").Span} Span */
 /** @typedef {"text" | "escape" | "reference" | "html" | "softBreak" | "hardBreak"} PlainKind delimiters in no emphasis and brackets of no link are text */
@@ -55,36 +55,33 @@ export class Inlines extends Blocks {
      * the text, and they nest: each that begins ends. Text may stand in several, one after another.
      *
      * `labels` are those that are defined, each as `scanLinkLabel` answers it; what refers to a label that matches none of them is
-     * text. Where `strikethrough` is true, text between `~` and `~`, or between `~~` and `~~`, is struck through (GitHub Flavored
-     * Markdown 0.29, section 6.5). Where `wikilinks` is true, `[[target]]` and `[[target|text]]` are links, and after `!` images
-     * (Obsidian's internal links). NotUtf8. (6)
+     * text. Of `extensions` "strikethrough" and "wikilinks" are read in a text; the others change nothing. NotUtf8. (6)
      * @param {number} [at]
      * @param {number} [end]
-     * @param {{ labels?: (string | Uint8Array)[], strikethrough?: boolean, wikilinks?: boolean }} [options]
+     * @param {{ labels?: (string | Uint8Array)[], extensions?: import("./extensions.mjs").Extension[] }} [options]
      * @returns {Generator<Inline, void, void>}
      */
     scanInlines(at = 0, end = this.length, options = {}) {
-        const { labels, strikethrough = false, wikilinks = false } = optionsOf(options, "labels", "strikethrough", "wikilinks");
-        const struck = flagOf("strikethrough", strikethrough) ? c.STRIKETHROUGH : 0;
-        const extensions = struck | (flagOf("wikilinks", wikilinks) ? c.WIKILINKS : 0);
+        const { labels, extensions } = optionsOf(options, "labels", "extensions");
+        const bits = bitsOf(extensions);
         const [from, to] = this.limits(at, end);
-        return this.#each(from, this.#rows(from, to, new Labels(listOf("labels", labels ?? [])), extensions));
+        return this.#each(from, this.#rows(from, to, new Labels(listOf("labels", labels ?? [])), bits));
     }
 
     /**
      * @param {number} from
      * @param {number} to
      * @param {Labels} labels
-     * @param {number} extensions
+     * @param {number} bits
      * @returns {Record<string, number>[]}
      */
-    #rows(from, to, labels, extensions) {
+    #rows(from, to, labels, bits) {
         const { engine } = this;
         for (let capacity = Math.ceil((to - from) / 16) + 8; ; ) {
             engine.bring(this.block, labels.block);
             const views = engine.rows("view", labels.views());
             const at = engine.room(capacity * SIZE);
-            const given = [this.block.address + from, to - from, views, labels.length, extensions, at, capacity];
+            const given = [this.block.address + from, to - from, views, labels.length, bits, at, capacity];
             const { status, count } = engine.calls.scanInlines(...given);
             if (status !== c.TOO_SHORT) {
                 isAnswer(status);

@@ -1,14 +1,15 @@
 /** The blocks of a page, and their content. Sections in brackets are those of CommonMark 0.31.2. */
 import * as c from "./c.mjs";
 import { isAnswer } from "./errors.mjs";
+import { bitsOf, optionsOf } from "./given.mjs";
 import { Source } from "./source.mjs";
 
 /** @typedef {"break" | "heading" | "setext" | "indented" | "fenced" | "html" | "table" | "definition" | "paragraph"} RealKind */
 /** @typedef {"blank" | RealKind} BlockKind blank lines in a row are no block, and come as one */
 /** @typedef {{ kind: "quote", place: number }} BlockQuote its marker stands at the place (5.1) */
 /** @typedef {{ kind: "item", place: number, delimiter: string, start: number, width: number }} Item (5.2) */
-/** @typedef {{ kind: "footnote", place: number }} Footnote a footnote definition, where it is asked for (GitHub) */
-/** @typedef {{ kind: "termDefinition", place: number, width: number }} TermDefinition of the paragraph before it, where it is asked for */
+/** @typedef {{ kind: "footnote", place: number }} Footnote a footnote definition, with the extension "footnotes" (GitHub) */
+/** @typedef {{ kind: "termDefinition", place: number, width: number }} TermDefinition of the paragraph before it, with "definition-lists" */
 /** @typedef {BlockQuote | Item | Footnote | TermDefinition} Container */
 /** @typedef {{ delimiter: string, start: number, isLoose: boolean, depth: number, line: number, lines: number }} List (5.3) */
 
@@ -120,26 +121,34 @@ export class Pages extends Source {
     /**
      * The leaf blocks of the page between two places, from the first to the last, with the containers that they stand in. Their
      * lines, joined, are the page. A paragraph that begins with link reference definitions comes in parts, each definition as a
-     * block of its own. (3, 4, 5)
+     * block of its own. Of `extensions` "tables", "footnotes" and "definition-lists" begin blocks; the others change nothing. (3, 4, 5)
+     * @param {number} [at]
+     * @param {number} [end]
+     * @param {{ extensions?: import("./extensions.mjs").Extension[] }} [options]
      */
-    scanBlocks(at = 0, end = this.length) {
+    scanBlocks(at = 0, end = this.length, options = {}) {
+        const bits = bitsOf(optionsOf(options, "extensions").extensions);
         const [from, to] = this.limits(at, end);
-        return this.#leaves(from, to, this.#rows(from, to));
+        return this.#leaves(from, to, this.#rows(from, to, bits));
     }
 
     /**
      * The lists of the page between two places, each where it ends: a list in an item comes before the list of that item. `depth` is
      * how many containers a list stands in, `line` how many lines stand before it, and `lines` how many it has. A loose one has a
-     * blank line between two of its items, or between two blocks directly in one. (5.3)
+     * blank line between two of its items, or between two blocks directly in one. `extensions` is as of `scanBlocks`. (5.3)
+     * @param {number} [at]
+     * @param {number} [end]
+     * @param {{ extensions?: import("./extensions.mjs").Extension[] }} [options]
      * @returns {List[]}
      */
-    scanLists(at = 0, end = this.length) {
+    scanLists(at = 0, end = this.length, options = {}) {
+        const bits = bitsOf(optionsOf(options, "extensions").extensions);
         const [from, to] = this.limits(at, end);
         const { size } = c.STRUCTS.list;
         for (let capacity = Math.ceil((to - from) / 32) + 8; ; ) {
             this.engine.bring(this.block);
             const first = this.engine.room(capacity * size);
-            const { status, count } = this.engine.calls.scanLists(this.block.address + from, to - from, first, capacity);
+            const { status, count } = this.engine.calls.scanLists(this.block.address + from, to - from, bits, first, capacity);
             if (status !== c.TOO_SHORT) {
                 isAnswer(status);
                 return Array.from({ length: count }, (_, index) => listOf(this.engine.read("list", first + index * size)));
@@ -151,12 +160,13 @@ export class Pages extends Source {
     /**
      * @param {number} from
      * @param {number} to
+     * @param {number} bits
      */
-    #rows(from, to) {
+    #rows(from, to, bits) {
         for (let capacity = Math.ceil((to - from) / 32) + 8; ; ) {
             this.engine.bring(this.block);
             const at = this.engine.room(capacity * SIZE);
-            const { status, count } = this.engine.calls.scanBlocks(this.block.address + from, to - from, at, capacity);
+            const { status, count } = this.engine.calls.scanBlocks(this.block.address + from, to - from, bits, at, capacity);
             if (status !== c.TOO_SHORT) {
                 isAnswer(status);
                 return new Rows(this.engine.heap.bytes.slice(at, at + count * SIZE));

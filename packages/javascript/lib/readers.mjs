@@ -15,12 +15,12 @@ const MARK = [0xef, 0xbb, 0xbf];
  * Reads a page that comes piece by piece, and returns each leaf block once what has come shows where it ends. It keeps what is not
  * returned yet, and the containers that are open, so that it has memory for the longest block and the deepest nesting.
  *
- * A block is as `scanBlocks` has it of the whole page, with the places of the page's bytes, and its content as bytes; but a
+ * A block is as `scanBlocks` has it of the whole page with these extensions, with the places of the page's bytes, and its content as bytes; but a
  * paragraph that begins with link reference definitions is one block, with these at the front of its content. (3, 4, 5)
  */
 export class BlockReader {
     #engine;
-    #extensions;
+    #bits;
     /** @type {Uint8Array[]} What is not returned yet. */
     #pieces = [];
     /** How many bytes these have, and have to have before they are read again. */
@@ -40,11 +40,11 @@ export class BlockReader {
 
     /**
      * @param {import("./engine.mjs").Engine} engine
-     * @param {number} extensions
+     * @param {number} bits of extensions
      */
-    constructor(engine, extensions) {
+    constructor(engine, bits) {
         this.#engine = engine;
-        this.#extensions = extensions;
+        this.#bits = bits;
     }
 
     /**
@@ -101,7 +101,7 @@ export class BlockReader {
             this.#engine.bring(text);
             const capacity = this.#structs.length / SIZE;
             const buffer = this.#engine.room(this.#structs.length);
-            const open = this.#engine.rows("openBlocks", [{ depth: this.#open.length, extensions: this.#extensions, state: this.#state }]);
+            const open = this.#engine.rows("openBlocks", [{ depth: this.#open.length, extensions: this.#bits, state: this.#state }]);
             const block = this.#engine.room(SIZE);
             heap.bytes.set(this.#structs, buffer);
             const { status, kept, depth } = calls.blockLine(text.address + at, this.#size, hasEnded, buffer, capacity, open, block);

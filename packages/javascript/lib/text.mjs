@@ -3,7 +3,7 @@ import * as c from "./c.mjs";
 import { Block, NONE } from "./engine.mjs";
 import { isAnswer } from "./errors.mjs";
 import { eventsOf } from "./events.mjs";
-import { flagOf, listOf, optionsOf, sizeOf, written, wrongType } from "./given.mjs";
+import { builtBitsOf, flagOf, listOf, optionsOf, sizeOf, wrongType } from "./given.mjs";
 import { Inlines } from "./inlines.mjs";
 import { ended } from "./line_start.mjs";
 
@@ -13,17 +13,10 @@ const REFERENCE_ROOM = 6;
 const LABEL_ROOM = 4 * 999;
 /** For HTML, besides twice the text. */
 const HTML_ROOM = 64;
-/** @type {Record<Extension, number>} */
-const OPTIONS = {
-    strikethrough: c.OPTION_STRIKETHROUGH,
-    tables: c.OPTION_TABLES,
-    tasks: c.OPTION_TASKS,
-    wikilinks: c.OPTION_WIKILINKS,
-};
 
 /** @typedef {{ end: number, start: number, stop: number }} Part its own bytes are those from `start` to `stop` */
 /** @typedef {1 | 2 | 3 | 4 | 5 | 6 | 7} HtmlBlockKind the number of a start condition */
-/** @typedef {"strikethrough" | "tables" | "tasks" | "wikilinks"} Extension of GitHub Flavored Markdown 0.29, but for the last */
+/** @typedef {import("./extensions.mjs").BuiltExtension} BuiltExtension */
 
 /**
  * A text, with the scanners of lines and blocks, and those of inline text.
@@ -256,19 +249,19 @@ export class Text extends Inlines {
      * The HTML of the text, a page, safe for pages by people who are not trusted: raw HTML is written as text, links and images lead to
      * addresses that are relative or have one of the schemes http, https, mailto and tel, others being written as empty, and links say
      * `rel="nofollow noopener"`. All else is as the examples of CommonMark have it. NotUtf8. (3 to 6)
-     * @param {{ extensions?: Extension[] }} [options]
+     * @param {{ extensions?: BuiltExtension[] }} [options]
      */
     html(options = {}) {
-        return this.writtenHtml("html", bitsOf(optionsOf(options, "extensions").extensions), 0, 0);
+        return this.writtenHtml("html", builtBitsOf(optionsOf(options, "extensions").extensions), 0, 0);
     }
 
     /**
      * The same, as the examples write it: raw HTML stands in it as it is, and links lead anywhere. It is for text of one's own, and `html`
      * for text by others. NotUtf8. (3 to 6)
-     * @param {{ extensions?: Extension[] }} [options]
+     * @param {{ extensions?: BuiltExtension[] }} [options]
      */
     htmlUnsafe(options = {}) {
-        return this.writtenHtml("htmlUnsafe", bitsOf(optionsOf(options, "extensions").extensions));
+        return this.writtenHtml("htmlUnsafe", builtBitsOf(optionsOf(options, "extensions").extensions));
     }
 
     /**
@@ -291,11 +284,11 @@ export class Text extends Inlines {
     /**
      * The events of the text, a page, in order: where each element begins and ends, and what stands in it. Each that begins ends, and
      * they nest; so do their places, which are those of the text. `extensions` is as of `html`. NotUtf8. (3 to 6)
-     * @param {{ extensions?: Extension[] }} [options]
+     * @param {{ extensions?: BuiltExtension[] }} [options]
      * @returns {import("./events.mjs").Event<Made>[]}
      */
     events(options = {}) {
-        return eventsOf(this, this.engine, bitsOf(optionsOf(options, "extensions").extensions));
+        return eventsOf(this, this.engine, builtBitsOf(optionsOf(options, "extensions").extensions));
     }
 
     /** The key of the whole text as a label: two labels match exactly where their keys are equal. NotUtf8. (6.3) */
@@ -399,21 +392,4 @@ export class HtmlScanGuard {
         this.passed += found.passed;
         return isAnswer(found.status) ? found.end : null;
     }
-}
-
-/**
- * The bits of these extensions.
- * @param {Extension[]} [extensions]
- */
-function bitsOf(extensions) {
-    return listOf("extensions", extensions ?? []).reduce((bits, extension) => bits | optionOf(extension), 0);
-}
-
-/**
- * The bit of an extension.
- * @param {Extension} name
- */
-function optionOf(name) {
-    if (Object.hasOwn(OPTIONS, name)) return OPTIONS[name];
-    throw new TypeError(`there is no extension ${written(name)}, but ${Object.keys(OPTIONS).join(", ")}`);
 }

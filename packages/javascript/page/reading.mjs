@@ -39,7 +39,7 @@ export class Reading {
 
     /** Reads the page, in steps. */
     *read() {
-        for (const block of this.page.scanBlocks()) {
+        for (const block of this.page.scanBlocks(0, this.page.length, { extensions: ["tables"] })) {
             for (const _ of this.#readBlock(block)) if (this.lines.length % STEP === 0) yield;
         }
         this.#resolve();

@@ -10,7 +10,8 @@ const scanners = await mds.load(MODULE);
 
 function containerWord(container, at) {
     const { kind, delimiter, start, width, place } = container;
-    return kind === "quote" ? `quote@${place - at}` : `item${delimiter}${start},${width}@${place - at}`;
+    if (kind === "termDefinition") return `term${width}@${place - at}`;
+    return kind === "item" ? `item${delimiter}${start},${width}@${place - at}` : `${kind}@${place - at}`;
 }
 
 function leafWord(block) {
@@ -19,11 +20,11 @@ function leafWord(block) {
 }
 
 /** What begins and ends, and what stands there; and the contents. */
-function described(text, at = 0, end = text.length) {
+function described(text, extensions, at = 0, end = text.length) {
     const said = [];
     const contents = [];
     let depth = 0;
-    for (const block of text.scanBlocks(at, end)) {
+    for (const block of text.scanBlocks(at, end, { extensions })) {
         for (; depth > block.kept; depth--) said.push("end");
         for (const container of block.containers.slice(block.kept)) said.push(containerWord(container, at));
         said.push(leafWord(block));
@@ -35,18 +36,18 @@ function described(text, at = 0, end = text.length) {
 }
 
 /** What is described of a page by itself, inside of other text, as bytes and in UTF-16 units. */
-const ways = (page) => [
-    described(scanners.text(page)),
-    described(scanners.text(Buffer.from(page))),
-    described(scanners.text(`é🍔${page}- é`), 6, 6 + Buffer.byteLength(page)),
-    described(scanners.text(`é🍔${page}- é`, { units: "utf-16" }), 3, 3 + page.length),
+const ways = (page, extensions) => [
+    described(scanners.text(page), extensions),
+    described(scanners.text(Buffer.from(page)), extensions),
+    described(scanners.text(`é🍔${page}- é`), extensions, 6, 6 + Buffer.byteLength(page)),
+    described(scanners.text(`é🍔${page}- é`, { units: "utf-16" }), extensions, 3, 3 + page.length),
 ];
 
 for (const [which, call] of ["scan_blocks", "block_content"].entries()) {
     test(`each row of ${call}`, () => {
         const rows = pages(call);
-        for (const { page, answer, where } of rows) {
-            for (const found of ways(page)) assert.equal(found[which], answer, where);
+        for (const { page, words, answer, where } of rows) {
+            for (const found of ways(page, words)) assert.equal(found[which], answer, where);
         }
         hold(call, rows.length);
     });
@@ -61,6 +62,19 @@ test("the fields of blocks", () => {
     assert.deepEqual(first.containers, [{ kind: "quote", place: 0 }]);
     assert.deepEqual(third.containers, [{ kind: "item", place: 5, delimiter: ")", start: 1, width: 3 }]);
     assert.deepEqual([third.fence, third.level, third.htmlKind, third.columns], [{ character: "`", count: 4 }, null, null, null]);
+});
+
+test("extensions of blocks and lists", () => {
+    const text = scanners.text("|a|\n|-|\n");
+    const kinds = (extensions) => Array.from(text.scanBlocks(0, text.length, { extensions }), (block) => block.kind);
+    assert.deepEqual([kinds(["tables", "wikilinks"]), kinds([]), kinds(undefined)], [["table"], ["paragraph"], ["paragraph"]]);
+    assert.deepEqual(kinds(["footnotes", "strikethrough", "tasks", "definition-lists", "wikilinks"]), ["paragraph"]);
+    const unknown = { name: "TypeError", message: /no extension "definitionLists", but tables/ };
+    for (const call of ["scanBlocks", "scanLists"]) {
+        assert.throws(() => text[call](0, 1, { extensions: ["definitionLists"] }), unknown);
+        assert.throws(() => text[call](0, 1, { extensions: "tables" }), { name: "TypeError", message: /extensions/ });
+        assert.throws(() => text[call](0, 1, { tables: true }), { name: "TypeError", message: /tables/ });
+    }
 });
 
 test("content of any bytes, longer than its lines, and after other texts", () => {

@@ -78,7 +78,8 @@ test("what is refused", () => {
     assert.deepEqual(scanners.events(""), []);
     assert.throws(() => scanners.events(new Uint8Array([97, 255])), mds.NotUtf8);
     assert.throws(() => scanners.events("\ud800"), mds.LoneSurrogate);
-    assert.throws(() => scanners.events("a", { extensions: ["footnotes"] }), { name: "TypeError", message: /there is no extension/ });
+    assert.throws(() => scanners.events("a", { extensions: ["footnote"] }), { name: "TypeError", message: /there is no extension/ });
+    assert.throws(() => scanners.events("a", { extensions: ["footnotes"] }), { name: "TypeError", message: /not built of the extension "footnotes" yet/ });
     assert.throws(() => scanners.events("a", { safe: true }), { name: "TypeError", message: /safe/ });
     assert.throws(() => scanners.events(null), TypeError);
 });

@@ -41,8 +41,13 @@ test("html is safe", () => {
 
 test("unknown extensions", () => {
     assert.equal(scanners.htmlUnsafe("[[a|b]]", { extensions: ["wikilinks"] }), '<p><a href="a">b</a></p>\n');
-    for (const extension of ["footnotes", "table", "Tables", "", "toString", 2, null]) {
+    for (const extension of ["table", "Tables", "", "toString", 2, null]) {
         assert.throws(() => scanners.html("a", { extensions: ["tables", extension] }), { name: "TypeError", message: /there is no extension/ });
+    }
+    for (const extension of ["footnotes", "definition-lists"]) {
+        const why = { name: "TypeError", message: `events and HTML are not built of the extension "${extension}" yet` };
+        assert.throws(() => scanners.html("a", { extensions: [extension] }), why);
+        assert.throws(() => scanners.htmlUnsafe("a", { extensions: ["tables", extension] }), why);
     }
     assert.throws(() => scanners.html("a", { extensions: "tables" }), { name: "TypeError", message: /extensions/ });
 });

@@ -38,8 +38,7 @@ function described(text, { extensions, definitions }, at = 0, end = text.length)
         if (inline.kind === "html") return `<html>${part(inline)}</html>`;
         return inline.kind === "text" ? part(inline) : meaning(part(inline));
     };
-    const options = Object.fromEntries(extensions.map((extension) => [extension, true]));
-    return Array.from(text.scanInlines(at, end, { labels: definitions.map(([name]) => name), ...options }), said).join("");
+    return Array.from(text.scanInlines(at, end, { labels: definitions.map(([name]) => name), extensions }), said).join("");
 }
 
 test("each row, by itself, inside of other text, as bytes and in UTF-16 units", () => {
@@ -71,30 +70,32 @@ test("the fields of inlines", () => {
 
 test("strikethrough, where it is asked for: examples of GitHub Flavored Markdown 0.29", () => {
     const marks = { strikethrough: "<del>", strikethroughEnd: "</del>" };
-    const struck = (text, options) =>
-        Array.from(scanners.text(text).scanInlines(0, text.length, options), (inline) => marks[inline.kind] ?? text.slice(inline.start, inline.stop)).join("");
+    const part = (text, { kind, start, stop }) => marks[kind] ?? text.slice(start, stop);
+    const struck = (text, extensions) =>
+        Array.from(scanners.text(text).scanInlines(0, text.length, { extensions }), (inline) => part(text, inline)).join("");
     const text = "~~Hi~~ Hello, ~there~ world!"; // 491
-    assert.equal(struck(text, { strikethrough: true }), "<del>Hi</del> Hello, <del>there</del> world!");
-    assert.equal(struck(text, { strikethrough: false }), text);
+    assert.equal(struck(text, ["strikethrough"]), "<del>Hi</del> Hello, <del>there</del> world!");
+    assert.equal(struck(text, ["tables", "footnotes", "tasks", "definition-lists", "wikilinks"]), text);
     assert.equal(struck(text), text);
-    for (const part of ["This ~~has a", "new paragraph~~."]) assert.equal(struck(part, { strikethrough: true }), part); // 492
-    assert.throws(() => struck(text, { strikethrough: 1 }), TypeError);
+    for (const line of ["This ~~has a", "new paragraph~~."]) assert.equal(struck(line, ["strikethrough"]), line); // 492
+    assert.throws(() => struck(text, ["strike"]), { name: "TypeError", message: /no extension "strike", but tables/ });
+    assert.throws(() => struck(text, "strikethrough"), { name: "TypeError", message: /extensions/ });
+    assert.throws(() => scanners.text(text).scanInlines(0, 1, { strikethrough: true }), { name: "TypeError", message: /strikethrough/ });
 });
 
 test("wikilinks, where they are asked for", () => {
     const span = (start, stop) => ({ start, stop });
-    const inlines = (text, options) => [...scanners.text(text).scanInlines(0, text.length, options)];
-    const [image, text, end, link, last] = inlines("![[ab|c]][[d]]", { wikilinks: true });
+    const inlines = (text, extensions) => [...scanners.text(text).scanInlines(0, text.length, { extensions })];
+    const [image, text, end, link, last] = inlines("![[ab|c]][[d]]", ["wikilinks"]);
     assert.deepEqual(image, { kind: "image", ...span(0, 6), link: { target: "wiki", end: 9, destination: span(3, 5) } });
     assert.deepEqual([text, end], [{ kind: "text", ...span(6, 7) }, { kind: "linkEnd", ...span(7, 9) }]);
     assert.deepEqual(link, { kind: "link", ...span(9, 12), link: { target: "wiki", end: 14, destination: span(11, 12) } });
     assert.deepEqual(last, { kind: "linkEnd", ...span(12, 14) });
-    const kinds = (text, options) => new Set(inlines(text, options).map((inline) => inline.kind));
-    for (const none of ["[[]]", "[[a]", "[[a|b](c)"]) assert.deepEqual(kinds(none, { wikilinks: true }), new Set(["text"]));
-    assert.deepEqual(kinds("~[[a]]~", {}), new Set(["text"]));
-    assert.deepEqual(kinds("~[[a]]~", { wikilinks: true }), new Set(["text", "link", "linkEnd"]));
-    assert(kinds("~[[a]]~", { strikethrough: true, wikilinks: true }).has("strikethrough"));
-    assert.throws(() => inlines("a", { wikilinks: 1 }), TypeError);
+    const kinds = (text, extensions) => new Set(inlines(text, extensions).map((inline) => inline.kind));
+    for (const none of ["[[]]", "[[a]", "[[a|b](c)"]) assert.deepEqual(kinds(none, ["wikilinks"]), new Set(["text"]));
+    assert.deepEqual(kinds("~[[a]]~", []), new Set(["text"]));
+    assert.deepEqual(kinds("~[[a]]~", ["wikilinks"]), new Set(["text", "link", "linkEnd"]));
+    assert(kinds("~[[a]]~", ["strikethrough", "wikilinks"]).has("strikethrough"));
 });
 
 test("many inlines and labels", () => {

@@ -8,14 +8,14 @@ import { hold } from "./totals.mjs";
 
 const scanners = await mds.load(MODULE);
 const described = (list) => `${list.delimiter}${list.start}@${list.depth}:${list.line + 1}-${list.line + list.lines} ${list.isLoose ? "loose" : "tight"}`;
-const all = (text, at, end) => text.scanLists(at, end).map(described).join(" ");
+const all = (text, extensions, at, end) => text.scanLists(at, end, { extensions }).map(described).join(" ");
 
 test("each row, by itself, as bytes and inside of other text", () => {
     const rows = pages("scan_lists");
-    for (const { page, answer, where } of rows) {
-        assert.equal(all(scanners.text(page)), answer, where);
-        assert.equal(all(scanners.text(Buffer.from(page))), answer, where);
-        assert.equal(all(scanners.text(`- é\n${page}- b\n`, { units: "utf-16" }), 4, 4 + page.length), answer, where);
+    for (const { page, words, answer, where } of rows) {
+        assert.equal(all(scanners.text(page), words), answer, where);
+        assert.equal(all(scanners.text(Buffer.from(page)), words), answer, where);
+        assert.equal(all(scanners.text(`- é\n${page}- b\n`, { units: "utf-16" }), words, 4, 4 + page.length), answer, where);
     }
     hold("scan_lists", rows.length);
 });

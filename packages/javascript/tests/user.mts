@@ -11,10 +11,10 @@ const made: [string, Uint8Array] = [page.unescape(6, undefined, { inTable: false
 const label: { end: number; text: string; start: number | null } | null = page.scanLinkLabel(7);
 const title: { start: number; stop: number } | null | undefined = page.scanReferenceDefinition(0, 3, { maxNext: 3 })?.title;
 const run: "*" | "_" | undefined = page.scanDelimiterRun(0, 3, { begin: 0 })?.character;
-const contents: string[] = Array.from(page.scanBlocks(), (it) => it.content());
+const contents: string[] = Array.from(page.scanBlocks(0, 3, { extensions: ["tables", "footnotes"] }), (it) => it.content());
 const places: number[][] = Array.from(bytes.scanBlocks(), (it) => it.containers.map((container) => container.place));
 const inlines: (string | undefined)[] = Array.from(
-    page.scanInlines(0, 3, { labels: ["a", new Uint8Array([98])], strikethrough: true, wikilinks: true }),
+    page.scanInlines(0, 3, { labels: ["a", new Uint8Array([98])], extensions: ["strikethrough", "wikilinks"] }),
     (it) => ("link" in it ? it.link.target : it.kind),
 );
 const html: [string, Uint8Array] = [scanners.html("*a*"), bytes.htmlUnsafe({ extensions: ["tables", "tasks"] })];
@@ -42,7 +42,11 @@ page.scanDelimiterRun(0, 3, { start: 0 });
 // @ts-expect-error labels are a list
 page.scanInlines(0, 3, { labels: "a" });
 // @ts-expect-error there is no such extension
+page.scanBlocks(0, 3, { extensions: ["footnote"] });
+// @ts-expect-error HTML is not built of this extension
 scanners.html("a", { extensions: ["footnotes"] });
+// @ts-expect-error extensions are names
+scanners.blockReader({ footnotes: true });
 // @ts-expect-error there is no such option
 scanners.events("a", { safe: true });
 // @ts-expect-error a heading leads nowhere

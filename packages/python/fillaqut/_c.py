@@ -21,6 +21,13 @@ SPACE_PENDING = 12
 BAD_KIND = 13
 BAD_STATE = 14
 
+TABLES = 2
+FOOTNOTES = 4
+STRIKETHROUGH = 8
+TASKS = 16
+DEFINITION_LISTS = 4096
+WIKILINKS = 32768
+
 ALERT_NOTE = 1
 ALERT_TIP = 2
 ALERT_IMPORTANT = 3
@@ -55,9 +62,6 @@ BLOCK_PARAGRAPH = 12
 BLOCK_FOOTNOTE = 13
 BLOCK_TERM_DEFINITION = 14
 
-FOOTNOTES = 1
-DEFINITION_LISTS = 2
-
 INLINE_TEXT = 0
 INLINE_ESCAPE = 1
 INLINE_REFERENCE = 2
@@ -77,19 +81,11 @@ INLINE_LINK_END = 15
 INLINE_STRIKETHROUGH = 16
 INLINE_STRIKETHROUGH_END = 17
 
-STRIKETHROUGH = 1
-WIKILINKS = 2
-
 TARGET_INLINE = 1
 TARGET_FULL = 2
 TARGET_COLLAPSED = 3
 TARGET_SHORTCUT = 4
 TARGET_WIKI = 5
-
-OPTION_TABLES = 2
-OPTION_STRIKETHROUGH = 8
-OPTION_TASKS = 16
-OPTION_WIKILINKS = 32768
 
 EVENT_START = 0
 EVENT_END = 1
@@ -616,10 +612,10 @@ FUNCTIONS: dict[str, tuple[Any, tuple[Any, ...]]] = {
     "interrupts_paragraph": (c_bool, (c_void_p, c_size_t)),
     "scan_reference_definition": (ReferenceDefinition, (c_void_p, c_size_t, c_size_t, c_size_t)),
     "scan_table_head": (Text, (c_void_p, c_size_t, c_void_p, c_size_t)),
-    "scan_blocks": (Blocks, (c_void_p, c_size_t, c_void_p, c_size_t)),
+    "scan_blocks": (Blocks, (c_void_p, c_size_t, c_uint32, c_void_p, c_size_t)),
     "block_content": (Text, (c_void_p, c_size_t, c_void_p, c_void_p, c_size_t, c_size_t, c_void_p, c_size_t)),
     "block_line": (LineBlock, (c_void_p, c_size_t, c_bool, c_void_p, c_size_t, c_void_p, c_void_p)),
-    "scan_lists": (Blocks, (c_void_p, c_size_t, c_void_p, c_size_t)),
+    "scan_lists": (Blocks, (c_void_p, c_size_t, c_uint32, c_void_p, c_size_t)),
     "scan_inlines": (Inlines, (c_void_p, c_size_t, c_void_p, c_size_t, c_uint32, c_void_p, c_size_t)),
     "html": (Text, (c_void_p, c_size_t, c_uint32, c_void_p, c_size_t, c_void_p, c_size_t)),
     "html_unsafe": (Text, (c_void_p, c_size_t, c_uint32, c_void_p, c_size_t)),

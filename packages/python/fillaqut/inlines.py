@@ -7,9 +7,10 @@ from typing import Any, Callable, Iterable, Iterator, NamedTuple, Optional
 
 from . import _c
 from ._library import function
-from ._pages import Page, flag, front
+from ._pages import Page, front
 from .blocks import Span
 from .errors import stated
+from .extensions import bits_of
 
 _scan_inlines: Callable[..., _c.Inlines] = function("scan_inlines")
 
@@ -77,34 +78,31 @@ def scan_inlines(
     end: Optional[int] = None,
     *,
     labels: Iterable[Page] = (),
-    strikethrough: bool = False,
-    wikilinks: bool = False,
+    extensions: Iterable[str] = (),
 ) -> Iterator[Inline]:
     r"""The inlines of a text, in order: of the content of a paragraph or a heading, as `Block.content` has it. Joined, they are the
     text, and they nest: each that begins ends. Text may stand in several, one after another.
 
     `labels` are those that are defined, each as `scan_link_label` answers it: what refers to a label that matches none of them is
-    text. Where `strikethrough` is true, text between `~` and `~`, or between `~~` and `~~`, is struck through. (GitHub Flavored
-    Markdown 0.29, section 6.5) Where `wikilinks` is true, `[[target]]` and `[[target|text]]` are links, and after `!` images. (Obsidian's
-    internal links) NotUtf8Error.
+    text. Of `extensions` "strikethrough" and "wikilinks" are read in a text; the other names change nothing. ValueError for a name
+    that is none; NotUtf8Error. (6)
 
     >>> [(inline.kind.name, inline.start) for inline in scan_inlines("*a* [B]", labels=["b"])]
     [('EMPHASIS', 0), ('TEXT', 1), ('EMPHASIS_END', 2), ('TEXT', 3), ('LINK', 4), ('TEXT', 5), ('LINK_END', 6)]
     >>> next(scan_inlines("[a](/b 'c')")).link.destination
     Span(start=4, stop=6)
-    >>> [inline.kind.name for inline in scan_inlines("~~a~~", strikethrough=True)]
+    >>> [inline.kind.name for inline in scan_inlines("~~a~~", extensions=["strikethrough"])]
     ['STRIKETHROUGH', 'TEXT', 'STRIKETHROUGH_END']
-    >>> next(scan_inlines("[[a|b]]", wikilinks=True)).link.destination
+    >>> next(scan_inlines("[[a|b]]", extensions=["wikilinks"])).link.destination
     Span(start=2, stop=3)
     """
-    extensions = _c.STRIKETHROUGH if flag("strikethrough", strikethrough) else 0
-    extensions |= _c.WIKILINKS if flag("wikilinks", wikilinks) else 0
+    bits = bits_of(extensions)
     address, length, origin = front(data, at, end)
     views, held = _views(labels)
     count = length // 16 + 8
     while True:
         inlines = (_c.Inline * count)()
-        found = _scan_inlines(address, length, addressof(views), len(views), extensions, addressof(inlines), count)
+        found = _scan_inlines(address, length, addressof(views), len(views), bits, addressof(inlines), count)
         if found.status != _c.TOO_SHORT:
             break
         count = found.count

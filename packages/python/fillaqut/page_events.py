@@ -11,7 +11,7 @@ from ._library import address_of, function
 from ._pages import Buffer, InText, Made, Page, front
 from .blocks import Alignment
 from .errors import stated
-from .page_html import options_of
+from .extensions import built_bits_of
 
 _events: Callable[..., _c.Events] = function("events")
 _RECORD = struct.Struct("<3I4x9Q")  # struct mds_event
@@ -115,12 +115,12 @@ def events(data: Page, at: int = 0, end: Optional[int] = None, *, extensions: It
     >>> [event.level for event in events("## a\nb") if event.element == Element.HEADING]
     [2, 2]
     """
-    options = options_of(extensions)
+    bits = built_bits_of(extensions)
     address, length, origin = front(data, at, end)
     count, size = length // 8 + 64, length + 64
     while True:
         records, texts = memoryview(bytearray(count * _RECORD.size)), memoryview(bytearray(size))
-        found = _events(address, length, options, address_of(records), count, address_of(texts), size)
+        found = _events(address, length, bits, address_of(records), count, address_of(texts), size)
         if found.status != _c.TOO_SHORT:
             break
         count, size = found.count, found.length + 1  # an empty buffer may have no address

@@ -3,20 +3,13 @@ from __future__ import annotations
 
 from typing import Any, Callable, Iterable, Optional, overload
 
-from . import _c
 from ._library import writer
 from ._pages import Buffer, Page, front, text_for
 from .errors import stated
+from .extensions import built_bits_of
 
 _html: Callable[..., tuple[Any, bytes]] = writer("html")
 _html_unsafe: Callable[..., tuple[Any, bytes]] = writer("html_unsafe")
-
-_OPTIONS = {
-    "strikethrough": _c.OPTION_STRIKETHROUGH,
-    "tables": _c.OPTION_TABLES,
-    "tasks": _c.OPTION_TASKS,
-    "wikilinks": _c.OPTION_WIKILINKS,
-}
 
 
 @overload
@@ -28,15 +21,15 @@ def html(data: Page, at: int = 0, end: Optional[int] = None, *, extensions: Iter
     addresses that are relative or have one of the schemes http, https, mailto and tel, others being written as empty, and links say
     `rel="nofollow noopener"`. All else is as the examples of CommonMark have it.
 
-    `extensions` has names: "tables", "strikethrough" and "tasks", of GitHub Flavored Markdown 0.29, and "wikilinks". ValueError
-    for another name; NotUtf8Error. (3 to 6)
+    `extensions` has names: "tables", "strikethrough", "tasks" and "wikilinks". ValueError for another name, and for "footnotes" and
+    "definition-lists", of which HTML is not built yet; NotUtf8Error. (3 to 6)
 
     >>> html("# A\n<b> [c](javascript:d)")
     '<h1>A</h1>\n<p>&lt;b&gt; <a href="" rel="nofollow noopener">c</a></p>\n'
     >>> html("~~a~~", extensions=["strikethrough"])
     '<p><del>a</del></p>\n'
     """
-    return _made(data, at, end, options_of(extensions), lambda address, length, options, room: _html(address, length, options, 0, 0, room))
+    return _made(data, at, end, built_bits_of(extensions), lambda address, length, bits, room: _html(address, length, bits, 0, 0, room))
 
 
 @overload
@@ -50,24 +43,12 @@ def html_unsafe(data: Page, at: int = 0, end: Optional[int] = None, *, extension
     >>> html_unsafe(b"<b>")
     b'<b>\n'
     """
-    return _made(data, at, end, options_of(extensions), _html_unsafe)
+    return _made(data, at, end, built_bits_of(extensions), _html_unsafe)
 
 
-def _made(data: Page, at: int, end: Optional[int], options: int, write: Callable[..., tuple[Any, bytes]]) -> Any:
+def _made(data: Page, at: int, end: Optional[int], bits: int, write: Callable[..., tuple[Any, bytes]]) -> Any:
     """What is written of a page, as a str of a str."""
     address, length, _held = front(data, at, end)
-    found, made = write(address, length, options, 2 * length + 64)
+    found, made = write(address, length, bits, 2 * length + 64)
     stated(found.status)
     return text_for(data, made)
-
-
-def options_of(extensions: Iterable[str]) -> int:
-    """The bits of these extensions."""
-    if isinstance(extensions, (str, bytes, bytearray)):
-        raise TypeError(f"extensions is of type {type(extensions).__name__}, and not several names")
-    found = 0
-    for name in extensions:
-        if name not in _OPTIONS:
-            raise ValueError(f"there is no extension {name!r}, but {', '.join(_OPTIONS)}")
-        found |= _OPTIONS[name]
-    return found

@@ -3,12 +3,13 @@ from __future__ import annotations
 
 from ctypes import addressof
 from enum import IntEnum
-from typing import Any, Callable, Generic, Iterator, NamedTuple, Optional, Union, overload
+from typing import Any, Callable, Generic, Iterable, Iterator, NamedTuple, Optional, Union, overload
 
 from . import _c
 from ._library import function, writer
 from ._pages import Buffer, Made, Page, front, text_for
 from .errors import stated
+from .extensions import bits_of
 from .inline import HtmlBlockKind
 
 _scan_blocks: Callable[..., _c.Blocks] = function("scan_blocks")
@@ -26,7 +27,7 @@ class BlockKind(IntEnum):
     INDENTED = _c.BLOCK_INDENTED  #: indented code (4.4)
     FENCED = _c.BLOCK_FENCED  #: fenced code (4.5)
     HTML = _c.BLOCK_HTML  #: an HTML block (4.6)
-    TABLE = _c.BLOCK_TABLE  #: a table (GitHub Flavored Markdown 0.29, 4.10)
+    TABLE = _c.BLOCK_TABLE  #: a table, with the extension "tables" (GitHub Flavored Markdown 0.29, 4.10)
     DEFINITION = _c.BLOCK_DEFINITION  #: a link reference definition (4.7)
     PARAGRAPH = _c.BLOCK_PARAGRAPH  #: a paragraph (4.8)
 
@@ -50,13 +51,13 @@ class Item(NamedTuple):
 
 
 class FootnoteDefinition(NamedTuple):
-    """A footnote definition, where it is asked for. (GitHub)"""
+    """A footnote definition, with the extension "footnotes". (GitHub)"""
 
     place: int  #: where its marker stands
 
 
 class TermDefinition(NamedTuple):
-    """A definition of a term, the paragraph before it or before another one of it, where it is asked for. (pulldown-cmark)"""
+    """A definition of a term, the paragraph before it or before another one of it, with "definition-lists". (PHP Markdown Extra)"""
 
     place: int  #: where its marker stands
     width: int  #: how many columns its later lines are indented by
@@ -124,27 +125,33 @@ class Block(Generic[Made]):
 
 
 @overload
-def scan_blocks(data: str, at: int = 0, end: Optional[int] = None) -> Iterator[Block[str]]: ...
+def scan_blocks(data: str, at: int = 0, end: Optional[int] = None, *, extensions: Iterable[str] = ()) -> Iterator[Block[str]]: ...
 @overload
-def scan_blocks(data: Buffer, at: int = 0, end: Optional[int] = None) -> Iterator[Block[bytes]]: ...
-def scan_blocks(data: Page, at: int = 0, end: Optional[int] = None) -> Iterator[Block[Any]]:
+def scan_blocks(data: Buffer, at: int = 0, end: Optional[int] = None, *, extensions: Iterable[str] = ()) -> Iterator[Block[bytes]]: ...
+def scan_blocks(data: Page, at: int = 0, end: Optional[int] = None, *, extensions: Iterable[str] = ()) -> Iterator[Block[Any]]:
     r"""The leaf blocks of a page, from the first to the last, with the containers that they stand in. Their lines, joined, are
     the page. A paragraph that begins with link reference definitions comes in parts, each definition as a block of its own.
 
+    Of `extensions` "tables", "footnotes" and "definition-lists" begin blocks; the other names change nothing. ValueError for a name
+    that is none. (3, 4, 5)
+
     >>> [(block.kind.name, block.line, len(block.containers)) for block in scan_blocks("# A\n> - b\n\n[c]: d\ne")]
     [('HEADING', 0, 0), ('PARAGRAPH', 1, 2), ('BLANK', 2, 0), ('DEFINITION', 3, 0), ('PARAGRAPH', 4, 0)]
+    >>> [block.kind.name for block in scan_blocks("|a|\n|-|", extensions=["tables"])], [block.kind.name for block in scan_blocks("|a|\n|-|")]
+    (['TABLE'], ['PARAGRAPH'])
     """
+    bits = bits_of(extensions)
     address, length, origin = front(data, at, end)
-    blocks, count = _written(_scan_blocks, _c.Block, address, length)
+    blocks, count = _written(_scan_blocks, _c.Block, address, length, bits)
     return _leaves((data, at, end), origin, blocks, count)
 
 
-def _written(scan: Any, kind: Any, address: int, length: int) -> tuple[Any, int]:
+def _written(scan: Any, kind: Any, address: int, length: int, bits: int) -> tuple[Any, int]:
     """What a scan writes of a page, in a buffer that has room for all of it, and how many they are."""
     count = length // 32 + 8
     while True:
         buffer = (kind * count)()
-        found = scan(address, length, addressof(buffer), count)
+        found = scan(address, length, bits, addressof(buffer), count)
         if found.status != _c.TOO_SHORT:
             stated(found.status)
             return buffer, found.count
@@ -203,14 +210,16 @@ class ListBlock(NamedTuple):
     lines: int  #: how many lines it has
 
 
-def scan_lists(data: Page, at: int = 0, end: Optional[int] = None) -> Iterator[ListBlock]:
-    r"""The lists of a page, each where it ends: a list in an item comes before the list of that item. (5.3)
+def scan_lists(data: Page, at: int = 0, end: Optional[int] = None, *, extensions: Iterable[str] = ()) -> Iterator[ListBlock]:
+    r"""The lists of a page, each where it ends: a list in an item comes before the list of that item. `extensions` is as of
+    `scan_blocks`. (5.3)
 
     >>> list(scan_lists("2) a\n3) b\n\n   c"))
     [ListBlock(delimiter=41, start=2, is_loose=True, depth=0, line=0, lines=4)]
     """
+    bits = bits_of(extensions)
     address, length, _held = front(data, at, end)
-    lists, count = _written(_scan_lists, _c.List, address, length)
+    lists, count = _written(_scan_lists, _c.List, address, length, bits)
     return map(_list, lists[:count])
 
 

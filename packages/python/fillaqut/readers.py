@@ -7,8 +7,9 @@ from typing import Any, Callable, Iterable, Iterator
 
 from . import _c
 from ._library import function
-from ._pages import Buffer, flag, front
+from ._pages import Buffer, front
 from .errors import stated
+from .extensions import bits_of
 from .pages import Block, Container, container_of, leaf_of
 
 _block_line: Callable[..., Any] = function("block_line")
@@ -20,7 +21,7 @@ class BlockReader:
     r"""Reads a page that comes piece by piece, of bytes that may end anywhere, and returns each leaf block once what has come shows
     where it ends. It keeps what is not returned yet, and the containers that are open.
 
-    A block is as `scan_blocks` has it of the whole page, with places of the whole page; but a paragraph that begins with link
+    A block is as `scan_blocks` has it of the whole page with these extensions, with places of the whole page; but a paragraph that begins with link
     reference definitions is one block, with these at the front of its content.
 
     >>> reader = BlockReader()
@@ -34,13 +35,11 @@ class BlockReader:
 
     __slots__ = ("_pieces", "_size", "_wanted", "_ready", "_open", "_structs", "_containers", "_began", "_start", "_line")
 
-    def __init__(self, *, footnotes: bool = False, definition_lists: bool = False) -> None:
+    def __init__(self, *, extensions: Iterable[str] = ()) -> None:
         self._pieces: list[bytes] = []  # what is not returned yet
         self._size = self._wanted = 0  # how many bytes these have, and have to have before they are read again
         self._ready: list[Block[bytes]] = []  # what is ready and not returned, as memory was refused then
-        asked = _c.FOOTNOTES if flag("footnotes", footnotes) else 0
-        asked |= _c.DEFINITION_LISTS if flag("definition_lists", definition_lists) else 0
-        self._open = _c.OpenBlocks(0, asked, 0)
+        self._open = _c.OpenBlocks(0, bits_of(extensions), 0)
         self._structs = (_c.Block * 8)()
         self._containers: tuple[Container, ...] = ()
         self._began: tuple[Any, ...] = ()
@@ -101,14 +100,14 @@ class BlockReader:
         return block
 
 
-def read_blocks(pieces: Iterable[Buffer], *, footnotes: bool = False, definition_lists: bool = False) -> Iterator[Block[bytes]]:
+def read_blocks(pieces: Iterable[Buffer], *, extensions: Iterable[str] = ()) -> Iterator[Block[bytes]]:
     r"""The leaf blocks of a page that comes in pieces, as a file open for reading bytes has lines, with memory for the longest
     block and the deepest nesting. See `BlockReader`.
 
     >>> [(block.kind.name, block.line, block.content()) for block in read_blocks([b"# A\n\nb", b"\nc"])]
     [('HEADING', 0, b'A'), ('BLANK', 1, b''), ('PARAGRAPH', 2, b'b\nc')]
     """
-    reader = BlockReader(footnotes=footnotes, definition_lists=definition_lists)
+    reader = BlockReader(extensions=extensions)
     for piece in pieces:
         yield from reader.feed(piece)
     yield from reader.close()

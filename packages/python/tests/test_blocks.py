@@ -4,15 +4,17 @@ import unittest
 
 import fillaqut as mds
 import tables
-from fillaqut import BlockKind, BlockQuote, Item
+from fillaqut import BlockKind, BlockQuote, FootnoteDefinition, Item, TermDefinition
 from test_rows import hold
 
 NUMBERED = {BlockKind.HEADING, BlockKind.SETEXT, BlockKind.HTML}
 
 
 def word_of(container, at):
-    if isinstance(container, BlockQuote):
-        return f"quote@{container.place - at}"
+    if isinstance(container, (BlockQuote, FootnoteDefinition)):
+        return f"{'quote' if isinstance(container, BlockQuote) else 'footnote'}@{container.place - at}"
+    if isinstance(container, TermDefinition):
+        return f"term{container.width}@{container.place - at}"
     return f"item{chr(container.delimiter)}{container.start},{container.width}@{container.place - at}"
 
 
@@ -23,10 +25,10 @@ def leaf_word(block):
     return f"{block.kind.name.lower()}{more}:{block.line + 1}-{block.line + block.lines}"
 
 
-def described(page, at=0, end=None):
+def described(extensions, page, at=0, end=None):
     """What begins and ends, and what stands there; and the contents."""
     said, contents, depth = [], [], 0
-    for block in mds.scan_blocks(page, at, end):
+    for block in mds.scan_blocks(page, at, end, extensions=extensions):
         said += ["end"] * (depth - block.kept) + [word_of(container, at) for container in block.containers[block.kept :]] + [leaf_word(block)]
         contents.append(block.content())
         depth = len(block.containers)
@@ -34,21 +36,21 @@ def described(page, at=0, end=None):
 
 
 class Blocks(unittest.TestCase):
-    def ways(self, page):
+    def ways(self, page, extensions):
         """What is described of a page by itself, inside of other bytes, in a buffer and as a str among other characters."""
         data = page.encode()
         for given in ((data,), (b"# x\xff" + data + b"> y", 4, 4 + len(data)), (bytearray(data),)):
-            said, contents = described(*given)
+            said, contents = described(extensions, *given)
             yield said, b"".join(content + b"|" for content in contents)
         for given in ((page,), ("é🍔" + page + "- é", 2, 2 + len(page))):
-            said, contents = described(*given)
+            said, contents = described(extensions, *given)
             yield said, "".join(content + "|" for content in contents).encode()
 
     def test_rows(self):
         for call in ("scan_blocks", "block_content"):
             rows = tables.pages(call)
             for row in rows:
-                for said, contents in self.ways(row.text.decode()):
+                for said, contents in self.ways(row.text.decode(), row.words):
                     self.assertEqual(said.encode() if call == "scan_blocks" else contents, row.answer, row.where)
             hold(self, call, len(rows))
 
@@ -61,7 +63,17 @@ class Blocks(unittest.TestCase):
         self.assertEqual((third.fence, third.level, third.html_kind, third.columns), ((ord("`"), 4), None, None, None))
         self.assertEqual([block.level for block in mds.scan_blocks(b"### a\nb\n---")], [3, 2])
         self.assertEqual([block.html_kind for block in mds.scan_blocks(b"<!-- a -->")], [mds.HtmlBlockKind.COMMENT])
-        self.assertEqual([block.columns for block in mds.scan_blocks(b"|a|b|\n|-|-|")], [2])
+        self.assertEqual([block.columns for block in mds.scan_blocks(b"|a|b|\n|-|-|", extensions=["tables"])], [2])
+
+    def test_extensions(self):
+        """Those that it has no use for are taken."""
+        kinds = lambda *names: [block.kind for block in mds.scan_blocks("|a|\n|-|", extensions=names)]
+        self.assertEqual(kinds("strikethrough", "tables"), [BlockKind.TABLE])
+        self.assertEqual(kinds("strikethrough", "tasks", "wikilinks", "footnotes", "definition-lists"), [BlockKind.PARAGRAPH])
+        for call in (mds.scan_blocks, mds.scan_lists):
+            self.assertRaisesRegex(ValueError, "no extension 'Tables', but tables", call, "a", extensions=["tables", "Tables"])
+            self.assertRaises(TypeError, call, "a", extensions="tables")
+            self.assertRaises(TypeError, call, "a", extensions=None)
 
     def test_no_page(self):
         self.assertEqual(list(mds.scan_blocks(b"")), [])

@@ -175,7 +175,9 @@ class Events(unittest.TestCase):
         self.assertEqual(list(mds.events(b"")), [])
         self.assertRaises(mds.NotUtf8Error, mds.events, b"a\xff")
         self.assertRaises(mds.LoneSurrogateError, mds.events, "\ud800")
-        self.assertRaises(ValueError, mds.events, "a", extensions=["footnotes"])
+        self.assertRaisesRegex(ValueError, "no extension 'footnote'", mds.events, "a", extensions=["footnote"])
+        for name in ("footnotes", "definition-lists"):
+            self.assertRaisesRegex(ValueError, f"not built of the extension '{name}' yet", mds.events, "a", extensions=["tables", name])
         self.assertRaises(TypeError, mds.events, "a", extensions="tables")
         self.assertRaises(TypeError, mds.events, None)
 

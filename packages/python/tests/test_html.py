@@ -60,10 +60,11 @@ class Html(unittest.TestCase):
         self.assertEqual(mds.html_unsafe("[[a|b]]", extensions=["wikilinks"]), '<p><a href="a">b</a></p>\n')
         self.assertEqual(mds.html("~a~", extensions=[]), "<p>~a~</p>\n")
         self.assertEqual(mds.html("~a~", extensions=iter(["strikethrough"])), "<p><del>a</del></p>\n")
-        for names in (["footnotes"], ["tables", "Tables"], ["table"], [""], [1], [None]):
+        for names in (["tables", "Tables"], ["table"], [""], [1], [None], ["footnotes"], ["tables", "definition-lists"], ["footnotes", "x"]):
             with self.assertRaises(ValueError) as why:
                 mds.html("a", extensions=names)
             self.assertIn(repr(names[-1]), str(why.exception))
+        self.assertRaisesRegex(ValueError, "not built of the extension 'footnotes' yet", mds.html_unsafe, "a", extensions={"footnotes"})
         self.assertRaises(TypeError, mds.html, "a", extensions="tables")
         self.assertRaises(TypeError, mds.html, "a", extensions=None)
 

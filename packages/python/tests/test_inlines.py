@@ -23,7 +23,7 @@ def asked_of(row):
     """The extensions that a row asks for, and its definitions, each a label, a destination and a title."""
     fields = [word.partition("=") for word in row.words]
     texts = [tables.read_text(value).decode() for _, separator, value in fields if separator]
-    return {name: True for name, separator, _ in fields if not separator}, list(zip(*[iter(texts)] * 3, strict=True))
+    return [name for name, separator, _ in fields if not separator], list(zip(*[iter(texts)] * 3, strict=True))
 
 
 class Returned:
@@ -31,7 +31,7 @@ class Returned:
 
     def __init__(self, data, at, end, extensions, definitions):
         self.data, self.end, self.definitions = data, end, definitions
-        found = mds.scan_inlines(data, at, end, labels=[definition[0] for definition in definitions], **extensions)
+        found = mds.scan_inlines(data, at, end, labels=[definition[0] for definition in definitions], extensions=extensions)
         self.text = "".join(map(self.inline, found))
 
     def part(self, start, stop):
@@ -108,30 +108,34 @@ class Inlines(unittest.TestCase):
     def test_strikethrough(self):
         """Examples of GitHub Flavored Markdown 0.29, where they ask for it and where not."""
         marks = {InlineKind.STRIKETHROUGH: "<del>", InlineKind.STRIKETHROUGH_END: "</del>"}
-        struck = lambda text, **asked: "".join(marks.get(inline.kind, text[inline.start : inline.stop]) for inline in mds.scan_inlines(text, **asked))
+        part = lambda text, inline: marks.get(inline.kind, text[inline.start : inline.stop])
+        struck = lambda text, *names: "".join(part(text, inline) for inline in mds.scan_inlines(text, extensions=names))
         text = "~~Hi~~ Hello, ~there~ world!"  # 491
-        self.assertEqual(struck(text, strikethrough=True), "<del>Hi</del> Hello, <del>there</del> world!")
-        self.assertEqual(struck(text, strikethrough=False), text)
+        self.assertEqual(struck(text, "strikethrough"), "<del>Hi</del> Hello, <del>there</del> world!")
+        self.assertEqual(struck(text, "tables", "footnotes", "tasks", "definition-lists", "wikilinks"), text)
         self.assertEqual(struck(text), text)
-        for part in ("This ~~has a", "new paragraph~~."):  # 492
-            self.assertEqual(struck(part, strikethrough=True), part)
-        self.assertRaises(TypeError, mds.scan_inlines, text, strikethrough=1)
+        for line in ("This ~~has a", "new paragraph~~."):  # 492
+            self.assertEqual(struck(line, "strikethrough"), line)
+
+    def test_extensions(self):
+        self.assertRaisesRegex(ValueError, "no extension 'strike', but tables", mds.scan_inlines, "a", extensions=["strike"])
+        self.assertRaises(TypeError, mds.scan_inlines, "a", extensions="tables")
+        self.assertRaises(TypeError, mds.scan_inlines, "a", strikethrough=True)
 
     def test_wikilinks(self):
         """Two brackets, a target, and perhaps a pipe and a text; and what CommonMark alone makes of one."""
-        image, text, end, link, last = mds.scan_inlines("![[é b|c]][[d]]", wikilinks=True)
+        image, text, end, link, last = mds.scan_inlines("![[é b|c]][[d]]", extensions=["wikilinks"])
         self.assertEqual((image.kind, image.start, image.stop), (InlineKind.IMAGE, 0, 7))
         self.assertEqual(image.link, mds.Link(LinkTarget.WIKI, 10, Span(3, 6), None, None))
         self.assertEqual((text.kind, end.start, end.stop), (InlineKind.TEXT, 8, 10))
         self.assertEqual((link.kind, link.stop, link.link.destination), (InlineKind.LINK, 13, Span(12, 13)))
         self.assertEqual((last.kind, last.start, last.stop), (InlineKind.LINK_END, 13, 15))
-        kinds = lambda text, **asked: {inline.kind for inline in mds.scan_inlines(text, **asked)}
+        kinds = lambda text, *names: {inline.kind for inline in mds.scan_inlines(text, extensions=names)}
         for text in ("[[]]", "[[a]", "[[a\nb]]", "[[a|b](c)"):
-            self.assertLessEqual(kinds(text, wikilinks=True), {InlineKind.TEXT, InlineKind.SOFT_BREAK})
+            self.assertLessEqual(kinds(text, "wikilinks"), {InlineKind.TEXT, InlineKind.SOFT_BREAK})
         self.assertEqual(kinds("~[[a]]~"), {InlineKind.TEXT})
-        self.assertEqual(kinds("~[[a]]~", wikilinks=True), {InlineKind.TEXT, InlineKind.LINK, InlineKind.LINK_END})
-        self.assertIn(InlineKind.STRIKETHROUGH, kinds("~[[a]]~", strikethrough=True, wikilinks=True))
-        self.assertRaises(TypeError, mds.scan_inlines, "a", wikilinks=1)
+        self.assertEqual(kinds("~[[a]]~", "wikilinks"), {InlineKind.TEXT, InlineKind.LINK, InlineKind.LINK_END})
+        self.assertIn(InlineKind.STRIKETHROUGH, kinds("~[[a]]~", "strikethrough", "wikilinks"))
 
     def test_no_text(self):
         self.assertEqual(list(mds.scan_inlines(b"")), [])

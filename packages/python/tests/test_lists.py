@@ -17,7 +17,7 @@ class Lists(unittest.TestCase):
         for row in rows:
             data = row.text
             for given in ((data.decode(),), (data,), (bytearray(data),), (b"- a\n" + data + b"- b\n", 4, 4 + len(data))):
-                self.assertEqual(" ".join(map(described, mds.scan_lists(*given))), row.answer.decode(), row.where)
+                self.assertEqual(" ".join(map(described, mds.scan_lists(*given, extensions=row.words))), row.answer.decode(), row.where)
         hold(self, "scan_lists", len(rows))
 
     def test_many(self):

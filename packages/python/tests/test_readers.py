@@ -27,12 +27,12 @@ def together(blocks):
 class Readers(unittest.TestCase):
     def test_pieces(self):
         """In pieces of each size."""
-        pages = [row.text for row in tables.pages("scan_blocks")]
-        self.assertGreater(len(pages), 30)
-        for page in pages:
-            whole = list(mds.scan_blocks(page))
+        rows = tables.pages("scan_blocks")
+        self.assertGreater(len(rows), 30)
+        for page, extensions in [(row.text, row.words) for row in rows]:
+            whole = list(mds.scan_blocks(page, extensions=extensions))
             for size in range(1, len(page) + 1):
-                found = list(read_blocks(page[at : at + size] for at in range(0, len(page), size)))
+                found = list(read_blocks((page[at : at + size] for at in range(0, len(page), size)), extensions=extensions))
                 self.assertEqual(together(found), together(whole), page)
                 if b"]:" not in page:
                     self.assertEqual([fields_of(block) for block in found], [fields_of(block) for block in whole], page)
@@ -54,18 +54,18 @@ class Readers(unittest.TestCase):
 
     def test_footnotes_are_asked_for(self):
         page = [b"[^a]: b\n", b"\n", b"    c\n"]
-        blocks = list(read_blocks(page, footnotes=True))
+        blocks = list(read_blocks(page, extensions=["footnotes"]))
         self.assertEqual([block.containers for block in blocks], [(FootnoteDefinition(0),)] * 3)
         self.assertEqual([block.content() for block in blocks], [b"b", b"", b"c"])
         self.assertEqual([block.containers for block in read_blocks(page)], [()] * 3)
 
     def test_definition_lists_are_asked_for(self):
         page = [b"apple\n\n: red\n: round\n", b"  fruit"]
-        blocks = list(read_blocks(page, definition_lists=True))
+        blocks = list(read_blocks(page, extensions=["definition-lists"]))
         self.assertEqual([block.containers for block in blocks], [(), (), (TermDefinition(7, 2),), (TermDefinition(13, 2),)])
         self.assertEqual([(block.content(), block.kept) for block in blocks], [(b"apple", 0), (b"", 0), (b"red", 0), (b"round\nfruit", 0)])
         self.assertEqual([block.containers for block in read_blocks(page)], [()] * 3)
-        self.assertEqual([block.containers for block in read_blocks(page, footnotes=True)], [()] * 3)
+        self.assertEqual([block.containers for block in read_blocks(page, extensions=["footnotes"])], [()] * 3)
 
     def test_deep_and_long(self):
         reader = BlockReader()
@@ -78,5 +78,5 @@ class Readers(unittest.TestCase):
     def test_wrong_types(self):
         for given in ("a", 1, None):
             self.assertRaises(TypeError, BlockReader().feed, given)
-        self.assertRaises(TypeError, BlockReader, footnotes=1)
-        self.assertRaises(TypeError, BlockReader, definition_lists=1)
+        self.assertRaises(TypeError, BlockReader, extensions="tables")
+        self.assertRaisesRegex(ValueError, "no extension 'definition_lists', but tables", BlockReader, extensions=["definition_lists"])

@@ -11,9 +11,9 @@ def of_str(page: str) -> None:
     assert_type(mds.scan_entity(page), Optional[mds.Entity[str]])
     assert_type(mds.scan_link_label(page), Optional[mds.Label[str]])
     assert_type(mds.line_rest(mds.LineStart(page)), str)
-    assert_type(mds.scan_blocks(page), Iterator[mds.Block[str]])
+    assert_type(mds.scan_blocks(page, extensions=["tables"]), Iterator[mds.Block[str]])
     assert_type([block.content() for block in mds.scan_blocks(page)], list[str])
-    assert_type(mds.scan_inlines(page, labels=[page], strikethrough=True, wikilinks=True), Iterator[mds.Inline])
+    assert_type(mds.scan_inlines(page, labels=[page], extensions=("strikethrough", "wikilinks")), Iterator[mds.Inline])
     assert_type(mds.events(page, extensions=["tables"]), Iterator[mds.Event[str]])
     assert_type([event.target.title for event in mds.events(page) if event.target], list[str])
 
@@ -29,8 +29,8 @@ def of_bytes(page: bytes) -> None:
 
 
 def of_pieces(pieces: list[bytes]) -> None:
-    assert_type(mds.read_blocks(pieces, footnotes=True, definition_lists=True), Iterator[mds.Block[bytes]])
-    assert_type(mds.BlockReader().feed(pieces[0]), list[mds.Block[bytes]])
+    assert_type(mds.read_blocks(pieces, extensions={"footnotes", "definition-lists"}), Iterator[mds.Block[bytes]])
+    assert_type(mds.BlockReader(extensions=["tables"]).feed(pieces[0]), list[mds.Block[bytes]])
 
 
 def of_buffers(array: bytearray, view: memoryview, mapped: mmap) -> None:
@@ -47,6 +47,7 @@ def of_places(page: mds.Page) -> None:
     assert_type(mds.scan_reference_definition(page), Optional[mds.ReferenceDefinition])
     assert_type(mds.scan_delimiter_run(page), Optional[mds.DelimiterRun])
     assert_type(mds.interrupts_paragraph(page), bool)
+    assert_type(mds.scan_lists(page, extensions=["footnotes"]), Iterator[mds.ListBlock])
     assert_type(mds.scan_html_block_start(page), Optional[mds.HtmlBlockKind])
     assert_type([line.next for line in mds.lines(page)], list[int])
     assert_type([inline.link for inline in mds.scan_inlines(page)], list[Optional[mds.Link]])

@@ -4,10 +4,11 @@
 use std::path::Path;
 use std::{env, fs, process};
 
-use fillaqut::{scan_blocks, BlockKind};
+use fillaqut::{scan_blocks, BlockKind, Extensions};
 
 fn print_headings(page: &[u8]) {
-    for block in scan_blocks(page) {
+    let asked = Extensions { tables: true, ..Extensions::default() };
+    for block in scan_blocks(page, asked) {
         if let BlockKind::Heading(level) | BlockKind::Setext(level) = block.kind {
             let content = block.content();
             let lines: Vec<_> = String::from_utf8_lossy(&content).lines().map(|it| it.trim_end().to_owned()).collect();

@@ -4,6 +4,7 @@ use alloc::vec;
 use alloc::vec::IntoIter;
 use core::ops::Range;
 
+use crate::extensions::Extensions;
 use crate::raw::{self, ffi};
 
 /// What an inline is, or what begins or ends there.
@@ -41,20 +42,10 @@ pub enum InlineKind {
     StartImage(Link),
     /// The innermost link or image that has begun ends.
     EndLink,
-    /// Strikethrough begins, where it is asked for.
+    /// Strikethrough begins, with [`Extensions::strikethrough`].
     StartStrikethrough,
     /// The innermost strikethrough that has begun ends.
     EndStrikethrough,
-}
-
-/// Which extensions of CommonMark's inlines are asked for; by default none.
-#[derive(Clone, Copy, Debug, Default, PartialEq, Eq, Hash)]
-pub struct InlineExtensions {
-    /// Text between `~` and `~`, or between `~~` and `~~`, is struck through. (GitHub Flavored Markdown 0.29, section 6.5)
-    pub strikethrough: bool,
-    /// `[[target]]` and `[[target|text]]` are links, and after `!` images. A target has some bytes, and no bracket, pipe or line
-    /// ending. (Obsidian's internal links)
-    pub wikilinks: bool,
 }
 
 /// Where a link or an image leads, and where it ends.
@@ -112,28 +103,26 @@ pub struct Inlines {
 /// text, and they nest: each that begins ends. Text may stand in several, one after another.
 ///
 /// `labels` are those that are defined, each as [`scan_link_label_rest`] answers it. What refers to a label that matches none of
-/// them is text. What is read beside CommonMark is what the extensions ask for.
+/// them is text. Of the extensions strikethrough and wikilinks are read in a text, and the others change nothing.
 ///
 /// [`Block::content`]: crate::Block::content
 /// [`scan_link_label_rest`]: crate::scan_link_label_rest
 ///
 /// ```
-/// use fillaqut::{scan_inlines, InlineExtensions, InlineKind, LinkTarget};
-/// let inlines: Vec<_> = scan_inlines("*a* [B]", &["b"], InlineExtensions::default()).collect();
+/// use fillaqut::{scan_inlines, Extensions, InlineKind, LinkTarget};
+/// let inlines: Vec<_> = scan_inlines("*a* [B]", &["b"], Extensions::default()).collect();
 /// assert_eq!((&inlines[0].kind, &inlines[1].range), (&InlineKind::StartEmphasis, &(1..2)));
 /// let InlineKind::StartLink(link) = &inlines[4].kind else { panic!() };
 /// assert_eq!((&link.target, link.end), (&LinkTarget::Shortcut(5..6), 7));
-/// let asked = InlineExtensions { strikethrough: true, ..Default::default() };
+/// let asked = Extensions { strikethrough: true, ..Default::default() };
 /// let struck = scan_inlines("~~a~~", &[], asked).next().unwrap();
 /// assert_eq!((struck.kind, struck.range), (InlineKind::StartStrikethrough, 0..2));
 /// ```
 #[must_use]
-pub fn scan_inlines(text: &str, labels: &[&str], extensions: InlineExtensions) -> Inlines {
-    let strikethrough = if extensions.strikethrough { ffi::STRIKETHROUGH } else { 0 };
-    let wikilinks = if extensions.wikilinks { ffi::WIKILINKS } else { 0 };
+pub fn scan_inlines(text: &str, labels: &[&str], extensions: Extensions) -> Inlines {
     let mut returned = vec![ffi::Inline::default(); text.len() / 16 + 8];
     loop {
-        let found = raw::scan_inlines(text, labels, strikethrough | wikilinks, &mut returned);
+        let found = raw::scan_inlines(text, labels, extensions.bits(), &mut returned);
         let is_short = found.status == ffi::TOO_SHORT;
         returned.resize(found.count, ffi::Inline::default());
         if !is_short {

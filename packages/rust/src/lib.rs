@@ -8,6 +8,7 @@ compile_error!("fillaqut is for Linux on x86-64: its library is proved and built
 extern crate alloc;
 
 mod blocks;
+mod extensions;
 mod inline;
 mod inlines;
 mod labels;
@@ -22,15 +23,14 @@ mod spans;
 mod values;
 
 pub use blocks::*;
+pub use extensions::Extensions;
 pub use inline::*;
-pub use inlines::{scan_inlines, Inline, InlineExtensions, InlineKind, Inlines, Link, LinkTarget};
+pub use inlines::{scan_inlines, Inline, InlineKind, Inlines, Link, LinkTarget};
 pub use labels::*;
 pub use line::LineStart;
 pub use page_events::{CodeBlockKind, Event, OffsetIter, Parser, Tag, TagEnd, Target};
-pub use page_html::{html, html_unsafe, html_with_schemes, Extensions};
-pub use pages::{
-    scan_blocks, scan_lists, Block, BlockExtensions, BlockKind, BlockReader, Blocks, Container, ListBlock,
-};
+pub use page_html::{html, html_unsafe, html_with_schemes};
+pub use pages::{scan_blocks, scan_lists, Block, BlockKind, BlockReader, Blocks, Container, ListBlock};
 pub use raw::Skip;
 pub use runs::{line_rest, run_inline_html, run_line, HtmlRun, HtmlStop, LineAnswer, LineCall, LineRun, LineStop};
 pub use spans::*;

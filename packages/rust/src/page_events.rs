@@ -7,8 +7,9 @@ use alloc::vec::{IntoIter, Vec};
 use core::iter::FusedIterator;
 use core::ops::Range;
 
+use crate::extensions::Extensions;
 use crate::inline::string;
-use crate::page_html::Extensions;
+use crate::page_html::built_bits;
 use crate::raw::{self, ffi};
 use crate::values::{Alignment, HeadingLevel, LinkType};
 
@@ -147,16 +148,21 @@ pub struct OffsetIter<'a> {
 impl<'a> Parser<'a> {
     /// The events of a page, which is read with these extensions. (3 to 6)
     ///
+    /// # Panics
+    ///
+    /// Where an extension is asked for that events are not built of yet.
+    ///
     /// ```
     /// use fillaqut::{Event, Extensions, Parser};
     /// assert_eq!(Parser::new("***", Extensions::default()).collect::<Vec<_>>(), [Event::Rule]);
     /// ```
     #[must_use]
     pub fn new(page: &'a str, extensions: Extensions) -> Self {
+        let extensions = built_bits(extensions);
         let mut events = vec![ffi::Event::default(); page.len() / 8 + 64];
         let mut texts = vec![0; page.len() + 64];
         loop {
-            let found = raw::events(page, extensions.bits(), &mut events, &mut texts);
+            let found = raw::events(page, extensions, &mut events, &mut texts);
             let is_short = found.status == ffi::TOO_SHORT;
             events.resize(found.count, ffi::Event::default());
             texts.resize(found.length, 0);

@@ -3,37 +3,25 @@
 use alloc::string::String;
 use alloc::vec;
 
+use crate::extensions::Extensions;
 use crate::inline::string;
 use crate::raw::{self, ffi};
 
-/// Which extensions of CommonMark a page is read with; by default none.
-#[derive(Clone, Copy, Debug, Default, PartialEq, Eq, Hash)]
-pub struct Extensions {
-    /// Tables of rows and cells. (GitHub Flavored Markdown 0.29, section 4.10)
-    pub tables: bool,
-    /// Text between `~` and `~`, or between `~~` and `~~`, is struck through. (GitHub Flavored Markdown 0.29, section 6.5)
-    pub strikethrough: bool,
-    /// List items that begin with a box. (GitHub Flavored Markdown 0.29, section 5.3)
-    pub tasks: bool,
-    /// `[[target]]` and `[[target|text]]` are links, and after `!` images. (Obsidian's internal links)
-    pub wikilinks: bool,
-}
-
-impl Extensions {
-    pub(crate) fn bits(self) -> u32 {
-        let asked = [
-            (self.tables, ffi::OPTION_TABLES),
-            (self.strikethrough, ffi::OPTION_STRIKETHROUGH),
-            (self.tasks, ffi::OPTION_TASKS),
-            (self.wikilinks, ffi::OPTION_WIKILINKS),
-        ];
-        asked.iter().map(|(is_asked, bit)| if *is_asked { *bit } else { 0 }).sum()
+/// The bits of these extensions, of each of which events and HTML are built.
+pub(crate) fn built_bits(extensions: Extensions) -> u32 {
+    if let Some(name) = extensions.not_built() {
+        panic!("events and HTML are not built of the extension `{name}` yet");
     }
+    extensions.bits()
 }
 
 /// The HTML of a page, safe for pages by people who are not trusted: raw HTML is written as text; of links and images an address is
 /// written where it is relative or has one of the schemes `http`, `https`, `mailto` and `tel`, and else an empty one; and links say
 /// `rel="nofollow noopener"`. All else is as the examples of CommonMark and of GitHub Flavored Markdown have it. (3 to 6)
+///
+/// # Panics
+///
+/// Where an extension is asked for that HTML is not built of yet.
 ///
 /// ```
 /// use fillaqut::{html, Extensions};
@@ -43,11 +31,15 @@ impl Extensions {
 /// ```
 #[must_use]
 pub fn html(text: &str, extensions: Extensions) -> String {
-    written(text.len(), |buffer| raw::html(text, extensions.bits(), &[], buffer))
+    written(text.len(), |buffer| raw::html(text, built_bits(extensions), &[], buffer))
 }
 
 /// The same as [`html`], where addresses are written whose scheme is one of these, without regard to case, and relative ones.
 /// Schemes have no colon; where there are none, relative addresses are written alone.
+///
+/// # Panics
+///
+/// As of [`html`].
 ///
 /// ```
 /// use fillaqut::{html_with_schemes, Extensions};
@@ -59,11 +51,15 @@ pub fn html(text: &str, extensions: Extensions) -> String {
 #[must_use]
 pub fn html_with_schemes(text: &str, extensions: Extensions, schemes: &[&str]) -> String {
     let schemes = if schemes.is_empty() { &[""] } else { schemes }; // no address has this one
-    written(text.len(), |buffer| raw::html(text, extensions.bits(), schemes, buffer))
+    written(text.len(), |buffer| raw::html(text, built_bits(extensions), schemes, buffer))
 }
 
 /// The HTML of a page, as the examples write it. Raw HTML stands in it as it is, and links lead anywhere: it is for text of one's own,
 /// and [`html`] for text by others. (3 to 6)
+///
+/// # Panics
+///
+/// As of [`html`].
 ///
 /// ```
 /// use fillaqut::{html_unsafe, Extensions};
@@ -73,7 +69,7 @@ pub fn html_with_schemes(text: &str, extensions: Extensions, schemes: &[&str]) -
 /// ```
 #[must_use]
 pub fn html_unsafe(text: &str, extensions: Extensions) -> String {
-    written(text.len(), |buffer| raw::html_unsafe(text, extensions.bits(), buffer))
+    written(text.len(), |buffer| raw::html_unsafe(text, built_bits(extensions), buffer))
 }
 
 /// What is written where there is room, which is made anew where it is too short.

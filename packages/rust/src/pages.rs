@@ -5,6 +5,7 @@ use alloc::vec;
 use alloc::vec::{IntoIter, Vec};
 use core::ops::Range;
 
+use crate::extensions::Extensions;
 use crate::raw::{self, ffi};
 use crate::values::{HeadingLevel, HtmlBlockKind};
 
@@ -25,7 +26,7 @@ pub enum BlockKind {
     Fenced(usize, u8),
     /// An HTML block. (4.6)
     Html(HtmlBlockKind),
-    /// A table with so many columns. (GitHub Flavored Markdown 0.29, 4.10)
+    /// A table with so many columns, with [`Extensions::tables`]. (GitHub Flavored Markdown 0.29, 4.10)
     Table(usize),
     /// A link reference definition. (4.7)
     Definition,
@@ -52,28 +53,19 @@ pub enum Container {
         /// How many columns its later lines are indented by.
         width: u8,
     },
-    /// A footnote definition, where it is asked for. (GitHub)
+    /// A footnote definition, with [`Extensions::footnotes`]. (GitHub)
     Footnote {
         /// Where its marker stands.
         place: usize,
     },
-    /// A definition of the term before it, where it is asked for: the paragraph before it, or before another definition.
-    /// (pulldown-cmark)
+    /// A definition of the term before it, with [`Extensions::definition_lists`]: the paragraph before it, or before another
+    /// definition. (PHP Markdown Extra)
     TermDefinition {
         /// Where its marker stands.
         place: usize,
         /// How many columns its later lines are indented by.
         width: u8,
     },
-}
-
-/// Which extensions of CommonMark's blocks are asked for; by default none.
-#[derive(Clone, Copy, Debug, Default, PartialEq, Eq, Hash)]
-pub struct BlockExtensions {
-    /// `[^label]:` begins a footnote definition, as on GitHub.
-    pub footnotes: bool,
-    /// `:` after a paragraph begins a definition of it.
-    pub definition_lists: bool,
 }
 
 /// A leaf block, in its containers.
@@ -121,9 +113,9 @@ impl Block<'_> {
     /// The containers that it stands in, outermost first.
     ///
     /// ```
-    /// use fillaqut::{scan_blocks, Container};
+    /// use fillaqut::{scan_blocks, Container, Extensions};
     /// let item = Container::Item { place: 2, delimiter: b'-', start: 0, width: 2 };
-    /// let block = scan_blocks(b"> - a").next().unwrap();
+    /// let block = scan_blocks(b"> - a", Extensions::default()).next().unwrap();
     /// assert_eq!(block.containers(), [Container::Quote { place: 0 }, item]);
     /// ```
     #[must_use]
@@ -135,7 +127,8 @@ impl Block<'_> {
     /// ends of all and before each line. Of code and HTML their lines, without containers, indent and fences. Else nothing.
     ///
     /// ```
-    /// let blocks: Vec<_> = fillaqut::scan_blocks(b"> # A #\n> b\n  c").collect();
+    /// use fillaqut::{scan_blocks, Extensions};
+    /// let blocks: Vec<_> = scan_blocks(b"> # A #\n> b\n  c", Extensions::default()).collect();
     /// assert_eq!((blocks[0].content(), blocks[1].content()), (b"A".to_vec(), b"b\nc".to_vec()));
     /// ```
     #[must_use]
@@ -162,20 +155,23 @@ pub struct Blocks<'a> {
 }
 
 /// The leaf blocks of a page, from the first to the last, with the containers that they stand in. Their lines, joined, are the
-/// page. A paragraph that begins with link reference definitions comes in parts, each definition as a block of its own.
+/// page. A paragraph that begins with link reference definitions comes in parts, each definition as a block of its own. Of the
+/// extensions tables, footnotes and definition lists begin blocks, and the others change nothing. (3, 4, 5)
 ///
 /// ```
-/// use fillaqut::{scan_blocks, BlockKind, HeadingLevel};
-/// let blocks = scan_blocks(b"[a]: b\nC\n===\n> - d");
+/// use fillaqut::{scan_blocks, BlockKind, Extensions, HeadingLevel};
+/// let blocks = scan_blocks(b"[a]: b\nC\n===\n> - d", Extensions::default());
 /// let returned: Vec<_> = blocks.map(|it| (it.kind, it.lines.start, it.containers().len())).collect();
 /// let setext = BlockKind::Setext(HeadingLevel::H1);
 /// assert_eq!(returned, [(BlockKind::Definition, 0, 0), (setext, 1, 0), (BlockKind::Paragraph, 3, 2)]);
+/// let asked = Extensions { tables: true, ..Extensions::default() };
+/// assert_eq!(scan_blocks(b"|a|\n|-|", asked).next().unwrap().kind, BlockKind::Table(1));
 /// ```
 #[must_use]
-pub fn scan_blocks(page: &[u8]) -> Blocks<'_> {
+pub fn scan_blocks(page: &[u8], extensions: Extensions) -> Blocks<'_> {
     let mut returned = vec![ffi::Block::default(); page.len() / 32 + 8];
     loop {
-        let found = raw::scan_blocks(page, &mut returned);
+        let found = raw::scan_blocks(page, extensions.bits(), &mut returned);
         let is_short = found.status == ffi::TOO_SHORT;
         returned.resize(found.count, ffi::Block::default());
         if !is_short {
@@ -272,26 +268,25 @@ const SHORT: usize = 4096;
 const BYTE_ORDER_MARK: &[u8] = b"\xEF\xBB\xBF";
 
 impl BlockReader {
-    /// Before the first piece of a page.
+    /// Before the first piece of a page, which is read with these extensions.
     ///
     /// ```
-    /// use fillaqut::{BlockExtensions, BlockReader, Container};
-    /// let mut reader = BlockReader::new(BlockExtensions { footnotes: true, ..BlockExtensions::default() });
+    /// use fillaqut::{BlockReader, Container, Extensions};
+    /// let mut reader = BlockReader::new(Extensions { footnotes: true, ..Extensions::default() });
     /// reader.feed(b"[^a]: b\n");
     /// reader.end();
     /// assert_eq!(reader.next_block().unwrap().containers(), [Container::Footnote { place: 0 }]);
     ///
-    /// let mut reader = BlockReader::new(BlockExtensions { definition_lists: true, ..BlockExtensions::default() });
+    /// let mut reader = BlockReader::new(Extensions { definition_lists: true, ..Extensions::default() });
     /// reader.feed(b"apple\n: red\n");
     /// reader.end();
     /// assert_eq!(reader.next_block().unwrap().content(), b"apple");
     /// assert_eq!(reader.next_block().unwrap().containers(), [Container::TermDefinition { place: 6, width: 2 }]);
     /// ```
     #[must_use]
-    pub fn new(extensions: BlockExtensions) -> BlockReader {
-        let BlockExtensions { footnotes, definition_lists } = extensions;
-        let extensions = u32::from(footnotes) * ffi::FOOTNOTES + u32::from(definition_lists) * ffi::DEFINITION_LISTS;
-        BlockReader { page: ffi::OpenBlocks { extensions, ..ffi::OpenBlocks::default() }, ..BlockReader::default() }
+    pub fn new(extensions: Extensions) -> BlockReader {
+        let page = ffi::OpenBlocks { extensions: extensions.bits(), ..ffi::OpenBlocks::default() };
+        BlockReader { page, ..BlockReader::default() }
     }
 
     /// Takes the next bytes of the page.
@@ -321,8 +316,8 @@ impl BlockReader {
         self.has_ended = true;
     }
 
-    /// The next leaf block, once what has come of the page shows where it ends. It is as [`scan_blocks`] has it of the whole page,
-    /// with places of the whole page; but a paragraph that begins with link reference definitions is one block, with these at
+    /// The next leaf block, once what has come of the page shows where it ends. It is as [`scan_blocks`] has it of the whole page
+    /// with these extensions, with places of the whole page; but a paragraph that begins with link reference definitions is one block, with these at
     /// the front of its content.
     ///
     /// ```
@@ -403,18 +398,20 @@ pub struct ListBlock {
     pub lines: Range<usize>,
 }
 
-/// The lists of a page, each where it ends: a list in an item comes before the list of that item. (5.3)
+/// The lists of a page, each where it ends: a list in an item comes before the list of that item. The extensions are as of
+/// [`scan_blocks`]. (5.3)
 ///
 /// ```
-/// let lists = fillaqut::scan_lists(b"2) a\n3) b\n\n   c");
+/// use fillaqut::{scan_lists, Extensions};
+/// let lists = scan_lists(b"2) a\n3) b\n\n   c", Extensions::default());
 /// assert_eq!((lists[0].delimiter, lists[0].start, lists[0].is_loose), (b')', 2, true));
 /// assert_eq!((lists.len(), lists[0].depth, lists[0].lines.clone()), (1, 0, 0..4));
 /// ```
 #[must_use]
-pub fn scan_lists(page: &[u8]) -> Vec<ListBlock> {
+pub fn scan_lists(page: &[u8], extensions: Extensions) -> Vec<ListBlock> {
     let mut returned = vec![ffi::List::default(); page.len() / 32 + 8];
     loop {
-        let found = raw::scan_lists(page, &mut returned);
+        let found = raw::scan_lists(page, extensions.bits(), &mut returned);
         let is_short = found.status == ffi::TOO_SHORT;
         returned.resize(found.count, ffi::List::default());
         if !is_short {

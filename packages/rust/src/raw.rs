@@ -291,20 +291,20 @@ pub(crate) fn run_inline_html(bytes: &[u8], places: &[usize], ends: &mut [usize]
     run
 }
 
-pub(crate) fn scan_blocks(bytes: &[u8], blocks: &mut [ffi::Block]) -> ffi::Blocks {
+pub(crate) fn scan_blocks(bytes: &[u8], extensions: u32, blocks: &mut [ffi::Block]) -> ffi::Blocks {
     let (listed, capacity) = (blocks.as_mut_ptr(), blocks.len());
     // SAFETY: each pointer and length are those of one slice, and what is written is a `&mut` of its own.
-    let found = unsafe { ffi::mds_scan_blocks(front(bytes), bytes.len(), listed, capacity) };
+    let found = unsafe { ffi::mds_scan_blocks(front(bytes), bytes.len(), extensions, listed, capacity) };
     if found.status == ffi::NO_MEMORY {
         refused();
     }
     found
 }
 
-pub(crate) fn scan_lists(bytes: &[u8], lists: &mut [ffi::List]) -> ffi::Blocks {
+pub(crate) fn scan_lists(bytes: &[u8], extensions: u32, lists: &mut [ffi::List]) -> ffi::Blocks {
     let (listed, capacity) = (lists.as_mut_ptr(), lists.len());
     // SAFETY: each pointer and length are those of one slice, and what is written is a `&mut` of its own.
-    let found = unsafe { ffi::mds_scan_lists(front(bytes), bytes.len(), listed, capacity) };
+    let found = unsafe { ffi::mds_scan_lists(front(bytes), bytes.len(), extensions, listed, capacity) };
     if found.status == ffi::NO_MEMORY {
         refused();
     }
@@ -358,24 +358,26 @@ fn views_of(texts: &[&str]) -> Vec<ffi::View> {
     texts.iter().map(|it| ffi::View { text: front(it.as_bytes()), length: it.len() }).collect()
 }
 
-pub(crate) fn html_unsafe(text: &str, options: u32, buffer: &mut [u8]) -> Text {
+pub(crate) fn html_unsafe(text: &str, extensions: u32, buffer: &mut [u8]) -> Text {
     let bytes = text.as_bytes();
     // SAFETY: each pointer and length are those of one slice, and what is written is a `&mut` of its own.
-    returned(unsafe { ffi::mds_html_unsafe(front(bytes), bytes.len(), options, buffer.as_mut_ptr(), buffer.len()) })
+    returned(unsafe { ffi::mds_html_unsafe(front(bytes), bytes.len(), extensions, buffer.as_mut_ptr(), buffer.len()) })
 }
 
-pub(crate) fn html(text: &str, options: u32, schemes: &[&str], buffer: &mut [u8]) -> Text {
+pub(crate) fn html(text: &str, extensions: u32, schemes: &[&str], buffer: &mut [u8]) -> Text {
     let (bytes, views) = (text.as_bytes(), views_of(schemes));
     let (out, capacity) = (buffer.as_mut_ptr(), buffer.len());
     // SAFETY: each pointer and length are those of one slice, those of the views too, and what is written is a `&mut` of its own.
-    returned(unsafe { ffi::mds_html(front(bytes), bytes.len(), options, views.as_ptr(), views.len(), out, capacity) })
+    returned(unsafe {
+        ffi::mds_html(front(bytes), bytes.len(), extensions, views.as_ptr(), views.len(), out, capacity)
+    })
 }
 
-pub(crate) fn events(text: &str, options: u32, events: &mut [ffi::Event], texts: &mut [u8]) -> ffi::Events {
+pub(crate) fn events(text: &str, extensions: u32, events: &mut [ffi::Event], texts: &mut [u8]) -> ffi::Events {
     let bytes = text.as_bytes();
     let (listed, many, out, capacity) = (events.as_mut_ptr(), events.len(), texts.as_mut_ptr(), texts.len());
     // SAFETY: each pointer and length are those of one slice, and what is written are two `&mut` of its own.
-    let found = unsafe { ffi::mds_events(front(bytes), bytes.len(), options, listed, many, out, capacity) };
+    let found = unsafe { ffi::mds_events(front(bytes), bytes.len(), extensions, listed, many, out, capacity) };
     if found.status == ffi::NO_MEMORY {
         refused();
     }

@@ -21,6 +21,13 @@ pub const SPACE_PENDING: u32 = 12;
 pub const BAD_KIND: u32 = 13;
 pub const BAD_STATE: u32 = 14;
 
+pub const TABLES: u32 = 2;
+pub const FOOTNOTES: u32 = 4;
+pub const STRIKETHROUGH: u32 = 8;
+pub const TASKS: u32 = 16;
+pub const DEFINITION_LISTS: u32 = 4096;
+pub const WIKILINKS: u32 = 32768;
+
 pub const ALERT_NOTE: u32 = 1;
 pub const ALERT_TIP: u32 = 2;
 pub const ALERT_IMPORTANT: u32 = 3;
@@ -55,9 +62,6 @@ pub const BLOCK_PARAGRAPH: u32 = 12;
 pub const BLOCK_FOOTNOTE: u32 = 13;
 pub const BLOCK_TERM_DEFINITION: u32 = 14;
 
-pub const FOOTNOTES: u32 = 1;
-pub const DEFINITION_LISTS: u32 = 2;
-
 pub const INLINE_TEXT: u32 = 0;
 pub const INLINE_ESCAPE: u32 = 1;
 pub const INLINE_REFERENCE: u32 = 2;
@@ -77,19 +81,11 @@ pub const INLINE_LINK_END: u32 = 15;
 pub const INLINE_STRIKETHROUGH: u32 = 16;
 pub const INLINE_STRIKETHROUGH_END: u32 = 17;
 
-pub const STRIKETHROUGH: u32 = 1;
-pub const WIKILINKS: u32 = 2;
-
 pub const TARGET_INLINE: u32 = 1;
 pub const TARGET_FULL: u32 = 2;
 pub const TARGET_COLLAPSED: u32 = 3;
 pub const TARGET_SHORTCUT: u32 = 4;
 pub const TARGET_WIKI: u32 = 5;
-
-pub const OPTION_TABLES: u32 = 2;
-pub const OPTION_STRIKETHROUGH: u32 = 8;
-pub const OPTION_TASKS: u32 = 16;
-pub const OPTION_WIKILINKS: u32 = 32768;
 
 pub const EVENT_START: u32 = 0;
 pub const EVENT_END: u32 = 1;
@@ -504,7 +500,13 @@ extern "C" {
         max_next: usize,
     ) -> ReferenceDefinition;
     pub fn mds_scan_table_head(bytes: *const c_void, length: usize, alignments: *mut u8, capacity: usize) -> Text;
-    pub fn mds_scan_blocks(bytes: *const c_void, length: usize, blocks: *mut Block, capacity: usize) -> Blocks;
+    pub fn mds_scan_blocks(
+        bytes: *const c_void,
+        length: usize,
+        extensions: u32,
+        blocks: *mut Block,
+        capacity: usize,
+    ) -> Blocks;
     pub fn mds_block_content(
         bytes: *const c_void,
         length: usize,
@@ -524,7 +526,13 @@ extern "C" {
         open: *mut OpenBlocks,
         block: *mut Block,
     ) -> LineBlock;
-    pub fn mds_scan_lists(bytes: *const c_void, length: usize, lists: *mut List, capacity: usize) -> Blocks;
+    pub fn mds_scan_lists(
+        bytes: *const c_void,
+        length: usize,
+        extensions: u32,
+        lists: *mut List,
+        capacity: usize,
+    ) -> Blocks;
     pub fn mds_scan_inlines(
         text: *const c_void,
         length: usize,
@@ -537,17 +545,23 @@ extern "C" {
     pub fn mds_html(
         text: *const c_void,
         length: usize,
-        options: u32,
+        extensions: u32,
         schemes: *const View,
         scheme_count: usize,
         buffer: *mut u8,
         capacity: usize,
     ) -> Text;
-    pub fn mds_html_unsafe(text: *const c_void, length: usize, options: u32, buffer: *mut u8, capacity: usize) -> Text;
+    pub fn mds_html_unsafe(
+        text: *const c_void,
+        length: usize,
+        extensions: u32,
+        buffer: *mut u8,
+        capacity: usize,
+    ) -> Text;
     pub fn mds_events(
         text: *const c_void,
         length: usize,
-        options: u32,
+        extensions: u32,
         events: *mut Event,
         capacity: usize,
         texts: *mut u8,

@@ -3,13 +3,22 @@
 
 use fillaqut::*;
 
+const NONE: Extensions = Extensions {
+    tables: false,
+    footnotes: false,
+    strikethrough: false,
+    tasks: false,
+    definition_lists: false,
+    wikilinks: false,
+};
+
 /// The kinds of the leaf blocks, with their first lines, how many containers they go on with, and how many they stand in.
 fn returned(page: &[u8]) -> Vec<(BlockKind, usize, usize, usize)> {
-    scan_blocks(page).map(|it| (it.kind, it.lines.start, it.kept, it.containers().len())).collect()
+    scan_blocks(page, NONE).map(|it| (it.kind, it.lines.start, it.kept, it.containers().len())).collect()
 }
 
 fn contents(page: &str) -> Vec<String> {
-    scan_blocks(page.as_bytes()).map(|it| String::from_utf8(it.content()).unwrap()).collect()
+    scan_blocks(page.as_bytes(), NONE).map(|it| String::from_utf8(it.content()).unwrap()).collect()
 }
 
 /// Examples of CommonMark 0.31.2 by their numbers, and of tables.
@@ -22,7 +31,10 @@ fn blocks() {
     assert_eq!(returned(b"## foo ##\n\nbar\n---"), [(Heading(H2), 0, 0, 0), (Blank, 1, 0, 0), (Setext(H2), 2, 0, 0)]);
     assert_eq!(returned(b"````\n```\n"), [(Fenced(4, b'`'), 0, 0, 0)]); // as 124
     assert_eq!(returned(b"<!-- a -->\n"), [(Html(HtmlBlockKind::Comment), 0, 0, 0)]);
-    assert_eq!(returned(b"| a |\n| - |\n| b |"), [(Table(1), 0, 0, 0)]);
+    let page = b"| a |\n| - |\n| b |";
+    assert_eq!(returned(page), [(Paragraph, 0, 0, 0)]);
+    let mut found = scan_blocks(page, Extensions { tables: true, ..NONE }).map(|it| (it.kind, it.lines));
+    assert_eq!((found.next(), found.next()), (Some((Table(1), 0..3)), None)); // as 198 of GFM
     let expected = [(Definition, 0, 0, 0), (Setext(H1), 1, 0, 0), (Paragraph, 3, 0, 0)];
     assert_eq!(returned(b"[foo]: /url\nbar\n===\n[foo]\n"), expected); // 215
     assert_eq!(returned(b"> bar\nbaz\n> foo\n"), [(Paragraph, 0, 0, 1)]); // 233
@@ -38,14 +50,14 @@ fn blocks() {
 #[test]
 fn places_of_blocks() {
     let page = b"> - a\n\n   b\n 12) c";
-    let blocks: Vec<_> = scan_blocks(page).collect();
+    let blocks: Vec<_> = scan_blocks(page, NONE).collect();
     let quote = Container::Quote { place: 0 };
     let bullet = Container::Item { place: 2, delimiter: b'-', start: 0, width: 2 };
     assert_eq!(blocks[0].containers(), [quote, bullet]);
     assert_eq!((blocks[0].range.clone(), blocks[0].place, blocks[0].indent), (0..6, 4, 0));
     assert_eq!((blocks[2].range.clone(), blocks[2].place, blocks[2].indent), (7..18, 10, 3));
     assert_eq!((blocks.len(), blocks[2].lines.clone()), (3, 2..4)); // the number of an item that ends a paragraph is 1
-    let other: Vec<_> = scan_blocks(b" 12) c").collect();
+    let other: Vec<_> = scan_blocks(b" 12) c", NONE).collect();
     assert_eq!(other[0].containers(), [Container::Item { place: 1, delimiter: b')', start: 12, width: 5 }]);
 }
 
@@ -53,11 +65,11 @@ fn places_of_blocks() {
 #[test]
 fn many_blocks() {
     let page = [">".repeat(1000), "a\n".into(), "\n- ".repeat(500)].concat();
-    let blocks: Vec<_> = scan_blocks(page.as_bytes()).collect();
+    let blocks: Vec<_> = scan_blocks(page.as_bytes(), NONE).collect();
     assert_eq!((blocks[0].containers().len(), blocks[0].content()), (1000, b"a".to_vec()));
     assert_eq!(blocks.iter().map(|it| it.range.len()).sum::<usize>(), page.len());
     let code = [b" ```\n".to_vec(), b"\ta\n".repeat(100)].concat(); // of each tab one column is indent (4.5)
-    assert_eq!(scan_blocks(&code).next().unwrap().content(), b"   a\n".repeat(100));
+    assert_eq!(scan_blocks(&code, NONE).next().unwrap().content(), b"   a\n".repeat(100));
 }
 
 /// Examples of CommonMark 0.31.2, and many lists.
@@ -72,20 +84,20 @@ fn lists() {
         ("123456789. ok\n", &[(b'.', 123_456_789, false, 0, 0, 1)]),                        // 265
     ];
     for (page, expected) in rows {
-        let found = scan_lists(page.as_bytes());
+        let found = scan_lists(page.as_bytes(), NONE);
         let returned =
             found.iter().map(|it| (it.delimiter, it.start, it.is_loose, it.depth, it.lines.start, it.lines.end));
         assert_eq!(returned.collect::<Vec<_>>(), expected);
     }
-    assert_eq!(scan_lists("- a\n+ a\n".repeat(1000).as_bytes()).len(), 2000);
+    assert_eq!(scan_lists("- a\n+ a\n".repeat(1000).as_bytes(), NONE).len(), 2000);
 }
 
 fn kinds_of(text: &str, labels: &[&str]) -> Vec<InlineKind> {
-    scan_inlines(text, labels, InlineExtensions::default()).map(|it| it.kind).collect()
+    scan_inlines(text, labels, NONE).map(|it| it.kind).collect()
 }
 
 /// A text with elements for its emphasis and its links, of which each has its destination or its label.
-fn marked(text: &str, labels: &[&str], extensions: InlineExtensions) -> String {
+fn marked(text: &str, labels: &[&str], extensions: Extensions) -> String {
     let element = |kind: &str, link: Link| match link.target {
         LinkTarget::Inline { destination, .. } => format!("<{kind} {}>", &text[destination]),
         LinkTarget::Full(label) | LinkTarget::Collapsed(label) | LinkTarget::Shortcut(label) => {
@@ -130,19 +142,18 @@ fn inlines() {
         ("foo \n baz", &[], "foo\nbaz"),                                             // 649
     ];
     for (text, labels, expected) in rows {
-        let none = InlineExtensions::default();
-        assert_eq!(marked(text, labels, none), expected);
-        assert_eq!(scan_inlines(text, labels, none).map(|it| &text[it.range]).collect::<String>(), text);
+        assert_eq!(marked(text, labels, NONE), expected);
+        assert_eq!(scan_inlines(text, labels, NONE).map(|it| &text[it.range]).collect::<String>(), text);
     }
 }
 
 /// Examples of GitHub Flavored Markdown 0.29 by their numbers, and what CommonMark alone makes of one.
 #[test]
 fn strikethrough() {
-    let extensions = InlineExtensions { strikethrough: true, ..InlineExtensions::default() };
+    let extensions = Extensions { strikethrough: true, ..NONE };
     let text = "~~Hi~~ Hello, ~there~ world!"; // 491
     assert_eq!(marked(text, &[], extensions), "<del>Hi</del> Hello, <del>there</del> world!");
-    assert_eq!(marked(text, &[], InlineExtensions::default()), text);
+    assert_eq!(marked(text, &[], Extensions { tables: true, tasks: true, wikilinks: true, ..NONE }), text);
     for text in ["This ~~has a", "new paragraph~~."] {
         assert_eq!(marked(text, &[], extensions), text); // 492
     }
@@ -151,12 +162,12 @@ fn strikethrough() {
 /// Two brackets, a target, and perhaps a pipe and a text; and what CommonMark alone makes of one.
 #[test]
 fn wikilinks() {
-    let extensions = InlineExtensions { wikilinks: true, ..InlineExtensions::default() };
-    let both = InlineExtensions { strikethrough: true, ..extensions };
+    let extensions = Extensions { wikilinks: true, ..NONE };
+    let both = Extensions { strikethrough: true, ..extensions };
     assert_eq!(marked("[[a]] ![[b|*c*]]", &[], extensions), "<a [[a]]></> <img [[b]]><em>c</em></>");
     assert_eq!(marked("~[[a]]~", &[], both), "<del><a [[a]]></></del>");
     assert_eq!(marked("~[[a]]~", &[], extensions), "~<a [[a]]></>~");
-    assert_eq!(marked("[[a]]", &["a"], InlineExtensions::default()), "[<a [a]>a</>]");
+    assert_eq!(marked("[[a]]", &["a"], NONE), "[<a [a]>a</>]");
     for text in ["[[]]", "[[a]", "[[a\nb]]", "[[a|b](c)"] {
         assert_eq!(marked(text, &[], extensions), text);
     }
@@ -186,7 +197,7 @@ fn many_inlines() {
     let text = ["*a ".repeat(1000), "b*".repeat(1000), "[999]".into()].concat();
     let numbers: Vec<_> = (0..1000).map(|it| it.to_string()).collect();
     let labels: Vec<_> = numbers.iter().map(String::as_str).collect();
-    let inlines = scan_inlines(&text, &labels, InlineExtensions::default());
+    let inlines = scan_inlines(&text, &labels, NONE);
     assert_eq!(inlines.len(), inlines.clone().count());
     assert_eq!(inlines.filter(|it| it.kind == InlineKind::EndEmphasis).count(), 1000);
     assert_eq!(kinds_of(&text, &labels).last(), Some(&InlineKind::EndLink));
@@ -195,18 +206,17 @@ fn many_inlines() {
 /// Examples of CommonMark 0.31.2 and of GitHub Flavored Markdown 0.29, by their numbers.
 #[test]
 fn html_of_pages() {
-    let none = Extensions::default();
-    let every = Extensions { tables: true, strikethrough: true, tasks: true, wikilinks: true };
-    assert_eq!(html_unsafe("", none), "");
+    let every = Extensions { tables: true, strikethrough: true, tasks: true, wikilinks: true, ..NONE };
+    assert_eq!(html_unsafe("", NONE), "");
     assert_eq!(
-        html_unsafe("> # Foo\n> bar\n> baz\n", none),
+        html_unsafe("> # Foo\n> bar\n> baz\n", NONE),
         "<blockquote>\n<h1>Foo</h1>\n<p>bar\nbaz</p>\n</blockquote>\n"
     ); // 228
-    assert_eq!(html_unsafe("</div>\n*foo*\n", none), "</div>\n*foo*\n"); // 151
+    assert_eq!(html_unsafe("</div>\n*foo*\n", NONE), "</div>\n*foo*\n"); // 151
     let table = "<table>\n<thead>\n<tr>\n<th>abc</th>\n<th>def</th>\n</tr>\n</thead>\n</table>\n";
     assert_eq!(html_unsafe("| abc | def |\n| --- | --- |\n", every), table); // 205
     assert_eq!(html("| abc | def |\n| --- | --- |\n", every), table);
-    assert_eq!(html_unsafe("| a |\n| - |\n", none), "<p>| a |\n| - |</p>\n");
+    assert_eq!(html_unsafe("| a |\n| - |\n", NONE), "<p>| a |\n| - |</p>\n");
     let struck = "<p><del>Hi</del> Hello, <del>there</del> world!</p>\n";
     assert_eq!(html_unsafe("~~Hi~~ Hello, ~there~ world!\n", every), struck); // 491
     let tasks = "<ul>\n<li><input disabled=\"\" type=\"checkbox\"> foo</li>\n</ul>\n";
@@ -221,17 +231,37 @@ fn html_by_one_extension() {
     for asked in 0..4 {
         let only = |which| asked == which;
         let (tables, strikethrough, tasks, wikilinks) = (only(0), only(1), only(2), only(3));
-        let extensions = Extensions { tables, strikethrough, tasks, wikilinks };
+        let extensions = Extensions { tables, strikethrough, tasks, wikilinks, ..NONE };
         for (number, page) in pages.iter().enumerate() {
-            let is_read = html_unsafe(page, extensions) != html_unsafe(page, Extensions::default());
+            let is_read = html_unsafe(page, extensions) != html_unsafe(page, NONE);
             assert_eq!(is_read, number == asked, "{page} with the extension {asked}");
+        }
+    }
+}
+
+/// Events and HTML are not built of footnotes and definition lists.
+#[test]
+fn extensions_that_are_not_built() {
+    let footnotes = Extensions { footnotes: true, ..NONE };
+    let definition_lists = Extensions { tables: true, definition_lists: true, ..NONE };
+    for (asked, name) in [(footnotes, "footnotes"), (definition_lists, "definition_lists")] {
+        let calls: [fn(Extensions); 4] = [
+            |asked| drop(html("a", asked)),
+            |asked| drop(html_unsafe("a", asked)),
+            |asked| drop(html_with_schemes("a", asked, &[])),
+            |asked| drop(Parser::new("a", asked)),
+        ];
+        for call in calls {
+            let why = std::panic::catch_unwind(|| call(asked)).unwrap_err();
+            let expected = format!("events and HTML are not built of the extension `{name}` yet");
+            assert_eq!(why.downcast_ref::<String>(), Some(&expected));
         }
     }
 }
 
 #[test]
 fn html_of_pages_by_others() {
-    let none = Extensions::default();
+    let none = NONE;
     let link =
         |address: &str, text: &str| format!("<p><a href=\"{address}\" rel=\"nofollow noopener\">{text}</a></p>\n");
     assert_eq!(html("a <b c=\"d\">&amp;", none), "<p>a &lt;b c=&quot;d&quot;&gt;&amp;</p>\n");
@@ -249,5 +279,5 @@ fn long_html() {
     let address = format!("/{}", "b".repeat(5000));
     let page = format!("{}\n[a]: {address}\n", "[a]\n".repeat(100));
     let links = vec![format!("<a href=\"{address}\">a</a>"); 100];
-    assert_eq!(html_unsafe(&page, Extensions::default()), format!("<p>{}</p>\n", links.join("\n")));
+    assert_eq!(html_unsafe(&page, NONE), format!("<p>{}</p>\n", links.join("\n")));
 }

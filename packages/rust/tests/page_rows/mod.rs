@@ -9,10 +9,11 @@ use crate::tables::{each_page, PageRow, HTML_KINDS};
 fn container_word(container: &Container) -> String {
     match container {
         Container::Quote { place } => format!("quote@{place}"),
+        Container::Footnote { place } => format!("footnote@{place}"),
+        Container::TermDefinition { place, width } => format!("term{width}@{place}"),
         Container::Item { place, delimiter, start, width } => {
             format!("item{}{start},{width}@{place}", char::from(*delimiter))
         }
-        other => panic!("not asked for: {other:?}"),
     }
 }
 
@@ -33,9 +34,9 @@ fn leaf_word(block: &Block) -> String {
 }
 
 /// What begins and ends, and what stands there.
-fn blocks_of(page: &str) -> String {
+fn blocks_of(row: &PageRow) -> String {
     let (mut words, mut depth) = (vec![], 0);
-    for block in scan_blocks(page.as_bytes()) {
+    for block in scan_blocks(row.text.as_bytes(), extensions(row)) {
         words.extend((block.kept..depth).map(|_| "end".to_owned()));
         words.extend(block.containers()[block.kept..].iter().map(container_word));
         words.push(leaf_word(&block));
@@ -47,10 +48,10 @@ fn blocks_of(page: &str) -> String {
 
 #[test]
 fn rows_of_blocks() {
-    each_page("scan_blocks", |row| assert_eq!(blocks_of(&row.text), row.answer, "{}", row.place));
+    each_page("scan_blocks", |row| assert_eq!(blocks_of(row), row.answer, "{}", row.place));
     each_page("block_content", |row| {
-        let contents: Vec<u8> =
-            scan_blocks(row.text.as_bytes()).flat_map(|it| [it.content(), b"|".to_vec()].concat()).collect();
+        let blocks = scan_blocks(row.text.as_bytes(), extensions(row));
+        let contents: Vec<u8> = blocks.flat_map(|it| [it.content(), b"|".to_vec()].concat()).collect();
         assert_eq!(String::from_utf8(contents).unwrap(), row.answer, "{}", row.place);
     });
 }
@@ -58,7 +59,7 @@ fn rows_of_blocks() {
 #[test]
 fn rows_of_lists() {
     each_page("scan_lists", |row| {
-        let words = scan_lists(row.text.as_bytes()).into_iter().map(|it| {
+        let words = scan_lists(row.text.as_bytes(), extensions(row)).into_iter().map(|it| {
             let looseness = if it.is_loose { "loose" } else { "tight" };
             let (first, last) = (it.lines.start + 1, it.lines.end);
             format!("{}{}@{}:{first}-{last} {looseness}", char::from(it.delimiter), it.start, it.depth)
@@ -123,9 +124,7 @@ fn inline_word(row: &PageRow, it: &Inline) -> String {
 fn rows_of_inlines() {
     each_page("scan_inlines", |row| {
         let labels: Vec<&str> = row.words.iter().filter(|(name, _)| name == "label").map(|(_, it)| &it[..]).collect();
-        let extensions =
-            InlineExtensions { strikethrough: row.asks("strikethrough"), wikilinks: row.asks("wikilinks") };
-        let inlines = scan_inlines(&row.text, &labels, extensions);
+        let inlines = scan_inlines(&row.text, &labels, extensions(row));
         let found: String = inlines.map(|it| inline_word(row, &it)).collect();
         assert_eq!(found, row.answer, "{}", row.place);
     });
@@ -134,8 +133,10 @@ fn rows_of_inlines() {
 fn extensions(row: &PageRow) -> Extensions {
     Extensions {
         tables: row.asks("tables"),
+        footnotes: row.asks("footnotes"),
         strikethrough: row.asks("strikethrough"),
         tasks: row.asks("tasks"),
+        definition_lists: row.asks("definition-lists"),
         wikilinks: row.asks("wikilinks"),
     }
 }

@@ -28,7 +28,7 @@ fn each_example() {
 }
 
 fn every() -> Extensions {
-    Extensions { tables: true, strikethrough: true, tasks: true, wikilinks: true }
+    Extensions { tables: true, strikethrough: true, tasks: true, wikilinks: true, ..Extensions::default() }
 }
 
 fn events(page: &str) -> Vec<(Event<'_>, Range<usize>)> {

@@ -13,9 +13,17 @@ fn block_of(it: &Block) -> (BlockKind, Range<usize>, usize, Vec<Container>, usiz
 #[test]
 fn fed_blocks() {
     let page = b"# A\r\n> - b\n> c\n\n1. d\n   - e\n\n      f\n-\n  ```\n  g\r\n===\n| a |\n|-|\n| b";
-    let expected: Vec<_> = scan_blocks(page).map(|it| block_of(&it)).collect();
+    for tables in [false, true] {
+        fed_with(page, Extensions { tables, ..Extensions::default() });
+    }
+}
+
+fn fed_with(page: &[u8], extensions: Extensions) {
+    let expected: Vec<_> = scan_blocks(page, extensions).map(|it| block_of(&it)).collect();
+    let is_table = expected.iter().any(|it| it.0 == BlockKind::Table(1));
+    assert_eq!(is_table, extensions.tables);
     for size in 1..=page.len() {
-        let (mut reader, mut found) = (BlockReader::default(), Vec::new());
+        let (mut reader, mut found) = (BlockReader::new(extensions), Vec::new());
         for piece in page.chunks(size) {
             reader.feed(piece);
             while let Some(block) = reader.next_block() {

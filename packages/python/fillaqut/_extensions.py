@@ -1,0 +1,14 @@
+"""The extensions of packages/extensions.tsv, as packages/extensions has written them."""
+from . import _c
+
+BITS = {
+    "tables": _c.TABLES,  # A header row, a delimiter row under it, and the rows after these are a table. (GitHub Flavored Markdown 0.29, 4.10)
+    "footnotes": _c.FOOTNOTES,  # `[^label]:` begins a footnote definition, which goes on with blank lines and lines indented by four columns. (GitHub)
+    "strikethrough": _c.STRIKETHROUGH,  # Text between `~` and `~`, or `~~` and `~~`, is struck through. (GitHub Flavored Markdown 0.29, 6.5)
+    "tasks": _c.TASKS,  # A list item that begins with `[ ]` or `[x]` is a task. (GitHub Flavored Markdown 0.29, 5.3)
+    "definition-lists": _c.DEFINITION_LISTS,  # `:` begins a definition of the paragraph before it, at once or after one blank line. (PHP Markdown Extra)
+    "wikilinks": _c.WIKILINKS,  # `[[target]]` and `[[target|text]]` are links, and after `!` images. (Obsidian)
+}
+
+# Those that events and HTML are not built of yet.
+NOT_BUILT = frozenset[str](["footnotes", "definition-lists"])
