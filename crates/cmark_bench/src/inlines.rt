@@ -1,9 +1,9 @@
 //! The inlines of whole texts.
 
 use crate::loops::{each_stretch, two};
-use markdown_inlines::extensions::InlineExtensions;
 use markdown_inlines::inlines::{Inline, InlineFinder, find_inlines};
 use markdown_inlines::links::Labels;
+use markdown_values::values::Extensions;
 use std::alloc::{AllocError, Global};
 
 // No label is defined.
@@ -62,7 +62,7 @@ fn found<L: Labels>(alloc: Global, text: &[u8], at: &[usize], rounds: usize, lab
 
 // What is counted of the next text.
 fn next<L: Labels>(alloc: Global, finder: &mut InlineFinder, text: &str, labels: &L) -> u64 {
-    match finder.find(alloc, text, labels, InlineExtensions::none()) {
+    match finder.find(alloc, text, labels, Extensions::none()) {
         Ok(()) => counted(finder.inlines()),
         Err(_) => 0,
     }
@@ -93,7 +93,7 @@ pub extern "C" fn ours_inlines_once(
     rounds: usize,
 ) -> u64 {
     let call = |text: &str| -> u64 {
-        match find_inlines(alloc, text, &NoLabels, InlineExtensions::none()) {
+        match find_inlines(alloc, text, &NoLabels, Extensions::none()) {
             Ok(found) => counted(&found.inlines),
             Err(_) => 0,
         }

@@ -1,21 +1,22 @@
 //! The events of a page in words.
 use markdown_blocks::blocks::BlockKind;
-use markdown_blocks::containers::{BlockExtensions, Container};
+use markdown_blocks::containers::Container;
 use markdown_blocks::events::BlockEvent;
 use markdown_blocks::page_events::page_events_ext;
+use markdown_values::values::Extensions;
 use std::alloc::{AllocError, Global};
 
 /// A page's events, one after another: a container with how many bytes of the page stand before its
 /// marker, a leaf block with its first line and its last, and `end` where a container ends.
 pub fn shown_events(alloc: Global, page: &[u8]) -> Result<String, AllocError> {
-    shown_events_ext(alloc, page, BlockExtensions::none())
+    shown_events_ext(alloc, page, Extensions::none())
 }
 
 /// The same with these extensions on.
 pub fn shown_events_ext(
     alloc: Global,
     page: &[u8],
-    extensions: BlockExtensions,
+    extensions: Extensions,
 ) -> Result<String, AllocError> {
     let mut text = String::new(alloc);
     for event in page_events_ext(alloc, page, extensions) {

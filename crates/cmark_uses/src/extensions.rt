@@ -1,6 +1,6 @@
 //! Task list items, alerts and metadata blocks of a page.
 ghost use Rattle.std.specs.Prelude.{◌≡◌, List, length, count_by, IfOk};
-ghost use Rattle.markdown_blocks.specs.containers.Containers.{no_extensions};
+ghost use Rattle.markdown_values.specs.values.Extensions.{commonmark};
 ghost use Rattle.markdown_blocks.specs.declared.first_blocks.Task.{Task};
 ghost use Rattle.markdown_blocks.specs.first_blocks.Tasks.{AreTasksOf};
 
@@ -12,7 +12,7 @@ use std::alloc::{AllocError, Global};
 
 /// How many task list items of a page are checked, and how many it has.
 pub fn count_tasks(alloc: Global, page: &[u8]) -> Result<(usize, usize), AllocError>
-    ensures { IfOk result (λ counts. (tasks : List Task) × AreTasksOf no_extensions page.now tasks
+    ensures { IfOk result (λ counts. (tasks : List Task) × AreTasksOf commonmark page.now tasks
         × (counts.0 ≡ count_by (λ task. task.is_checked) tasks) × (counts.1 ≡ length tasks)) }
 {
     let tasks = tasks_of_page(alloc, page)?;

@@ -1,15 +1,16 @@
 //! Footnote definitions of pages.
-use markdown_blocks::containers::{BlockExtensions, Container};
+use markdown_blocks::containers::Container;
 use markdown_blocks::events::BlockEvent;
 use markdown_blocks::footnotes::footnote_label;
 use markdown_blocks::page_events::page_events_ext;
+use markdown_values::values::Extensions;
 use std::alloc::{AllocError, Global};
 
 /// The labels of a page's footnote definitions, in order.
 pub fn footnote_labels<'a>(alloc: Global, page: &'a [u8]) -> Result<Vec<&'a [u8]>, AllocError> {
-    let asked = BlockExtensions {
+    let asked = Extensions {
         footnotes: true,
-        ..BlockExtensions::none()
+        ..Extensions::none()
     };
     let mut labels = Vec::new(alloc);
     for event in page_events_ext(alloc, page, asked) {

@@ -1,6 +1,6 @@
 //! Where the labels of a page lead.
 ghost use Rattle.std.specs.Prelude.{◌≡◌, ℕ, List, option_map, IfOk};
-ghost use Rattle.markdown_blocks.specs.containers.Containers.{no_extensions};
+ghost use Rattle.markdown_values.specs.values.Extensions.{commonmark};
 ghost use Rattle.markdown_blocks.specs.link_definitions.LinkDefinitions.{Named, HasDefinitions, first_of};
 
 use markdown_blocks::link_definitions::LinkDefinitions;
@@ -13,7 +13,7 @@ pub fn destination_of(
     label: &str,
 ) -> Result<Option<Vec<u8>>, AllocError>
     ensures { IfOk result (λ found. (named : List Named)
-        × HasDefinitions no_extensions page.now named
+        × HasDefinitions commonmark page.now named
         × (option_map (λ v. v.items) found
         ≡ option_map (λ target. target.destination) (first_of label.now named))) }
 {

@@ -1,6 +1,6 @@
 //! The lists of a page.
 ghost use Rattle.std.specs.Prelude.{◌≡◌, List, count_by, IfOk};
-ghost use Rattle.markdown_blocks.specs.containers.Containers.{no_extensions};
+ghost use Rattle.markdown_values.specs.values.Extensions.{commonmark};
 ghost use Rattle.markdown_blocks.specs.declared.lists.ListBlock.{ListBlock};
 ghost use Rattle.markdown_blocks.specs.lists.Lists.{AreListsOf};
 
@@ -23,7 +23,7 @@ pub fn first_list(alloc: Global, page: &[u8]) -> Result<Option<ListBlock>, Alloc
 /// How many lists of a page are loose.
 pub fn count_loose(alloc: Global, page: &[u8]) -> Result<usize, AllocError>
     ensures { IfOk result (λ count. (lists : List ListBlock)
-        × AreListsOf no_extensions page.now lists
+        × AreListsOf commonmark page.now lists
         × (count ≡ count_by (λ list. list.is_loose) lists)) }
 {
     let lists = lists_of_page(alloc, page)?;

@@ -8,7 +8,7 @@ use markdown_blocks::containers::Container;
 use markdown_blocks::content::cell_content;
 use markdown_blocks::events::{BlockEvent, Blocks, Leaf};
 use markdown_blocks::rows::{Row, alignments_of, rows_of};
-use markdown_values::values::Alignment;
+use markdown_values::values::{Alignment, Extensions};
 use std::alloc::{AllocError, Global};
 
 /// How many cells the row with this text has.
@@ -18,11 +18,19 @@ pub fn count_cells(row: &[u8]) -> usize
     cells_of(row).count()
 }
 
+// CommonMark with tables.
+fn with_tables() -> Extensions {
+    Extensions {
+        tables: true,
+        ..Extensions::none()
+    }
+}
+
 /// The bytes of the cells of a page's tables, each with its place in the page. A row ends with a
 /// line feed and a cell with a tab, both at the place of the row.
 pub fn placed_cells(alloc: Global, page: &[u8]) -> Result<Vec<(u8, usize)>, AllocError> {
     let mut placed = Vec::new(alloc);
-    let mut blocks = Blocks::new(alloc, page);
+    let mut blocks = Blocks::new_ext(alloc, page, with_tables());
     let mut begun: usize = 0;
     while let Some(event) = blocks.next(alloc)? {
         match event {
@@ -84,7 +92,7 @@ fn add_row(
 
 /// How the columns of a page's first table are aligned. It has none where the page has no table.
 pub fn first_alignments(alloc: Global, page: &[u8]) -> Result<Vec<Alignment>, AllocError> {
-    let mut blocks = Blocks::new(alloc, page);
+    let mut blocks = Blocks::new_ext(alloc, page, with_tables());
     while let Some(event) = blocks.next(alloc)? {
         match event {
             BlockEvent::Block(leaf) => {

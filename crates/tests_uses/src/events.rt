@@ -9,9 +9,8 @@ use crate::asserts::{assert_same, made};
 use markdown_events::definitions::{Definitions, Target};
 use markdown_events::event_reader::EventReader;
 use markdown_events::inline_events::inline_events;
-use markdown_inlines::extensions::InlineExtensions;
 use markdown_values::strings::CowStr;
-use markdown_values::values::{Event, Tag};
+use markdown_values::values::{Event, Extensions, Tag};
 use std::alloc::{AllocError, Global};
 use std::process::Abort;
 
@@ -76,7 +75,7 @@ fn assert_leads(rt: &impl Abort, event: &Event, expected: (&str, &str)) {
 // CommonMark 0.31.2, example 527
 #[test]
 fn labels_of_texts_lead_where_a_caller_says(rt: HostRuntime) {
-    let asked = InlineExtensions::none();
+    let asked = Extensions::none();
     let events = made(&rt, inline_events(rt.alloc(), "[x][bar]", &GIVEN, asked));
     let (event, _) = events.first().expect(&rt, "an event");
     assert_leads(&rt, event, ("/b*r*", "ti*tle \u{a9}"));

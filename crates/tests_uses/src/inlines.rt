@@ -13,10 +13,10 @@ use markdown_inlines::code_spans::CodeSpan;
 use markdown_inlines::cut::cut_inlines;
 use markdown_inlines::delimiter_runs::DelimiterRun;
 use markdown_inlines::emphasis::{Delimiters, Emphasis, find_emphasis};
-use markdown_inlines::extensions::InlineExtensions;
 use markdown_inlines::guarded_code_spans::CodeSpans;
 use markdown_inlines::links::{Labels, Link, LinkTarget};
 use markdown_inlines::pieces::{Piece, PieceKind};
+use markdown_values::values::Extensions;
 use std::alloc::AllocError;
 use std::process::Abort;
 use std::test::Fail;
@@ -39,8 +39,12 @@ const LABELS: Defined = Defined {
     labels: &["c", "g h"],
 };
 
-const WIKILINKS: InlineExtensions = InlineExtensions {
+const WIKILINKS: Extensions = Extensions {
+    tables: false,
+    footnotes: false,
     strikethrough: false,
+    tasks: false,
+    definition_lists: false,
     wikilinks: true,
 };
 
@@ -123,7 +127,7 @@ fn pieces_are_joined_to_their_text(rt: HostRuntime) {
     let text = "a *b* \\*&amp;`` c ``<d:e>\\\nf<g@h><i>";
     let cut = made(
         &rt,
-        cut_inlines(rt.alloc(), text, &LABELS, InlineExtensions::none()),
+        cut_inlines(rt.alloc(), text, &LABELS, Extensions::none()),
     );
     let expected = [
         piece(PieceKind::Text, 0, 2),
@@ -156,7 +160,7 @@ fn openers_have_their_links(rt: HostRuntime) {
     let text = "[ [a](b 'c')![d][g\n h][c][][c] [e]";
     let cut = made(
         &rt,
-        cut_inlines(rt.alloc(), text, &LABELS, InlineExtensions::none()),
+        cut_inlines(rt.alloc(), text, &LABELS, Extensions::none()),
     );
     let link = |is_image, source, text, target| {
         Some(Link {
@@ -198,7 +202,7 @@ fn ends_are_searched_for_once(rt: HostRuntime) {
     for (text, passed) in PASSED {
         let cut = made(
             &rt,
-            cut_inlines(rt.alloc(), text, &LABELS, InlineExtensions::none()),
+            cut_inlines(rt.alloc(), text, &LABELS, Extensions::none()),
         );
         assert_same(&rt, (*text, cut.passed), (*text, *passed));
     }

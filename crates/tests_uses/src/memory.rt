@@ -1,8 +1,7 @@
 //! Pages whose memory is refused. `rt try --test --fail-alloc N -- memory` refuses each test its N-th
 //! request for memory: a call that is refused is made again, and gives what it would have given.
-use markdown_events::event_reader::{EventReader, PageSetting};
-use markdown_inlines::extensions::InlineExtensions;
-use markdown_values::values::{Event, Tag, TagEnd};
+use markdown_events::event_reader::EventReader;
+use markdown_values::values::{Event, Extensions, Tag, TagEnd};
 use std::alloc::Global;
 use std::ops::Range;
 use std::process::Abort;
@@ -10,13 +9,13 @@ use std::process::Abort;
 // An event: where its source begins and ends, what it is, and its element or text.
 type Row = (usize, usize, &'static str, &'static str);
 
-const SETTING: PageSetting = PageSetting {
+const SETTING: Extensions = Extensions {
     tables: true,
+    footnotes: false,
+    strikethrough: true,
     tasks: true,
-    inlines: InlineExtensions {
-        strikethrough: true,
-        wikilinks: true,
-    },
+    definition_lists: false,
+    wikilinks: true,
 };
 
 // Containers, and the leaf blocks that ask for memory. (CommonMark 0.31.2, 4.5, 4.6, 5.1 to 5.3)

@@ -2,7 +2,7 @@
 //! `tests/rows/containers.txt` and `extensions.txt` are of the same words.
 use crate::asserts::assert_text;
 use cmark_uses::events::{shown_events, shown_events_ext};
-use markdown_blocks::containers::BlockExtensions;
+use markdown_values::values::Extensions;
 
 const PAGES: &[(&[u8], &str)] = &[
     (
@@ -30,18 +30,20 @@ fn extensions_are_asked_for(rt: HostRuntime) {
         shown_events_ext(
             rt.alloc(),
             b"apple\n: red\n\n[^a]: x\n: y\n\n    : z\n",
-            BlockExtensions::all(),
+            Extensions {
+                footnotes: true,
+                definition_lists: true,
+                ..Extensions::none()
+            },
         ),
         "paragraph 1 1; term_definition 6; paragraph 2 2; blank 3 3; end; footnote 13; paragraph 4 5; blank 6 6; \
         term_definition 30; paragraph 7 7; end; end",
     );
-    let no_tables = BlockExtensions {
-        no_tables: true,
-        ..BlockExtensions::none()
+    let tables = Extensions {
+        tables: true,
+        ..Extensions::none()
     };
-    assert_text(
-        &rt,
-        shown_events_ext(rt.alloc(), b"|a|b|\n|-|-|\n|c|d|\n", no_tables),
-        "paragraph 1 3",
-    );
+    let page = b"|a|b|\n|-|-|\n|c|d|\n";
+    assert_text(&rt, shown_events_ext(rt.alloc(), page, tables), "other 1 3");
+    assert_text(&rt, shown_events(rt.alloc(), page), "paragraph 1 3");
 }
