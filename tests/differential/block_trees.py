@@ -9,7 +9,7 @@ from xml.etree import ElementTree
 
 TOP = Path(__file__).resolve().parents[2]
 FILLAQUT = os.environ.get("FILLAQUT", str(TOP / "crates/fillaqut/out/fillaqut"))
-OURS = [FILLAQUT, "blocks"]
+OURS = [FILLAQUT, "blocks", "-e", "tables"]
 # What is not UTF-8 they replace by U+FFFD: else their patterns end there.
 AS_XML = ["--validate-utf8", "--sourcepos", "-t", "xml"]
 CMARK = [os.environ.get("CMARK", "cmark"), *AS_XML]

@@ -130,8 +130,8 @@ def meets(block, others):
 
 
 def in_pairs(ours, theirs):
-    """Blocks of both that stand in the same lines, in order; None where these are not of one kind. A paragraph of cmark that is a table,
-    whose cells fillaqut inlines leaves out, has no other; a paragraph or heading of cmark begins with the definitions before it."""
+    """Blocks of both that stand in the same lines, in order; None where these are not of one kind. A paragraph or heading of cmark begins
+    with the definitions before it."""
     ours, theirs = [block for block in ours if meets(block, theirs)], [block for block in theirs if meets(block, ours)]
     if [block.kind for block in ours] != [block.kind for block in theirs]:
         return None

@@ -11,7 +11,7 @@ class Inlines(Page):
     command = "inlines"
 
 
-FORMS = b"usage: fillaqut inlines [--] [FILE ..]\n       fillaqut inlines -h | --help | --version\n"
+FORMS = b"usage: fillaqut inlines [-e NAME].. [--gfm] [--] [FILE ..]\n       fillaqut inlines -h | --help | --version\n"
 USAGE, COMPLAINTS = usage_of(FORMS), complaints_of(FORMS)
 UNREAD, NAMED = unread_of(Inlines), named_of(Inlines, b'1 1 0 paragraph\n  0 1 text "a"\n')
 

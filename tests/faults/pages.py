@@ -25,7 +25,7 @@ class Blocks(Page):
         return self.out.startswith(out) and out[-1:] in (b"", b"\n")
 
 
-FORMS = b"usage: fillaqut blocks [--json] [--footnotes] [--definition-lists] [--] [FILE ..]\n       fillaqut blocks -h | --help | --version\n"
+FORMS = b"usage: fillaqut blocks [--json] [-e NAME].. [--gfm] [--] [FILE ..]\n       fillaqut blocks -h | --help | --version\n"
 USAGE, COMPLAINTS = usage_of(FORMS), complaints_of(FORMS)
 UNREAD, NAMED = unread_of(Blocks), named_of(Blocks, b"1 1 0 paragraph\n")
 
@@ -47,7 +47,7 @@ SMALL = [
     Blocks("code", "", b"    a\n\n~~~\nb", b"1 1 0 indented\n2 2 0 blank\n3 4 0 fenced 3 ~\n"),
     Blocks("an info string", "", b"``` \xc3\n", b"1 1 0 fenced 3 ` \\u00c3\n"),
     Blocks("HTML", "", b"<!--\n\n-->\n<p>\n", b"1 3 0 html 2\n4 4 0 html 6\n"),
-    Blocks("a table", "", b"|a|b|\n|-|-|\n|c|d|\n", b"1 3 0 table 2\n"),
+    Blocks("a table", "-e tables", b"|a|b|\n|-|-|\n|c|d|\n", b"1 3 0 table 2\n"),
     Blocks(
         "containers",
         "",
@@ -104,7 +104,7 @@ def a_paragraph(count):
 
 
 def rows(count):
-    return Blocks("rows of a table", "", b"a|b\n-|-\n" + b"c|d\n" * count, b"1 %d 0 table 2\n" % (count + 2))
+    return Blocks("rows of a table", "-e tables", b"a|b\n-|-\n" + b"c|d\n" * count, b"1 %d 0 table 2\n" % (count + 2))
 
 
 def open_code(count):
