@@ -10,7 +10,7 @@ import subprocess
 import sys
 
 HERE = os.path.dirname(os.path.realpath(__file__))
-BENCH = f"{HERE}/../crates/cmark_bench"
+BENCH = f"{HERE}/../crates/bench_calls"
 C = f"{HERE}/../packages/c"
 CALLGRIND = "/usr/include/valgrind/callgrind.h"
 # what may stand beside our calls: the variable that names its library, the side of the driver, the name in the table
@@ -45,8 +45,8 @@ def build_calls(scratch, cpu=None, crate=BENCH):
     """Proves and builds the calls; the folder of their archive. What is left in the tree is as built by default."""
     prove = [f"{HERE}/../docs/kit.py", os.path.basename(crate), "--archive"]
     if cpu:
-        run([*prove, f"{scratch}/libcmark_bench.a", f"--cpu={cpu}"], f"{scratch}/kit.log")
-    run([*prove, f"{crate}/out/libcmark_bench.a"], f"{scratch}/kit.log")
+        run([*prove, f"{scratch}/libbench_calls.a", f"--cpu={cpu}"], f"{scratch}/kit.log")
+    run([*prove, f"{crate}/out/libbench_calls.a"], f"{scratch}/kit.log")
     return scratch if cpu else f"{crate}/out"
 
 
@@ -58,7 +58,7 @@ def build(scratch, cpu=None, with_ours=True, crate=BENCH):
     run(["gcc", "-O2", "-c", *counts, "-o", f"{scratch}/requests.o", f"{HERE}/driver/requests.c"], f"{scratch}/gcc.log")
     links = ["-C", f"link-arg={scratch}/requests.o", "-C", "link-arg=-rdynamic"]
     if with_ours:
-        links += ["-L", f"native={build_calls(scratch, cpu, crate)}", "-l", "static:+whole-archive=cmark_bench"]
+        links += ["-L", f"native={build_calls(scratch, cpu, crate)}", "-l", "static:+whole-archive=bench_calls"]
         links += ["-L", f"native={kit_c()}", "-l", "static=libc_c"]
     program = ["rustc", "--edition", "2024", "-O", "-o", f"{scratch}/side_by_side", f"{HERE}/driver/main.rs"]
     run([*program, *links], f"{scratch}/rustc.log")
@@ -67,7 +67,7 @@ def build(scratch, cpu=None, with_ours=True, crate=BENCH):
 def build_default(scratch):
     """Our calls as built by default, as a library that calls its own functions."""
     made = f"{scratch}/libdefault.so"
-    whole = ["-Wl,--whole-archive", f"{BENCH}/out/libcmark_bench.a", "-Wl,--no-whole-archive"]
+    whole = ["-Wl,--whole-archive", f"{BENCH}/out/libbench_calls.a", "-Wl,--no-whole-archive"]
     run(["gcc", "-shared", "-Wl,-Bsymbolic", "-o", made, *whole, f"{kit_c()}/liblibc_c.a"], f"{scratch}/gcc.log")
     return made
 

@@ -49,7 +49,7 @@ def times(row):
 
 def answered():
     """How many cases of each call pulldown-cmark answered, those of lines apart."""
-    lines = text_of("crates/cmark_replay/stdin").splitlines()[-totals("tests/differential/totals")["answered"] :]
+    lines = text_of("crates/tests_replay/stdin").splitlines()[-totals("tests/differential/totals")["answered"] :]
     found = Counter(line.split("\t")[0] for line in lines)
     return found.pop("line"), found
 

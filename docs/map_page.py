@@ -7,7 +7,7 @@ from crate_list import crates
 from rattle_source import TOP, files_below, public_items, text_of
 
 MAP = "docs/MAP.md"
-USES = "cmark_uses"
+USES = "parser_uses"
 FOLDERS = [path.relative_to(TOP).as_posix() for at in ("packages", "tests") for path in sorted((TOP / at).iterdir()) if path.is_dir()]
 FOLDERS += ["bench", "docs"]
 UNLISTED = (".pyc", ".edit", "Cargo.lock", ".wasm", ".d.mts")  # wrong bodies, and what tools make

@@ -1,4 +1,4 @@
-/* The C functions in the loops of `crates/cmark_bench`: bench/run --through-c links it to the archive that packages/c/build
+/* The C functions in the loops of `crates/bench_calls`: bench/run --through-c links it to the archive that packages/c/build
  * makes. Each function here answers the same sum as the one of the same call there. */
 #include "fillaqut.h"
 #include <stdlib.h>

@@ -1,4 +1,4 @@
-"""What cmark_refusals is made of and how it prints tags, labels and scans of inline HTML, for refusals.py and no_memory_answers.py."""
+"""What tests_refusals is made of and how it prints tags, labels and scans of inline HTML, for refusals.py and no_memory_answers.py."""
 import answers
 from cuts import bytes_passed, find_at, least_closers
 from debug_format import Plain, borrowed, boxed, debug_text, some

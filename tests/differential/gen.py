@@ -1,5 +1,5 @@
 #!/usr/bin/env python3
-"""Cases for pulldown-cmark's scanners and for cmark_replay, a line each on standard output.
+"""Cases for pulldown-cmark's scanners and for tests_replay, a line each on standard output.
 
 COUNT random cases, made of the bytes that each call looks for, and then cases from the lines of each Markdown file.
 The same seed, count and files give the same cases. README.md says what a case looks like, and which inputs are left

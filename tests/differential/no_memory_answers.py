@@ -1,4 +1,4 @@
-"""What the cases `no_memory_..` of cmark_refusals print: the answers of calls that take no memory. refusals.py says where each
+"""What the cases `no_memory_..` of tests_refusals print: the answers of calls that take no memory. refusals.py says where each
 comes from."""
 import answers
 from case_answers import KNOWN, OF_30, STREET, html_steps, label_answer, quote, tag_answer

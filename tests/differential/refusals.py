@@ -1,12 +1,12 @@
 #!/usr/bin/env python3
-"""Prints what cmark_refusals has to print with ample memory: its cases in order, each with the value that its calls use or
+"""Prints what tests_refusals has to print with ample memory: its cases in order, each with the value that its calls use or
 change, and with what they answer.
 
-    tests/differential/refusals.py | cmp - crates/cmark_refusals/stdout
+    tests/differential/refusals.py | cmp - crates/tests_refusals/stdout
 
 Nothing here knows the library. What a call answers is counted from docs/DEFINITIONS.md (answers.py, cuts.py, trees.py); how
 a value is printed follows the rules of Rust's derived `Debug` for the types of `markdown_values` (debug_format.py, case_answers.py). Which
-calls a case makes, and on what, is as crates/cmark_refusals/src has it; those without a request are in no_memory_answers.py.
+calls a case makes, and on what, is as crates/tests_refusals/src has it; those without a request are in no_memory_answers.py.
 """
 import sys
 

@@ -1,4 +1,4 @@
-"""The cases of cmark_refusals: each request refused in turn, alone or with all that follow it.
+"""The cases of tests_refusals: each request refused in turn, alone or with all that follow it.
 
 The file `cases` names them, and says how many calls of each must be seen refused.
 """
@@ -24,11 +24,11 @@ def sections(text):
 def cases_of(top):
     """The cases, which the file `cases` and the stored run must both have, in one order."""
     rows = [line.split() for line in (top / "tests/faults/cases").read_text().splitlines() if not line.startswith("#")]
-    stored = sections((top / "crates/cmark_refusals/stdout").read_bytes())
+    stored = sections((top / "crates/tests_refusals/stdout").read_bytes())
     named = [name for name, _ in rows]
     if named != list(stored) or not named:
         missing = sorted(set(named) ^ set(stored)) or named
-        raise SystemExit(f"faults: the file cases and the stored run of cmark_refusals don't name the same cases: {' '.join(missing)}")
+        raise SystemExit(f"faults: the file cases and the stored run of tests_refusals don't name the same cases: {' '.join(missing)}")
     return [Case(name, stored[name], None if calls == "none" else int(calls)) for name, calls in rows]
 
 

@@ -24,8 +24,8 @@ SLOW = {"passes_over_hostile_texts_once", "passes_over_cut_texts_once"}
 # What may notice a wrong body of a crate, the quickest first: the stored run of a program, its rows in tests/rows, the tests of a crate,
 # or its tests of memory, of which each is refused its first request.
 TESTS = {
-    "markdown_values": ["tests cmark_vectors", "run cmark_replay", "rows fillaqut events", "tests tests_uses"],
-    "markdown_scanners_tree": ["run cmark_replay", "tests markdown_scanners_tree", "tests cmark_vectors"],
+    "markdown_values": ["tests cmark_vectors", "run tests_replay", "rows fillaqut events", "tests tests_uses"],
+    "markdown_scanners_tree": ["run tests_replay", "tests markdown_scanners_tree", "tests cmark_vectors"],
     "program_faults": ["tests cmark_scan", "rows fillaqut blocks"],
     "cmark_scan": ["run cmark_scan", "tests cmark_scan", "refused cmark_scan"],
     "markdown_blocks": ["run fillaqut blocks", "rows fillaqut blocks", "tests tests_uses"],

@@ -2,7 +2,7 @@
 //! they stand alone.
 #![allow(dead_code, unused_imports, improper_ctypes)]
 pub mod entities {
-    /// The four names that `crates/cmark_bench` knows, compared in the same order.
+    /// The four names that `crates/bench_calls` knows, compared in the same order.
     pub fn get_entity(name: &[u8]) -> Option<&'static str> {
         if name == b"amp" {
             Some("&")

@@ -1,4 +1,4 @@
-//! The loops of `crates/cmark_bench`, function for function, over the scanners of pulldown-cmark.
+//! The loops of `crates/bench_calls`, function for function, over the scanners of pulldown-cmark.
 use crate::parse::HtmlScanGuard;
 use crate::scanners::*;
 use crate::strings::CowStr;

@@ -1,5 +1,5 @@
 //! Worked rows of both libraries, hostile texts, and derives by their bounds, all run through public
-//! calls. The rows of the scanners are `worked`, which the calls of `cmark_cases` read.
+//! calls. The rows of the scanners are `worked`, which the calls of `tests_cases` read.
 #![tactic(auto)]
 
 #[cfg(test)]

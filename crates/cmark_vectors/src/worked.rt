@@ -1,4 +1,4 @@
-//! The worked rows of the scanners, each made as a call by `cmark_cases`, which compares its answer.
+//! The worked rows of the scanners, each made as a call by `tests_cases`, which compares its answer.
 mod blocks;
 mod inline;
 mod labels;
@@ -7,10 +7,10 @@ mod lines;
 mod tags;
 
 use crate::asserts::{assert_same, made};
-use cmark_cases::replay::replay_cases;
 use std::alloc::{AllocError, Global};
 use std::process::Abort;
 use std::str::from_utf8;
+use tests_cases::replay::replay_cases;
 
 // Writes digits so many times, where `repeated` is the two with an asterisk between them.
 fn push_repeated(cases: &mut Vec<u8>, repeated: &str) -> Result<(), AllocError> {

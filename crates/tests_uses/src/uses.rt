@@ -1,4 +1,4 @@
-//! Tests of `cmark_uses`, under the names of its modules.
+//! Tests of `parser_uses`, under the names of its modules.
 mod blocks;
 mod comments;
 mod contents;

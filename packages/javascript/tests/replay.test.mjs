@@ -1,5 +1,5 @@
 /**
- * The worked rows and the answers of pulldown-cmark 0.13.6 that crates/cmark_replay stores, and what the package answers.
+ * The worked rows and the answers of pulldown-cmark 0.13.6 that crates/tests_replay stores, and what the package answers.
  * packages/javascript/totals has how many there are. Left out are labels whose text ends at a line ending, since no call of C
  * ends one there, texts with a name that the table of the cases may not have, and heads of lines, for which C has no call.
  */
@@ -10,7 +10,7 @@ import { scanners } from "./c_calls.mjs";
 import { hold } from "./totals.mjs";
 import { TOP } from "./tree.mjs";
 
-const CASES = new URL("crates/cmark_replay/stdin", TOP);
+const CASES = new URL("crates/tests_replay/stdin", TOP);
 /** The entities that the cases know. */
 const ENTITIES = ["amp", "lt", "gt", "quot", "copy", "AElig", "ngE", "frac34"];
 const NAMES = { none: "None", left: "Left", center: "Center", right: "Right" };
@@ -193,7 +193,7 @@ function wantedOf(name, answer) {
     return name === "unescape" ? answer.split(" ")[1] : answer;
 }
 
-test("the cases of cmark_replay", () => {
+test("the cases of tests_replay", () => {
     let tried = 0;
     for (const row of readFileSync(CASES, "latin1").trimEnd().split("\n")) {
         const [given, answer] = row.split("\t=>\t");

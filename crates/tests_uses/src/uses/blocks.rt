@@ -1,10 +1,10 @@
-//! Tests of `cmark_uses::blocks`.
+//! Tests of `parser_uses::blocks`.
 use crate::asserts::{assert_made, assert_same};
-use cmark_uses::blocks::{
+use markdown_values::values::MetadataBlockKind;
+use parser_uses::blocks::{
     begin_alike, break_free, column_count, column_width, fenced_code, is_blank, is_break,
     marker_length, metadata_kind,
 };
-use markdown_values::values::MetadataBlockKind;
 
 #[test]
 fn breaks_are_printed_from_items(rt: HostRuntime) {

@@ -1,6 +1,6 @@
-//! Tests of `cmark_uses::comments`: the HTML that cmark writes, with `rel` in its links.
+//! Tests of `parser_uses::comments`: the HTML that cmark writes, with `rel` in its links.
 use crate::asserts::assert_text;
-use cmark_uses::comments::comment_html;
+use parser_uses::comments::comment_html;
 
 // cmark leaves the address empty too, and has the same of `\<b>c\</b>`.
 #[test]

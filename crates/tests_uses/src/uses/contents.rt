@@ -1,6 +1,6 @@
-//! Tests of `cmark_uses::contents`: the text of blocks, by examples of CommonMark 0.31.2.
+//! Tests of `parser_uses::contents`: the text of blocks, by examples of CommonMark 0.31.2.
 use crate::asserts::{assert_elements, made};
-use cmark_uses::contents::{code_text, placed_text};
+use parser_uses::contents::{code_text, placed_text};
 use std::alloc::Global;
 use std::process::Abort;
 

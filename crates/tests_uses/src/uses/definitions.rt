@@ -1,6 +1,6 @@
-//! Tests of `cmark_uses::definitions`. (CommonMark 0.31.2, section 4.7)
+//! Tests of `parser_uses::definitions`. (CommonMark 0.31.2, section 4.7)
 use crate::asserts::{assert_elements, assert_same, made};
-use cmark_uses::definitions::{definition_lines, destinations};
+use parser_uses::definitions::{definition_lines, destinations};
 use std::alloc::AllocError;
 use std::process::Abort;
 

@@ -1,8 +1,8 @@
-//! Tests of `cmark_uses::events`: the first page is example 214 of CommonMark 0.31.2, and the second 317. The rows of
+//! Tests of `parser_uses::events`: the first page is example 214 of CommonMark 0.31.2, and the second 317. The rows of
 //! `tests/rows/containers.txt` and `extensions.txt` are of the same words.
 use crate::asserts::assert_text;
-use cmark_uses::events::{shown_events, shown_events_ext};
 use markdown_values::values::Extensions;
+use parser_uses::events::{shown_events, shown_events_ext};
 
 const PAGES: &[(&[u8], &str)] = &[
     (

@@ -1,10 +1,10 @@
 //! Task list items, alerts and metadata blocks of pages.
 use crate::asserts::{assert_made, assert_same, made};
-use cmark_uses::extensions::{count_tasks, first_alert, parted};
 use markdown_blocks::alerts::{Alert, alerts_of_page};
 use markdown_blocks::first_blocks::{Task, tasks_of_page};
 use markdown_blocks::metadata::{Metadata, metadata_of_page};
 use markdown_values::values::{BlockQuoteKind, MetadataBlockKind};
+use parser_uses::extensions::{count_tasks, first_alert, parted};
 
 // Whether a task list item is checked, how many bytes of the page stand before its marker, and how many it has.
 type TaskRow = (bool, usize, usize);

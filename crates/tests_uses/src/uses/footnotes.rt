@@ -1,6 +1,6 @@
-//! Tests of `cmark_uses::footnotes`.
+//! Tests of `parser_uses::footnotes`.
 use crate::asserts::assert_elements;
-use cmark_uses::footnotes::footnote_labels;
+use parser_uses::footnotes::footnote_labels;
 
 #[test]
 fn footnote_definitions_have_labels(rt: HostRuntime) {

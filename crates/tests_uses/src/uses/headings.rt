@@ -1,7 +1,7 @@
-//! Tests of `cmark_uses::headings`.
+//! Tests of `parser_uses::headings`.
 use crate::asserts::assert_same;
-use cmark_uses::headings::{heading_level, heading_text, level_above};
 use markdown_values::values::HeadingLevel;
+use parser_uses::headings::{heading_level, heading_text, level_above};
 
 #[test]
 fn an_atx_heading_has_a_level_and_a_text(rt: HostRuntime) {

@@ -1,7 +1,7 @@
-//! Tests of `cmark_uses::html`.
+//! Tests of `parser_uses::html`.
 use crate::asserts::{assert_elements, assert_same, found, made};
-use cmark_uses::html::{html_ends, inline_html, tag_in_quote};
 use markdown_scanners_tree::inline_html::HtmlRun;
+use parser_uses::html::{html_ends, inline_html, tag_in_quote};
 use std::alloc::AllocError;
 use std::process::Abort;
 

@@ -1,8 +1,8 @@
-//! Tests of `cmark_uses::labels`.
+//! Tests of `parser_uses::labels`.
 use crate::asserts::{assert_same, found, is_none, made};
-use cmark_uses::labels::{Definition, definition_of, label_in_line, label_in_quote};
 use markdown_scanners_tree::linklabel::LinkLabel;
 use markdown_values::strings::CowStr;
+use parser_uses::labels::{Definition, definition_of, label_in_line, label_in_quote};
 use std::alloc::{AllocError, Global};
 use std::process::Abort;
 

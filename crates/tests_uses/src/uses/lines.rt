@@ -1,6 +1,6 @@
-//! Tests of `cmark_uses::lines`.
+//! Tests of `parser_uses::lines`.
 use crate::asserts::{assert_elements, assert_same};
-use cmark_uses::lines::{
+use parser_uses::lines::{
     begun_item, ends_paragraph, is_ticked, item_count, items_of, list_items, shown_line,
     split_markers,
 };

@@ -1,6 +1,6 @@
-//! Tests of `cmark_uses::link_definitions`. (CommonMark 0.31.2, sections 4.7 and 6.3)
+//! Tests of `parser_uses::link_definitions`. (CommonMark 0.31.2, sections 4.7 and 6.3)
 use crate::asserts::{assert_same, made};
-use cmark_uses::link_definitions::{destination_of, title_of};
+use parser_uses::link_definitions::{destination_of, title_of};
 use std::alloc::{AllocError, Global};
 use std::process::Abort;
 

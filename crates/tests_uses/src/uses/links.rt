@@ -1,10 +1,10 @@
-//! Tests of `cmark_uses::links`.
+//! Tests of `parser_uses::links`.
 use crate::asserts::{assert_same, assert_text, found, is_none, made};
-use cmark_uses::links::{
+use html_entities::HtmlEntities;
+use parser_uses::links::{
     FEW_ENTITIES, autolink, leading_destination, link_target, link_title, raw_destination,
     referenced,
 };
-use html_entities::HtmlEntities;
 use std::alloc::AllocError;
 use std::convert::AsStr;
 use std::process::Abort;

@@ -1,6 +1,6 @@
-//! Tests of `cmark_uses::lists`.
+//! Tests of `parser_uses::lists`.
 use crate::asserts::{assert_made, assert_same, is_none, made};
-use cmark_uses::lists::{count_loose, first_list};
+use parser_uses::lists::{count_loose, first_list};
 use std::process::Abort;
 
 #[test]

@@ -1,7 +1,7 @@
-//! Tests of `cmark_uses::options`.
+//! Tests of `parser_uses::options`.
 use crate::asserts::assert_same;
 use bitflags::Flags;
-use cmark_uses::options::{has_tables, options_named};
+use parser_uses::options::{has_tables, options_named};
 
 #[test]
 fn names_make_options(rt: HostRuntime) {

@@ -1,7 +1,7 @@
-//! Tests of `cmark_uses::outline`.
+//! Tests of `parser_uses::outline`.
 use crate::asserts::{assert_elements, assert_same, assert_text, made};
-use cmark_uses::outline::{Item, add_inner, add_item, empty_outline, end_inner, levels, written};
 use markdown_values::tree::{Tree, TreeIndex};
+use parser_uses::outline::{Item, add_inner, add_item, empty_outline, end_inner, levels, written};
 use std::process::Abort;
 
 // Adds an item on the level of the last one.

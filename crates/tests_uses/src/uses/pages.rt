@@ -1,7 +1,7 @@
-//! Tests of `cmark_uses::pages`, on examples of CommonMark 0.31.2.
+//! Tests of `parser_uses::pages`, on examples of CommonMark 0.31.2.
 use crate::asserts::{assert_made, assert_same, made};
-use cmark_uses::pages::{code_blocks, deepest, headings, link_lines, poem_events, words};
 use markdown_values::values::{Event, HeadingLevel};
+use parser_uses::pages::{code_blocks, deepest, headings, link_lines, poem_events, words};
 use std::alloc::Global;
 use std::convert::AsStr;
 use std::process::Abort;

@@ -1,6 +1,6 @@
-//! Tests of `cmark_uses::pass`.
+//! Tests of `parser_uses::pass`.
 use crate::asserts::assert_elements;
-use cmark_uses::pass::blocks_of;
+use parser_uses::pass::blocks_of;
 
 const PAGE: &[u8] = b"# a\nb\n* * *\n```\n\n# c\n```\n\nd\n    e\r\n~~~\nf";
 

@@ -1,7 +1,7 @@
-//! Tests of `cmark_uses::tables`: the cells of tables, by GitHub Flavored Markdown 0.29, section 4.10.
+//! Tests of `parser_uses::tables`: the cells of tables, by GitHub Flavored Markdown 0.29, section 4.10.
 use crate::asserts::{assert_elements, assert_same, made};
-use cmark_uses::tables::{count_cells, first_alignments, placed_cells};
 use markdown_values::values::Alignment;
+use parser_uses::tables::{count_cells, first_alignments, placed_cells};
 use std::alloc::Global;
 use std::process::Abort;
 

@@ -1,6 +1,6 @@
-//! Tests of `cmark_uses::walk`.
+//! Tests of `parser_uses::walk`.
 use crate::asserts::{assert_elements, assert_made};
-use cmark_uses::walk::{has_code, paragraph_heads};
+use parser_uses::walk::{has_code, paragraph_heads};
 
 const PAGE: &[u8] = b"# a\n\nb\nc\n> d\ne\n- f\n\n  g\n\n      h\n\n```` rust\ni\n````\n1. ~~~ c\n";
 

@@ -1,4 +1,4 @@
-//! The entities that the cases know, the same as those of `cmark_replay`.
+//! The entities that the cases know, the same as those of `tests_replay`.
 
 pub fn get_entity(name: &[u8]) -> Option<&'static str> {
     match name {

@@ -1,5 +1,0 @@
-use Rattle.markdown_blocks.specs.events.Given.{events_left}
-use Rattle.cmark_uses.proofs.contents.code_text.Given as goal
-
-abbrev pub decreases-loop-blocks : goal.decreases-loop-blocks
-decreases-loop-blocks l = events_left l.blocks
