@@ -107,10 +107,10 @@ def open_code(count):
 
 
 def long():
-    """Pages that take more than MANY reads of 4,096 bytes."""
-    return [headings(52_000), a_paragraph(70_000)]
+    """Pages that take more than MANY reads of 512 bytes."""
+    return [headings(6_500), a_paragraph(9_000)]
 
 
 def large():
     """Pages whose events ask for memory some dozens of times, where each block would ask for its own."""
-    return [a_paragraph(175_000), open_code(300_000)]
+    return [a_paragraph(22_000), open_code(125_000)]

@@ -60,10 +60,10 @@ def quotes(depth):
 
 
 def long():
-    """A page that takes more than MANY reads of 4,096 bytes."""
-    return [headings(52_000)]
+    """A page that takes more than MANY reads of 512 bytes."""
+    return [headings(6_500)]
 
 
 def large():
     """Pages whose HTML asks for memory some dozens of times, where each block would ask for its own."""
-    return [quotes(DEEP), a_paragraph(175_000), open_code(300_000)]
+    return [quotes(DEEP), a_paragraph(22_000), open_code(125_000)]

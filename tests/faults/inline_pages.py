@@ -54,10 +54,10 @@ def open_code(count):
 
 
 def long():
-    """Pages that take more than MANY reads of 4,096 bytes."""
-    return [headings(52_000), code_spans(105_000)]
+    """Pages that take more than MANY reads of 512 bytes."""
+    return [headings(6_500), code_spans(13_500)]
 
 
 def large():
     """Pages whose inlines ask for memory some dozens of times, where each block would ask for its own."""
-    return [code_spans(260_000), open_code(1_000_000)]
+    return [code_spans(33_000), open_code(125_000)]

@@ -66,19 +66,19 @@ def a_long_label(size):
 
 
 def long():
-    """One of each command, whose input takes more than MANY reads of 4,096 bytes."""
-    return [a_long_line(412_000), comments(82_400), a_long_label(412_000), references(82_400)]
+    """One of each command, whose input takes more than MANY reads of 512 bytes."""
+    return [a_long_line(51_500), comments(10_300), a_long_label(51_500), references(10_300)]
 
 
 def large():
-    """Inputs of a mebibyte or so."""
-    letters = b"ab" * 500_000
-    opened = b"".join(b"%d none\n" % place for place in range(2, 1_000_000, 4))
+    """Inputs that are longer than a read."""
+    letters = b"ab" * 62_500
+    opened = b"".join(b"%d none\n" % place for place in range(2, 125_000, 4))
     return [
-        a_long_line(1_000_000),
-        comments(200_000),
-        Scan("open comments", "html", b"<!--" * 250_000, opened + b"passed 1249999 of 6000000\n"),
+        a_long_line(125_000),
+        comments(25_000),
+        Scan("open comments", "html", b"<!--" * 31_250, opened + b"passed 156249 of 750000\n"),
         Scan("a label before much else", "label", b"a\r\nb]" + letters, b"bytes 5\nborrowed false\nlabel a b\n"),
-        references(210_000),
+        references(26_250),
         Scan("long plain text", "unescape", letters, letters),
     ]

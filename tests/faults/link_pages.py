@@ -62,10 +62,10 @@ def quotes(depth):
 
 
 def long():
-    """A page that takes more than MANY reads of 4,096 bytes."""
-    return [autolinks(70_000)]
+    """A page that takes more than MANY reads of 512 bytes."""
+    return [autolinks(8_750)]
 
 
 def large():
     """Pages whose links ask for memory some dozens of times, where each block would ask for its own."""
-    return [quotes(DEEP), autolinks(175_000), open_code(300_000)]
+    return [quotes(DEEP), autolinks(22_000), open_code(125_000)]

@@ -112,8 +112,8 @@ def open_code(count):
 
 
 def long():
-    """Pages that take more than MANY reads of 4,096 bytes."""
-    return [headings(52_000), objects(52_000)]
+    """Pages that take more than MANY reads of 512 bytes."""
+    return [headings(6_500), objects(6_500)]
 
 
 def passing():
@@ -122,5 +122,5 @@ def passing():
 
 
 def large():
-    """Pages of a mebibyte or so."""
-    return [headings(130_000), objects(130_000), items(130_000), a_paragraph(175_000), rows(260_000), open_code(1_000_000)]
+    """Pages that are longer than a read."""
+    return [headings(16_000), objects(16_000), items(16_000), a_paragraph(22_000), rows(33_000), open_code(125_000)]

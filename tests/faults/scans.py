@@ -9,7 +9,7 @@ from pathlib import Path
 from page_program import reason
 
 # How many bytes a read of a long input gives.
-PAGE = 4_096
+PAGE = 512
 # How many reads and writes a run on a long input makes at least.
 MANY = 100
 HALF_GIBIBYTE = 1 << 29

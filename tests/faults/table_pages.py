@@ -67,10 +67,10 @@ def open_code(count):
 
 
 def long():
-    """A page that takes more than MANY reads of 4,096 bytes."""
-    return [rows(110_000)]
+    """A page that takes more than MANY reads of 512 bytes."""
+    return [rows(13_750)]
 
 
 def large():
     """Pages that ask for memory some dozens of times, where each block would ask for its own."""
-    return [wide(1 << 20), open_code(1 << 20)]
+    return [wide(1 << 17), open_code(1 << 17)]

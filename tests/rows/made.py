@@ -52,6 +52,33 @@ def definitions():
     yield row("parentheses_nest_32_deep_at_most", "fillaqut blocks", definition(1, 33), text)
 
 
+def page_of_references(size, between):
+    """A definition whose destination has so many bytes, and its label three times."""
+    return b"[a]: /%s\n\n%s\n" % (b"x" * (size - 1), between.join([b"[a]"] * 3))
+
+
+def link_of(size):
+    return b'<a href="/%s">a</a>' % (b"x" * (size - 1))
+
+
+def paragraphs(*texts):
+    return b"".join(b"<p>%s</p>\n" % text for text in texts)
+
+
+def references():
+    """References add as many bytes to a page as it has, and 100,000 to a shorter one, as in cmark 0.30.2; a block that would add more has none."""
+    command, text = "fillaqut html --unsafe", b"[a]"
+    name = "references_add_100000_bytes_to_a_short_page"
+    yield row(name, command, page_of_references(50_000, b"\n\n"), paragraphs(link_of(50_000), link_of(50_000), text))
+    yield row(name, command, page_of_references(50_001, b"\n\n"), paragraphs(link_of(50_001), text, text))
+    yield row(name, command, page_of_references(33_333, b"\n"), paragraphs(b"\n".join([link_of(33_333)] * 3)))
+    yield row(name, command, page_of_references(33_334, b"\n"), paragraphs(b"[a]\n[a]\n[a]"))
+    name, page = "references_add_as_many_bytes_as_a_page_has", page_of_references(75_000, b"\n\n")
+    for length, links in ((150_000, 2), (149_999, 1)):
+        rest = b"b" * (length - len(page) - 2)
+        yield row(name, command, b"%s\n%s\n" % (page, rest), paragraphs(*[link_of(75_000)] * links, *[text] * (3 - links), rest))
+
+
 def large():
     """A block that is longer than many reads, and a hundred thousand items in each other."""
     count = 100_000
@@ -87,5 +114,5 @@ def names():
 
 
 # The rows by the names under which they are counted, and the files that some are run with.
-MADE = {"answers": answers, "stored": stored, "definitions_made": definitions, "large": large, "names": names, COMMONMARK.stem: of_specification}
+MADE = {"answers": answers, "stored": stored, "definitions_made": definitions, "references": references, "large": large, "names": names, COMMONMARK.stem: of_specification}
 FILES = {"names": {ODD: b"|a|\n|-|\n[a](gone)\n"}}

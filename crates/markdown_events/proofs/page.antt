@@ -13,3 +13,6 @@ pub mod ParserLemmas
 pub mod ReadLemmas
 pub mod TreeLemmas
 pub mod PageRanges
+pub mod PageRoom
+pub mod RoomLemmas
+pub mod TextLemmas

@@ -9,6 +9,7 @@ pub mod PageEvents
 pub mod Places
 pub mod Readings
 pub mod Ready
+pub mod References
 pub mod Settings
 pub mod Spans
 pub mod TableEvents

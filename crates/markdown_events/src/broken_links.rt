@@ -7,6 +7,7 @@ ghost use Rattle.markdown_events.specs.page.Given.{GivesOnlyWith};
 ghost use Rattle.markdown_events.specs.page.Iterated.{GivesNextEventWith, GivesNextWith, items_left};
 ghost use Rattle.markdown_events.specs.page.PageEvents.{AreDefinitionsOf, ArePageEventsWith};
 ghost use Rattle.markdown_values.specs.values.Extensions.{asked_by};
+ghost use Rattle.markdown_events.specs.page.References.{ReferencesFit};
 ghost use Rattle.markdown_events.specs.page.Settings.{Explains, not_built};
 
 use crate::definitions::Definitions;
@@ -61,6 +62,8 @@ impl<'a, B: Definitions<'a> + Drop> BrokenLinkParser<'a, B> {
             GivesOnlyWith (B.targets broken) (AreWithin text.now) parser.events.left) }
         ensures boundaries { IfOk result (λ parser.
             GivesOnlyWith (B.targets broken) (AreAtBoundaries text.now) parser.events.left) }
+        ensures references { IfOk result (λ parser.
+            GivesOnlyWith (B.targets broken) (ReferencesFit text.now) parser.events.left) }
         ensures definitions { IfOk result (λ parser.
             AreDefinitionsOf text.now (asked_by options) parser.events.left.known) }
         ensures broken { IfOk result (λ parser. parser.broken ≡ broken) }

@@ -1,28 +1,28 @@
 //! The events of a page, one after another.
-ghost use Rattle.std.specs.Prelude.{◌≡◌, ◌∷◌, ◌<◌, ◌≤◌, ◌^◌, [], List, drop, false, length, map, IsTrue, IfErr, IfOk, IfSome, IfNone, OnOk};
+ghost use Rattle.std.specs.Prelude.{◌≡◌, ◌-◌, ◌∷◌, ◌<◌, ◌≤◌, ◌^◌, [], List, drop, false, length, map, IsTrue, IfErr, IfOk, IfSome, IfNone, OnOk};
 ghost use Rattle.markdown_events.specs.EventLaws.{AreAtBoundaries, AreBalanced, AreWithin};
 ghost use Rattle.markdown_events.specs.InlineEvents.{RangedEvent, seen_event};
 ghost use Rattle.markdown_events.specs.Nesting.{AreNested, without_ranges};
 ghost use Rattle.markdown_blocks.specs.events.Events.{ends, leaf, seen_event as seen_block, seen_leaf, starts};
-ghost use Rattle.markdown_events.specs.page.Given.{AlwaysGivesOnly, Gives, GivesOnly, GivesOnlyWith, GivesWith, IsDone, IsPassed, events_left, left_with, setting_with};
+ghost use Rattle.markdown_events.specs.page.Given.{AlwaysGivesOnly, Gives, GivesOnly, GivesOnlyWith, GivesWith, IsDone, IsPassed, events_left, leaf_left_with, left_with, setting_with};
 ghost use Rattle.markdown_events.specs.page.OpenElements.{begun, end_events, ended, next_span, passed, place_in, start_events};
 ghost use Rattle.markdown_values.specs.values.Extensions.{asked_by, commonmark};
 ghost use Rattle.markdown_events.specs.page.PageEvents.{AreDefinitionsOf, ArePageEvents, ArePageEventsWith};
 ghost use Rattle.markdown_events.specs.Targets.{Targets};
 ghost use Rattle.markdown_events.specs.page.Settings.{Explains, not_built};
-ghost use Rattle.markdown_events.specs.page.TaskEvents.{AreBlockEvents, task_here};
+ghost use Rattle.markdown_events.specs.page.References.{AreEventsInRoom, ReferencesFit, added};
+ghost use Rattle.markdown_events.specs.page.TaskEvents.{task_here};
 
 use crate::definitions::{Definitions, NoBrokenLinks, PageDefinitions};
 use crate::elements::InlineMemory;
 use crate::page::blocks_left::BlocksLeft;
 use crate::page::blocks_of::read_page;
 use crate::page::definitions::WithBrokenLinks;
-use crate::page::leaf_events::leaf_events;
 use crate::page::open_elements::OpenElements;
 use crate::page::reading::Reading;
 use crate::page::ready::ReadyEvents;
+use crate::page::references::{events_in_room, room_of};
 use crate::page::spans::spans_of;
-use crate::page::task_events::task_events;
 pub use crate::settings::NewError;
 use crate::settings::{built, setting_of};
 use markdown_blocks::containers::Container;
@@ -41,6 +41,8 @@ pub struct EventReader<'a> {
     page: &'a str,
     extensions: Extensions,
     definitions: PageDefinitions<'a>,
+    // How many bytes references may still add.
+    room: usize,
     blocks: BlocksLeft<'a>,
     elements: OpenElements,
     ready: ReadyEvents<'a>,
@@ -58,6 +60,7 @@ impl<'a> Model for EventReader<'a> {
       page = p.page.now;
       extensions = p.extensions;
       known = p.definitions;
+      room = p.room;
       ready = p.ready.events;
       elements = p.elements;
       blocks = p.blocks;
@@ -81,6 +84,7 @@ impl<'a> EventReader<'a> {
         ensures nested { IfOk result (GivesOnly (λ events. AreNested (without_ranges events))) }
         ensures within { IfOk result (GivesOnly (AreWithin text.now)) }
         ensures boundaries { IfOk result (GivesOnly (AreAtBoundaries text.now)) }
+        ensures references { IfOk result (GivesOnly (ReferencesFit text.now)) }
         ensures definitions { IfOk result (λ reader.
             AreDefinitionsOf text.now commonmark reader.known) }
         ensures broken { IfOk result (λ reader. (more : Targets)
@@ -90,6 +94,7 @@ impl<'a> EventReader<'a> {
             AreNested (without_ranges events))) }
         ensures broken_within { IfOk result (AlwaysGivesOnly (AreWithin text.now)) }
         ensures broken_boundaries { IfOk result (AlwaysGivesOnly (AreAtBoundaries text.now)) }
+        ensures broken_references { IfOk result (AlwaysGivesOnly (ReferencesFit text.now)) }
     {
         EventReader::with_setting(alloc, text, Extensions::none())
     }
@@ -110,6 +115,7 @@ impl<'a> EventReader<'a> {
         ensures nested { IfOk result (GivesOnly (λ events. AreNested (without_ranges events))) }
         ensures within { IfOk result (GivesOnly (AreWithin text.now)) }
         ensures boundaries { IfOk result (GivesOnly (AreAtBoundaries text.now)) }
+        ensures references { IfOk result (GivesOnly (ReferencesFit text.now)) }
         ensures definitions { IfOk result (λ reader.
             AreDefinitionsOf text.now (asked_by options) reader.known) }
         ensures broken { IfOk result (λ reader. (more : Targets)
@@ -119,6 +125,7 @@ impl<'a> EventReader<'a> {
             AreNested (without_ranges events))) }
         ensures broken_within { IfOk result (AlwaysGivesOnly (AreWithin text.now)) }
         ensures broken_boundaries { IfOk result (AlwaysGivesOnly (AreAtBoundaries text.now)) }
+        ensures broken_references { IfOk result (AlwaysGivesOnly (ReferencesFit text.now)) }
         ensures built { IfOk result (λ _. not_built options ≡ 0) }
         ensures refused { IfErr result (Explains options) }
     {
@@ -144,6 +151,7 @@ impl<'a> EventReader<'a> {
         ensures nested { IfOk result (GivesOnly (λ events. AreNested (without_ranges events))) }
         ensures within { IfOk result (GivesOnly (AreWithin page.now)) }
         ensures boundaries { IfOk result (GivesOnly (AreAtBoundaries page.now)) }
+        ensures references { IfOk result (GivesOnly (ReferencesFit page.now)) }
         ensures definitions { IfOk result (λ reader.
             AreDefinitionsOf page.now setting reader.known) }
         ensures broken { IfOk result (λ reader. (more : Targets)
@@ -153,6 +161,7 @@ impl<'a> EventReader<'a> {
             AreNested (without_ranges events))) }
         ensures broken_within { IfOk result (AlwaysGivesOnly (AreWithin page.now)) }
         ensures broken_boundaries { IfOk result (AlwaysGivesOnly (AreAtBoundaries page.now)) }
+        ensures broken_references { IfOk result (AlwaysGivesOnly (ReferencesFit page.now)) }
     {
         let (blocks, definitions) = read_page(alloc, page, built(setting))?;
         let spans = spans_of(alloc, &blocks)?;
@@ -161,6 +170,7 @@ impl<'a> EventReader<'a> {
             page,
             extensions: setting,
             definitions,
+            room: room_of(page),
             blocks: BlocksLeft::all(blocks),
             elements: OpenElements::new(alloc, spans),
             ready: ReadyEvents::new(alloc),
@@ -341,29 +351,33 @@ impl<'a> EventReader<'a> {
         requires waiting { self.old.ready ≡ [] }
         requires next { self.old.blocks ≡ leaf (seen_leaf block) ∷ drop 1 self.old.blocks }
         ensures read { OnOk result ((here : List RangedEvent)
-            × AreBlockEvents self.old.page (setting_with (B.targets broken.now) self.old)
-            (place_in self.old.elements) self.old.elements.waiting (seen_leaf block.entry) here
-            × (self.new ≡ left_with self.old here (passed (seen_leaf block.entry) self.old.elements)
-            (drop 1 self.old.blocks))) }
+            × AreEventsInRoom self.old.page (setting_with (B.targets broken.now) self.old)
+            self.old.room (place_in self.old.elements) self.old.elements.waiting
+            (seen_leaf block.entry) here
+            × (self.new ≡ leaf_left_with self.old here
+            (passed (seen_leaf block.entry) self.old.elements) (drop 1 self.old.blocks))) }
         ensures few { OnOk result (length self.new.ready < 2 ^ 64) }
         ensures refused { IfErr result (λ _. self.new ≡ self.old) }
     {
-        let events = self.leaf_events(block, broken)?;
+        let (events, room) = self.leaf_events(block, broken)?;
         self.make_ready(block, events);
+        self.room = room;
         Ok(())
     }
 
-    // The events of a leaf block that comes next.
+    // The events of a leaf block that comes next, and how many bytes references may add after them.
     #[inline(always)]
     fn leaf_events<B: Definitions<'a>>(
         &mut self,
         block: Leaf<'a>,
         broken: &B,
-    ) -> Result<VecDeque<(Event<'a>, Range<usize>)>, AllocError>
+    ) -> Result<(VecDeque<(Event<'a>, Range<usize>)>, usize), AllocError>
         requires next { self.old.blocks ≡ leaf (seen_leaf block) ∷ drop 1 self.old.blocks }
-        ensures events { IfOk result (λ events. AreBlockEvents self.old.page
-            (setting_with (B.targets broken.now) self.old) (place_in self.old.elements)
-            self.old.elements.waiting (seen_leaf block.entry) (map seen_event events.items)) }
+        ensures events { IfOk result (λ r. AreEventsInRoom self.old.page
+            (setting_with (B.targets broken.now) self.old) self.old.room (place_in self.old.elements)
+            self.old.elements.waiting (seen_leaf block.entry) (map seen_event r.0.items)) }
+        ensures room { IfOk result (λ r.
+            r.1 ≡ self.old.room - added (map seen_event r.0.items)) }
         ensures unchanged { self.new ≡ self.old }
     {
         let task = self.task(block);
@@ -376,10 +390,7 @@ impl<'a> EventReader<'a> {
             definitions: &definitions,
         };
         let here = self.elements.place();
-        if let Some(task) = task {
-            return task_events(&reading, &mut self.memory, here, block, task);
-        }
-        leaf_events(&reading, &mut self.memory, here, block)
+        events_in_room(&reading, &mut self.memory, here, block, task, self.room)
     }
 
     // The task list marker that a leaf block begins with that comes next, if they are asked for.

@@ -9,6 +9,7 @@ pub(crate) mod levels;
 pub(crate) mod open_elements;
 pub(crate) mod reading;
 pub(crate) mod ready;
+pub(crate) mod references;
 pub(crate) mod source;
 pub(crate) mod spans;
 pub(crate) mod table_events;

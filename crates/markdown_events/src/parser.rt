@@ -8,6 +8,7 @@ ghost use Rattle.markdown_events.specs.page.Given.{AlwaysGivesOnly, GivesOnly, G
 ghost use Rattle.markdown_events.specs.page.Iterated.{GivesNext, GivesNextEvent, GivesNextEventWith, GivesNextWith, Iterated, items_left, without_range};
 ghost use Rattle.markdown_events.specs.page.PageEvents.{AreDefinitionsOf, ArePageEvents, ArePageEventsWith};
 ghost use Rattle.markdown_values.specs.values.Extensions.{asked_by, commonmark};
+ghost use Rattle.markdown_events.specs.page.References.{ReferencesFit};
 ghost use Rattle.markdown_events.specs.page.Settings.{Explains, not_built};
 
 use crate::definitions::{Definitions, NoBrokenLinks, PageDefinitions};
@@ -58,6 +59,8 @@ impl<'a> Parser<'a> {
         ensures within { IfOk result (λ parser. GivesOnly (AreWithin text.now) parser.left) }
         ensures boundaries { IfOk result (λ parser.
             GivesOnly (AreAtBoundaries text.now) parser.left) }
+        ensures references { IfOk result (λ parser.
+            GivesOnly (ReferencesFit text.now) parser.left) }
         ensures definitions { IfOk result (λ parser.
             AreDefinitionsOf text.now commonmark parser.left.known) }
         ensures broken { IfOk result (λ parser. (more : Targets)
@@ -69,6 +72,8 @@ impl<'a> Parser<'a> {
             AlwaysGivesOnly (AreWithin text.now) parser.left) }
         ensures broken_boundaries { IfOk result (λ parser.
             AlwaysGivesOnly (AreAtBoundaries text.now) parser.left) }
+        ensures broken_references { IfOk result (λ parser.
+            AlwaysGivesOnly (ReferencesFit text.now) parser.left) }
         ensures goes { IfOk result (λ parser. parser.is_stopped ≡ false) }
     {
         Ok(Parser::of_reader(EventReader::new(alloc, text)?))
@@ -89,6 +94,8 @@ impl<'a> Parser<'a> {
         ensures within { IfOk result (λ parser. GivesOnly (AreWithin text.now) parser.left) }
         ensures boundaries { IfOk result (λ parser.
             GivesOnly (AreAtBoundaries text.now) parser.left) }
+        ensures references { IfOk result (λ parser.
+            GivesOnly (ReferencesFit text.now) parser.left) }
         ensures definitions { IfOk result (λ parser.
             AreDefinitionsOf text.now (asked_by options) parser.left.known) }
         ensures broken { IfOk result (λ parser. (more : Targets)
@@ -100,6 +107,8 @@ impl<'a> Parser<'a> {
             AlwaysGivesOnly (AreWithin text.now) parser.left) }
         ensures broken_boundaries { IfOk result (λ parser.
             AlwaysGivesOnly (AreAtBoundaries text.now) parser.left) }
+        ensures broken_references { IfOk result (λ parser.
+            AlwaysGivesOnly (ReferencesFit text.now) parser.left) }
         ensures goes { IfOk result (λ parser. parser.is_stopped ≡ false) }
         ensures built { IfOk result (λ _. not_built options ≡ 0) }
         ensures refused { IfErr result (Explains options) }

@@ -1,5 +1,5 @@
 -- The ranges of the events of nodes begin and end at character boundaries of the page, where those of each leaf block do.
-use Rattle.std.proofs.Common.{ℕ, Bool, true, false, ◌==◌, ◌||◌, List, [], ◌∷◌, ◌++◌, length, Option, Some, None, ◌≡◌, sym, subst, if◌then◌else◌}
+use Rattle.std.proofs.Common.{ℕ, Bool, true, false, ◌==◌, ◌||◌, List, [], ◌∷◌, ◌++◌, length, Option, Some, None, ◌≡◌, ◌-◌, sym, subst, if◌then◌else◌}
 use Rattle.std.specs.Prelude.{⊤, IfSome}
 use Rattle.std.specs.Str.{IsUtf8, IsCharBoundary}
 use Rattle.std.proofs.lemmas.Str.{IsCharBoundary-start}
@@ -22,8 +22,10 @@ use Rattle.markdown_events.specs.page.PageEvents.{AreNodeEvents, OpenList, after
 use Rattle.markdown_events.specs.page.PageEvents.{list_in, list_start, starting}
 use Rattle.markdown_events.specs.page.Spans.{block_end, container_end, first_place, front_list, is_parted}
 use Rattle.markdown_events.specs.page.Spans.{is_set_off, last_end, list_alone, list_with, span_of}
+use Rattle.markdown_events.specs.page.References.{added}
 use Rattle.markdown_events.specs.page.TaskEvents.{AreBlockEvents}
 use Rattle.markdown_events.proofs.inline_events.Boundaries.{both_at}
+use Rattle.markdown_events.proofs.page.RoomLemmas.{in_room}
 
 module _ (page : List ℕ) (setting : EventSetting) where
   abbrev Cut : ℕ → Type 0
@@ -32,10 +34,11 @@ module _ (page : List ℕ) (setting : EventSetting) where
   abbrev AreAt : List RangedEvent → Type 0
   AreAt = AreAtBoundaries page
 
-  -- the events of a block do, which is in these containers, with the first of which its first line goes on, and the first of this one
+  -- the events of a block do, which is in these containers, with the first of which its first line goes on, and the first of this one,
+  -- wherever labels lead
   abbrev pub LeafAt : List Container → ℕ → Option Container → LeafBlock → Type 0
-  LeafAt outer kept waiting block = (is_tight : Bool) (events : List RangedEvent)
-      → AreBlockEvents page setting (record { containers = outer; kept = kept; is_tight = is_tight }) waiting block events → AreAt events
+  LeafAt outer kept waiting block = (s : EventSetting) (is_tight : Bool) (events : List RangedEvent)
+      → AreBlockEvents page s (record { containers = outer; kept = kept; is_tight = is_tight }) waiting block events → AreAt events
 
   -- the page may be cut out at each of the nodes, and the events of each block do
   abbrev pub NodesAt : List Container → ℕ → Option Container → Nodes → Type 0
@@ -114,18 +117,18 @@ module _ (page : List ℕ) (setting : EventSetting) where
     ending_at element cut = (cut, tt)
 
     abbrev pub NodeEventsAt : Nodes → Type 0
-    NodeEventsAt nodes = (here : Place) (waiting : Option Container) (current : Option OpenList) (events : List RangedEvent)
-        → NodesAt here.containers here.kept waiting nodes → OpenCut current → AreNodeEvents page setting here waiting current nodes events → AreAt events
+    NodeEventsAt nodes = (room : ℕ) (here : Place) (waiting : Option Container) (current : Option OpenList) (events : List RangedEvent)
+        → NodesAt here.containers here.kept waiting nodes → OpenCut current → AreNodeEvents page setting room here waiting current nodes events → AreAt events
 
     -- an item, in the list that is open or that begins with it
-    item_at : (one : ListItem) (place : ℕ) (inner later : Nodes) → NodeEventsAt inner → NodeEventsAt later → (here : Place) (waiting : Option Container)
+    item_at : (one : ListItem) (place : ℕ) (inner later : Nodes) → NodeEventsAt inner → NodeEventsAt later → (room : ℕ) (here : Place) (waiting : Option Container)
         → (now : OpenList) (events front held rest : List RangedEvent)
         → NodesAt here.containers here.kept waiting (container_then (Item one) place inner later) → Cut now.element.from × Cut now.element.to
-        → AreAt front → AreNodeEvents page setting (inside (Item one) now.is_tight here) (Some (Item one)) None inner held
-        → AreNodeEvents page setting (after_block here) None (list_after (span_of (Item one) inner later).is_last now) later rest
+        → AreAt front → AreNodeEvents page setting room (inside (Item one) now.is_tight here) (Some (Item one)) None inner held
+        → AreNodeEvents page setting (room - added held) (after_block here) None (list_after (span_of (Item one) inner later).is_last now) later rest
         → events ≡ front ++ starting item place (container_end inner) ++ held ++ ending (element_of item place (container_end inner))
         ++ list_end (span_of (Item one) inner later).is_last now ++ rest → AreAt events
-    item_at one place inner later inner_at later_at here waiting now events front held rest at listed front_at are_held are_rest is =
+    item_at one place inner later inner_at later_at room here waiting now events front held rest at listed front_at are_held are_rest is =
         let last = (span_of (Item one) inner later).is_last in
         let end = container_end inner in
         let to = end_cut inner (here.containers ++ settled (Item one) ∷ []) here.kept (Some (Item one)) at.1 in
@@ -133,12 +136,12 @@ module _ (page : List ℕ) (setting : EventSetting) where
         let ends = ending (element_of item place end) in
         let first = both_at page front begins front_at ((at.0, to), tt) in
         let second = both_at page (front ++ begins) held first
-        (inner_at (inside (Item one) now.is_tight here) (Some (Item one)) None held at.1 tt are_held) in
+        (inner_at room (inside (Item one) now.is_tight here) (Some (Item one)) None held at.1 tt are_held) in
         let whole = both_at page (front ++ begins ++ held) ends second ((at.0, to), tt) in
         let with_list = both_at page (front ++ begins ++ held ++ ends) (list_end last now) whole (ended last) in
         subst AreAt (sym is)
         (both_at page (front ++ begins ++ held ++ ends ++ list_end last now) rest with_list
-        (later_at (after_block here) None (list_after last now) rest at.2 (after last) are_rest))
+        (later_at (room - added held) (after_block here) None (list_after last now) rest at.2 (after last) are_rest))
       where
         ended : (last : Bool) → AreAt (list_end last now)
         ended true = (listed, tt)
@@ -149,40 +152,40 @@ module _ (page : List ℕ) (setting : EventSetting) where
         after false = listed
 
     -- another container
-    other_at : (container : Container) (place : ℕ) (inner later : Nodes) → NodeEventsAt inner → NodeEventsAt later → (here : Place)
+    other_at : (container : Container) (place : ℕ) (inner later : Nodes) → NodeEventsAt inner → NodeEventsAt later → (room : ℕ) (here : Place)
         → (waiting : Option Container) (events held rest : List RangedEvent)
         → NodesAt here.containers here.kept waiting (container_then container place inner later)
-        → AreNodeEvents page setting (inside container false here) (Some container) None inner held
-        → AreNodeEvents page setting (after_block here) None None later rest
+        → AreNodeEvents page setting room (inside container false here) (Some container) None inner held
+        → AreNodeEvents page setting (room - added held) (after_block here) None None later rest
         → events ≡ starting (container_tag container) place (container_end inner) ++ held
         ++ ending (element_of (container_tag container) place (container_end inner)) ++ rest → AreAt events
-    other_at container place inner later inner_at later_at here waiting events held rest at are_held are_rest is =
+    other_at container place inner later inner_at later_at room here waiting events held rest at are_held are_rest is =
         let to = end_cut inner (here.containers ++ settled container ∷ []) here.kept (Some container) at.1 in
         let begins = starting (container_tag container) place (container_end inner) in
         let ends = ending (element_of (container_tag container) place (container_end inner)) in
-        let first = both_at page begins held ((at.0, to), tt) (inner_at (inside container false here) (Some container) None held at.1 tt are_held) in
+        let first = both_at page begins held ((at.0, to), tt) (inner_at room (inside container false here) (Some container) None held at.1 tt are_held) in
         let whole = both_at page (begins ++ held) ends first ((at.0, to), tt) in
         subst AreAt (sym is)
-        (both_at page (begins ++ held ++ ends) rest whole (later_at (after_block here) None None rest at.2 tt are_rest))
+        (both_at page (begins ++ held ++ ends) rest whole (later_at (room - added held) (after_block here) None None rest at.2 tt are_rest))
 
     pub nodes_at : (nodes : Nodes) → NodeEventsAt nodes
-    nodes_at nothing here waiting current events at listed is = subst AreAt (sym is) tt
-    nodes_at (leaf_then block later) here waiting current events at listed (own, rest, are, are_rest, is) =
+    nodes_at nothing room here waiting current events at listed is = subst AreAt (sym is) tt
+    nodes_at (leaf_then block later) room here waiting current events at listed (own, rest, are, are_rest, is) =
         subst AreAt (sym is)
-        (both_at page own rest (at.1 here.is_tight own are)
-        (nodes_at later (after_block here) (waiting_behind waiting (leaf block)) current rest at.2 listed are_rest))
-    nodes_at (container_then (Item one) place inner later) here waiting None events at listed (held, rest, are_held, are_rest, is) =
+        (both_at page own rest (in_room page setting room here waiting block own (λ s block_are. at.1 s here.is_tight own block_are) are)
+        (nodes_at later (room - added own) (after_block here) (waiting_behind waiting (leaf block)) current rest at.2 listed are_rest))
+    nodes_at (container_then (Item one) place inner later) room here waiting None events at listed (held, rest, are_held, are_rest, is) =
         let span = span_of (Item one) inner later in
         let to = with_cut one inner (is_set_off one inner later) (front_list later)
         (end_cut inner (here.containers ++ settled (Item one) ∷ []) here.kept (Some (Item one)) at.1)
         (front_cut later here.containers (length here.containers) None at.2) in
-        item_at one place inner later (nodes_at inner) (nodes_at later) here waiting (list_in None one place span) events
+        item_at one place inner later (nodes_at inner) (nodes_at later) room here waiting (list_in None one place span) events
         (list_start None one place span) held rest at (at.0, to) ((at.0, to), tt) are_held are_rest is
-    nodes_at (container_then (Item one) place inner later) here waiting (Some list) events at listed (held, rest, are_held, are_rest, is) =
-        item_at one place inner later (nodes_at inner) (nodes_at later) here waiting list events [] held rest at listed tt are_held are_rest is
-    nodes_at (container_then Quote place inner later) here waiting current events at listed (held, rest, are_held, are_rest, is) =
-        other_at Quote place inner later (nodes_at inner) (nodes_at later) here waiting events held rest at are_held are_rest is
-    nodes_at (container_then Footnote place inner later) here waiting current events at listed (held, rest, are_held, are_rest, is) =
-        other_at Footnote place inner later (nodes_at inner) (nodes_at later) here waiting events held rest at are_held are_rest is
-    nodes_at (container_then (TermDefinition one) place inner later) here waiting current events at listed (held, rest, are_held, are_rest, is) =
-        other_at (TermDefinition one) place inner later (nodes_at inner) (nodes_at later) here waiting events held rest at are_held are_rest is
+    nodes_at (container_then (Item one) place inner later) room here waiting (Some list) events at listed (held, rest, are_held, are_rest, is) =
+        item_at one place inner later (nodes_at inner) (nodes_at later) room here waiting list events [] held rest at listed tt are_held are_rest is
+    nodes_at (container_then Quote place inner later) room here waiting current events at listed (held, rest, are_held, are_rest, is) =
+        other_at Quote place inner later (nodes_at inner) (nodes_at later) room here waiting events held rest at are_held are_rest is
+    nodes_at (container_then Footnote place inner later) room here waiting current events at listed (held, rest, are_held, are_rest, is) =
+        other_at Footnote place inner later (nodes_at inner) (nodes_at later) room here waiting events held rest at are_held are_rest is
+    nodes_at (container_then (TermDefinition one) place inner later) room here waiting current events at listed (held, rest, are_held, are_rest, is) =
+        other_at (TermDefinition one) place inner later (nodes_at inner) (nodes_at later) room here waiting events held rest at are_held are_rest is

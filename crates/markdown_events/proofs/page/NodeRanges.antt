@@ -1,5 +1,5 @@
 -- The ranges of the events of nodes rise, and lie within those of the elements that hold them, where the nodes stand in order.
-use Rattle.std.proofs.Common.{ℕ, suc, ◌≤◌, Bool, true, false, not, List, [], ◌∷◌, ◌++◌, length, Option, Some, None, ◌≡◌, refl, sym, ap}
+use Rattle.std.proofs.Common.{ℕ, suc, ◌≤◌, Bool, true, false, not, List, [], ◌∷◌, ◌++◌, length, Option, Some, None, ◌≡◌, ◌-◌, refl, sym, ap}
 use Rattle.std.proofs.Common.{subst, ◌∙◌, append_assoc, append-nil, arith, if◌then◌else◌}
 use Rattle.std.specs.Prelude.{⊤}
 use Rattle.markdown_values.specs.values.Events.{start, end}
@@ -22,7 +22,9 @@ use Rattle.markdown_events.specs.InlineEvents.{EventSetting, RangedEvent, ranged
 use Rattle.markdown_events.specs.TagEnds.{tag_end}
 use Rattle.markdown_events.specs.declared.page.levels.ItemList.{ItemList}
 use Rattle.markdown_events.specs.page.LeafEvents.{AreLeafEventsOf, Place}
+use Rattle.markdown_events.specs.page.References.{added}
 use Rattle.markdown_events.specs.page.TaskEvents.{AreBlockEvents, AreEventsWith, task_here}
+use Rattle.markdown_events.proofs.page.RoomLemmas.{in_room}
 use Rattle.markdown_events.specs.page.PageEvents.{AreNodeEvents, OpenList, after_block, container_tag, inside, list_after, list_end, list_in, list_tag}
 use Rattle.markdown_events.specs.page.PageEvents.{outermost}
 use Rattle.markdown_events.specs.page.Places.{element}
@@ -58,10 +60,11 @@ AreSome nothing = ⊥
 AreSome nodes = ⊤
 
 module _ (page : List ℕ) (setting : EventSetting) where
-  -- After so many bytes of the page the events of a block rise in these containers, with the first of which its first line goes on.
+  -- After so many bytes of the page the events of a block rise in these containers, with the first of which its first line goes on, wherever
+  -- labels lead.
   abbrev pub LeafRises : ℕ → List Container → ℕ → LeafBlock → Type 0
-  LeafRises passed outer kept block = (is_tight : Bool) (waiting : Option Container) (events : List RangedEvent)
-      → AreBlockEvents page setting (record { containers = outer; kept = kept; is_tight = is_tight }) waiting block events
+  LeafRises passed outer kept block = (s : EventSetting) (is_tight : Bool) (waiting : Option Container) (events : List RangedEvent)
+      → AreBlockEvents page s (record { containers = outer; kept = kept; is_tight = is_tight }) waiting block events
       → (from to : ℕ) (ends : List ℕ) (rest : List RangedEvent) → from ≤ passed → block_end block ≤ to → RiseIn (to ∷ ends) (block_end block) rest
       → RiseIn (to ∷ ends) from (events ++ rest)
 
@@ -199,26 +202,26 @@ module _ (page : List ℕ) (setting : EventSetting) where
       by true alike =
           let on = goes_to one inner (is_set_off one inner later) (front_list later) alike in
           let between = held_between (outer ++ settled (Item one) ∷ []) kept place inner stand.1 stand.2 in
-          let behind = first_later outer (length outer) (passed_after (suc place) inner) later stand.3 in
+          let follows = first_later outer (length outer) (passed_after (suc place) inner) later stand.3 in
           let there = list_between later outer (length outer) (passed_after (suc place) inner) (container_end inner) stand.3
-          (omega (arith, between, behind)) on.0 on.1 in
+          (omega (arith, between, follows)) on.0 on.1 in
           omega (arith, between, there.0, on.2)
 
   -- ---- events
 
   -- a blank line has none
-  blank_has_none : (block : LeafBlock) (kind : BlockKind) (here : Place) (events : List RangedEvent) → is_blank_kind kind ≡ true
-      → AreLeafEventsOf kind page setting here block events → events ≡ []
-  blank_has_none block Blank here events blank are = are
-  blank_has_none block Break here events blank are = absurd (cc)
-  blank_has_none block Definition here events blank are = are
-  blank_has_none block (Heading level) here events blank are = absurd (cc)
-  blank_has_none block (Setext level) here events blank are = absurd (cc)
-  blank_has_none block Indented here events blank are = absurd (cc)
-  blank_has_none block (Fenced count byte) here events blank are = absurd (cc)
-  blank_has_none block (Html kind) here events blank are = absurd (cc)
-  blank_has_none block Paragraph here events blank are = absurd (cc)
-  blank_has_none block (Table columns) here events blank are = absurd (cc)
+  blank_has_none : (s : EventSetting) (block : LeafBlock) (kind : BlockKind) (here : Place) (events : List RangedEvent) → is_blank_kind kind ≡ true
+      → AreLeafEventsOf kind page s here block events → events ≡ []
+  blank_has_none s block Blank here events blank are = are
+  blank_has_none s block Break here events blank are = absurd (cc)
+  blank_has_none s block Definition here events blank are = are
+  blank_has_none s block (Heading level) here events blank are = absurd (cc)
+  blank_has_none s block (Setext level) here events blank are = absurd (cc)
+  blank_has_none s block Indented here events blank are = absurd (cc)
+  blank_has_none s block (Fenced count byte) here events blank are = absurd (cc)
+  blank_has_none s block (Html kind) here events blank are = absurd (cc)
+  blank_has_none s block Paragraph here events blank are = absurd (cc)
+  blank_has_none s block (Table columns) here events blank are = absurd (cc)
 
   -- nor has it a task list marker
   no_task : (container : Container) (kind : BlockKind) (block : LeafBlock) → is_blank_kind kind ≡ true → task_in container kind block ≡ None
@@ -243,11 +246,11 @@ module _ (page : List ℕ) (setting : EventSetting) where
   none_here false (Some container) block blank = refl
   none_here false None block blank = refl
 
-  blank_block : (block : LeafBlock) (here : Place) (waiting : Option Container) (events : List RangedEvent) → is_blank_kind block.kind ≡ true
-      → AreBlockEvents page setting here waiting block events → events ≡ []
-  blank_block block here waiting events blank are =
-      blank_has_none block block.kind here events blank
-      (subst (λ (task : Option Task). AreEventsWith task page setting here block events) (none_here setting.asked.tasks waiting block blank) are)
+  blank_block : (s : EventSetting) (block : LeafBlock) (here : Place) (waiting : Option Container) (events : List RangedEvent) → is_blank_kind block.kind ≡ true
+      → AreBlockEvents page s here waiting block events → events ≡ []
+  blank_block s block here waiting events blank are =
+      blank_has_none s block block.kind here events blank
+      (subst (λ (task : Option Task). AreEventsWith task page s here block events) (none_here s.asked.tasks waiting block blank) are)
 
   -- These elements are open, and end there: a list with which the nodes go on up to its end, and those around it; or those alone.
   abbrev AreOpenTo : Option OpenList → Nodes → List ℕ → List ℕ → Type 0
@@ -257,14 +260,14 @@ module _ (page : List ℕ) (setting : EventSetting) where
 
   -- what rises after the last of the nodes rises after their events
   abbrev Rises : Nodes → Type 0
-  Rises nodes = (here : Place) (waiting : Option Container) (current : Option OpenList) (passed from to : ℕ) (ends outer : List ℕ) (events more : List RangedEvent)
+  Rises nodes = (room : ℕ) (here : Place) (waiting : Option Container) (current : Option OpenList) (passed from to : ℕ) (ends outer : List ℕ) (events more : List RangedEvent)
       → Stand here.containers here.kept passed nodes → from ≤ passed → last_end from nodes ≤ to → AreOpenTo current nodes ends (to ∷ outer)
-      → AreNodeEvents page setting here waiting current nodes events → RiseIn (to ∷ outer) (last_end from nodes) more
+      → AreNodeEvents page setting room here waiting current nodes events → RiseIn (to ∷ outer) (last_end from nodes) more
       → RiseIn ends from (events ++ more)
 
   -- a leaf block, and what follows it
   leaf_then_rises : (block : LeafBlock) (later : Nodes) → Rises later → Rises (leaf_then block later)
-  leaf_then_rises block later rises here waiting current passed from to ends outer events more stand low within are_open (own, rest, are_own, are_rest, is) gives =
+  leaf_then_rises block later rises room here waiting current passed from to ends outer events more stand low within are_open (own, rest, are_own, are_rest, is) gives =
       subst (λ (es : List RangedEvent). RiseIn ends from (es ++ more)) (sym is)
       (subst (RiseIn ends from) (sym (append_assoc own rest more)) (by_kind (is_blank_kind block.kind) refl current within are_open are_rest gives))
     where
@@ -272,12 +275,12 @@ module _ (page : List ℕ) (setting : EventSetting) where
       first = first_later here.containers (length here.containers) (block_end block) later stand.3
 
       by_kind : (k : Bool) → is_blank_kind block.kind ≡ k → (current : Option OpenList) → last_end (if k then from else block_end block) later ≤ to
-          → AreOpenTo current (leaf_then block later) ends (to ∷ outer) → AreNodeEvents page setting (after_block here) (waiting_behind waiting (leaf block)) current later rest
+          → AreOpenTo current (leaf_then block later) ends (to ∷ outer) → AreNodeEvents page setting (room - added own) (after_block here) (waiting_behind waiting (leaf block)) current later rest
           → RiseIn (to ∷ outer) (last_end (if k then from else block_end block) later) more → RiseIn ends from (own ++ (rest ++ more))
       by_kind true blank current within are_open are_rest gives =
-          let none = blank_block block here waiting own blank are_own in
+          let none = in_room page setting room here waiting block own (λ s are. blank_block s block here waiting own blank are) are_own in
           subst (λ (es : List RangedEvent). RiseIn ends from (es ++ (rest ++ more))) (sym none)
-          (rises (after_block here) (waiting_behind waiting (leaf block)) current (block_end block) from to ends outer rest more stand.3 (omega (arith, low, stand.0, stand.1)) within
+          (rises (room - added own) (after_block here) (waiting_behind waiting (leaf block)) current (block_end block) from to ends outer rest more stand.3 (omega (arith, low, stand.0, stand.1)) within
           (open_later current are_open) are_rest gives)
         where
           open_later : (current : Option OpenList) → AreOpenTo current (leaf_then block later) ends (to ∷ outer)
@@ -288,27 +291,28 @@ module _ (page : List ℕ) (setting : EventSetting) where
       by_kind false some None within are_open are_rest gives =
           let there = ends_between later here.containers (length here.containers) (block_end block) (block_end block) stand.3 first in
           subst (λ (e : List ℕ). RiseIn e from (own ++ (rest ++ more))) (sym are_open)
-          (stand.2 here.is_tight waiting own are_own from to outer (rest ++ more) low (omega (arith, there.0, within))
-          (rises (after_block here) (waiting_behind waiting (leaf block)) None (block_end block) (block_end block) to (to ∷ outer) outer rest more stand.3 (omega arith) within refl are_rest gives))
+          (in_room page setting room here waiting block own
+          (λ s are. stand.2 s here.is_tight waiting own are from to outer (rest ++ more) low (omega (arith, there.0, within))
+          (rises (room - added own) (after_block here) (waiting_behind waiting (leaf block)) None (block_end block) (block_end block) to (to ∷ outer) outer rest more stand.3 (omega arith) within refl are_rest gives)) are_own)
       by_kind false some (Some list) within (found, is, to_is, are) are_rest gives =
           let test = ap (λ (k : Bool). if k then front_list later else None) some in
           let none : ◌≡◌ {A = Option ItemList} None (Some found) = sym test ∙ is in
           absurd (cc)
 
   -- an item of a list that is open, and what follows it
-  item_in_list : (one : ListItem) (place : ℕ) (inner later : Nodes) → Rises inner → Rises later → (here : Place) (list : OpenList) (is_tight : Bool)
+  item_in_list : (one : ListItem) (place : ℕ) (inner later : Nodes) → Rises inner → Rises later → (room : ℕ) (here : Place) (list : OpenList) (is_tight : Bool)
       → (passed from to : ℕ) (outer : List ℕ) (held rest more : List RangedEvent)
       → Stand here.containers here.kept passed (container_then (Item one) place inner later) → from ≤ place → last_end (container_end inner) later ≤ to
       → (list_with one inner (is_set_off one inner later) (front_list later)).to ≡ list.element.to → (alike : Bool)
-      → is_alike one (front_list later) ≡ alike → AreNodeEvents page setting (inside (Item one) is_tight here) (Some (Item one)) None inner held
-      → AreNodeEvents page setting (after_block here) None (list_after (not alike) list) later rest
+      → is_alike one (front_list later) ≡ alike → AreNodeEvents page setting room (inside (Item one) is_tight here) (Some (Item one)) None inner held
+      → AreNodeEvents page setting (room - added held) (after_block here) None (list_after (not alike) list) later rest
       → RiseIn (to ∷ outer) (last_end (container_end inner) later) more
       → RiseIn (list.element.to ∷ to ∷ outer) from
       (element item place (container_end inner) held ++ (list_end (not alike) list ++ (rest ++ more)))
-  item_in_list one place inner later in_it after_it here list is_tight passed from to outer held rest more stand low within list_is alike same
+  item_in_list one place inner later in_it after_it room here list is_tight passed from to outer held rest more stand low within list_is alike same
       are_held are_rest gives =
       element_rises item place (container_end inner) from list.element.to (to ∷ outer) held _ low (omega (arith, between)) fits
-      (λ more closed. in_it (inside (Item one) is_tight here) (Some (Item one)) None (suc place) place (container_end inner)
+      (λ more closed. in_it room (inside (Item one) is_tight here) (Some (Item one)) None (suc place) place (container_end inner)
       (container_end inner ∷ list.element.to ∷ to ∷ outer) (list.element.to ∷ to ∷ outer) held more stand.2 (omega arith) inner_ends refl are_held
       (rise_from (container_end inner ∷ list.element.to ∷ to ∷ outer) (last_end place inner) (container_end inner) more inner_ends closed))
       (after alike same are_rest)
@@ -323,53 +327,53 @@ module _ (page : List ℕ) (setting : EventSetting) where
       fits = omega (arith, list_is, item_fits one place inner later here.containers here.kept passed stand)
 
       after : (alike : Bool) → is_alike one (front_list later) ≡ alike
-          → AreNodeEvents page setting (after_block here) None (list_after (not alike) list) later rest
+          → AreNodeEvents page setting (room - added held) (after_block here) None (list_after (not alike) list) later rest
           → RiseIn (list.element.to ∷ to ∷ outer) (container_end inner) (list_end (not alike) list ++ (rest ++ more))
       after false same are_rest =
           let at_end = sym (last_to one inner (is_set_off one inner later) (front_list later) same) ∙ list_is in (
             omega (arith, at_end),
             refl,
             subst (λ n. RiseIn (to ∷ outer) n (rest ++ more)) at_end
-                (after_it (after_block here) None None (passed_after (suc place) inner) (container_end inner) to (to ∷ outer) outer rest more stand.3
+                (after_it (room - added held) (after_block here) None None (passed_after (suc place) inner) (container_end inner) to (to ∷ outer) outer rest more stand.3
                 (omega (arith, between)) within refl are_rest gives),
           )
       after true same are_rest =
           let on = goes_to one inner (is_set_off one inner later) (front_list later) same in
-          after_it (after_block here) None (Some list) (passed_after (suc place) inner) (container_end inner) to (list.element.to ∷ to ∷ outer) outer rest more
+          after_it (room - added held) (after_block here) None (Some list) (passed_after (suc place) inner) (container_end inner) to (list.element.to ∷ to ∷ outer) outer rest more
           stand.3 (omega (arith, between)) within (on.0, on.1, sym on.2 ∙ list_is, refl) are_rest gives
 
   -- a container that is no item, and what follows it
-  other_rises : (container : Container) (place : ℕ) (inner later : Nodes) → Rises inner → Rises later → (here : Place)
+  other_rises : (container : Container) (place : ℕ) (inner later : Nodes) → Rises inner → Rises later → (room : ℕ) (here : Place)
       → (passed from to : ℕ) (ends outer : List ℕ) (events more : List RangedEvent)
       → Stand here.containers here.kept passed (container_then container place inner later) → from ≤ passed → last_end (container_end inner) later ≤ to
-      → ends ≡ to ∷ outer → OtherEvents page setting container place inner later here events
+      → ends ≡ to ∷ outer → OtherEvents page setting container place inner later room here events
       → RiseIn (to ∷ outer) (last_end (container_end inner) later) more → RiseIn ends from (events ++ more)
-  other_rises container place inner later in_it after_it here passed from to ends outer events more stand low within are_open
+  other_rises container place inner later in_it after_it room here passed from to ends outer events more stand low within are_open
       (held, rest, are_held, are_rest, is) gives =
       let tag = container_tag container in
       let between = held_between (here.containers ++ settled container ∷ []) here.kept place inner stand.1 stand.2 in
-      let behind = first_later here.containers (length here.containers) (passed_after (suc place) inner) later stand.3 in
+      let follows = first_later here.containers (length here.containers) (passed_after (suc place) inner) later stand.3 in
       let there = ends_between later here.containers (length here.containers) (passed_after (suc place) inner) (container_end inner) stand.3
-      (omega (arith, between, behind)) in
+      (omega (arith, between, follows)) in
       let inner_ends = end_grows inner place (first_place inner) (omega (arith, between)) in
       subst (λ (es : List RangedEvent). RiseIn ends from (es ++ more)) (sym is)
       (subst (λ (e : List ℕ). RiseIn e from (element tag place (container_end inner) held ++ rest ++ more)) (sym are_open)
       (subst (RiseIn (to ∷ outer) from) (sym (append_assoc (element tag place (container_end inner) held) rest more))
       (element_rises tag place (container_end inner) from to outer held (rest ++ more) (omega (arith, low, stand.0)) (omega (arith, between))
       (omega (arith, there.0, within))
-      (λ more closed. in_it (inside container false here) (Some container) None (suc place) place (container_end inner)
+      (λ more closed. in_it room (inside container false here) (Some container) None (suc place) place (container_end inner)
       (container_end inner ∷ to ∷ outer) (to ∷ outer) held more stand.2 (omega arith) inner_ends refl are_held
       (rise_from (container_end inner ∷ to ∷ outer) (last_end place inner) (container_end inner) more inner_ends closed))
-      (after_it (after_block here) None None (passed_after (suc place) inner) (container_end inner) to (to ∷ outer) outer rest more stand.3
+      (after_it (room - added held) (after_block here) None None (passed_after (suc place) inner) (container_end inner) to (to ∷ outer) outer rest more stand.3
       (omega (arith, between)) within refl are_rest gives))))
 
   nodes_rise : (nodes : Nodes) → Rises nodes
-  nodes_rise nothing here waiting None passed from to ends outer events more stand low within are_open is gives =
+  nodes_rise nothing room here waiting None passed from to ends outer events more stand low within are_open is gives =
       subst (λ (es : List RangedEvent). RiseIn ends from (es ++ more)) (sym is) (subst (λ (e : List ℕ). RiseIn e from more) (sym are_open) gives)
-  nodes_rise nothing here waiting (Some list) passed from to ends outer events more stand low within (found, none, to_is, are) is gives = absurd (cc)
-  nodes_rise (leaf_then block later) here waiting current passed from to ends outer events more stand low within are_open are gives =
-      leaf_then_rises block later (nodes_rise later) here waiting current passed from to ends outer events more stand low within are_open are gives
-  nodes_rise (container_then (Item one) place inner later) here waiting None passed from to ends outer events more stand low within are_open
+  nodes_rise nothing room here waiting (Some list) passed from to ends outer events more stand low within (found, none, to_is, are) is gives = absurd (cc)
+  nodes_rise (leaf_then block later) room here waiting current passed from to ends outer events more stand low within are_open are gives =
+      leaf_then_rises block later (nodes_rise later) room here waiting current passed from to ends outer events more stand low within are_open are gives
+  nodes_rise (container_then (Item one) place inner later) room here waiting None passed from to ends outer events more stand low within are_open
       (held, rest, are_held, are_rest, is) gives =
       let span = span_of (Item one) inner later in
       let now = list_in None one place span in
@@ -378,7 +382,7 @@ module _ (page : List ℕ) (setting : EventSetting) where
       (list_with one inner (is_set_off one inner later) (front_list later)) refl in
       let between = held_between (here.containers ++ settled (Item one) ∷ []) here.kept place inner stand.1 stand.2 in
       let within_list = item_fits one place inner later here.containers here.kept passed stand in
-      let rises = item_in_list one place inner later (nodes_rise inner) (nodes_rise later) here now now.is_tight passed place to outer held rest more stand
+      let rises = item_in_list one place inner later (nodes_rise inner) (nodes_rise later) room here now now.is_tight passed place to outer held rest more stand
       (omega arith) within refl (is_alike one (front_list later)) refl are_held are_rest gives in
       subst (λ (es : List RangedEvent). RiseIn ends from (es ++ more)) (sym is)
       (subst (λ (e : List ℕ). RiseIn e from
@@ -386,36 +390,36 @@ module _ (page : List ℕ) (setting : EventSetting) where
         record { begins = omega (arith, low, stand.0); in_order = omega (arith, between, within_list); ends = omega (arith, list.1, within) },
         subst (RiseIn (span.list_to ∷ to ∷ outer) place) (sym (reassociated whole (list_end span.is_last now) rest more)) rises,
       ))
-  nodes_rise (container_then (Item one) place inner later) here waiting (Some list) passed from to ends outer events more stand low within
+  nodes_rise (container_then (Item one) place inner later) room here waiting (Some list) passed from to ends outer events more stand low within
       (found, front, to_is, are_open) (held, rest, are_held, are_rest, is) gives =
       let span = span_of (Item one) inner later in
       let whole = element item place span.to held in
       let same : list_with one inner (is_set_off one inner later) (front_list later) ≡ found = cc in
-      let rises = item_in_list one place inner later (nodes_rise inner) (nodes_rise later) here list list.is_tight passed from to outer held rest more stand
+      let rises = item_in_list one place inner later (nodes_rise inner) (nodes_rise later) room here list list.is_tight passed from to outer held rest more stand
       (omega (arith, low, stand.0)) within (ap (λ (l : ItemList). l.to) same ∙ to_is) (is_alike one (front_list later)) refl are_held are_rest gives in
       subst (λ (es : List RangedEvent). RiseIn ends from (es ++ more)) (sym is)
       (subst (λ (e : List ℕ). RiseIn e from (whole ++ list_end span.is_last list ++ rest ++ more)) (sym are_open)
       (subst (RiseIn (list.element.to ∷ to ∷ outer) from) (sym (reassociated whole (list_end span.is_last list) rest more)) rises))
-  nodes_rise (container_then Quote place inner later) here waiting None passed from to ends outer events more stand low within are_open are gives =
-      other_rises Quote place inner later (nodes_rise inner) (nodes_rise later) here passed from to ends outer events more stand low within are_open are gives
-  nodes_rise (container_then Footnote place inner later) here waiting None passed from to ends outer events more stand low within are_open are gives =
-      other_rises Footnote place inner later (nodes_rise inner) (nodes_rise later) here passed from to ends outer events more stand low within
+  nodes_rise (container_then Quote place inner later) room here waiting None passed from to ends outer events more stand low within are_open are gives =
+      other_rises Quote place inner later (nodes_rise inner) (nodes_rise later) room here passed from to ends outer events more stand low within are_open are gives
+  nodes_rise (container_then Footnote place inner later) room here waiting None passed from to ends outer events more stand low within are_open are gives =
+      other_rises Footnote place inner later (nodes_rise inner) (nodes_rise later) room here passed from to ends outer events more stand low within
       are_open are gives
-  nodes_rise (container_then (TermDefinition one) place inner later) here waiting None passed from to ends outer events more stand low within are_open are gives =
-      other_rises (TermDefinition one) place inner later (nodes_rise inner) (nodes_rise later) here passed from to ends outer events more stand low within
+  nodes_rise (container_then (TermDefinition one) place inner later) room here waiting None passed from to ends outer events more stand low within are_open are gives =
+      other_rises (TermDefinition one) place inner later (nodes_rise inner) (nodes_rise later) room here passed from to ends outer events more stand low within
       are_open are gives
-  nodes_rise (container_then c place inner later) here waiting (Some list) passed from to ends outer events more stand low within (found, none, to_is, are) is gives =
+  nodes_rise (container_then c place inner later) room here waiting (Some list) passed from to ends outer events more stand low within (found, none, to_is, are) is gives =
       absurd (cc)
 
 -- ---- the page
 
 -- The ranges of a page's events rise, and lie within those of the elements that hold them, where its nodes stand in order and the events of
 -- each leaf block rise.
-pub page_events_rise : (page : List ℕ) (setting : EventSetting) (passed : ℕ) (nodes : Nodes) (events : List RangedEvent)
-    → Stand page setting [] 0 passed nodes → passed_after passed nodes ≤ length page → AreNodeEvents page setting outermost None None nodes events
+pub page_events_rise : (page : List ℕ) (setting : EventSetting) (passed : ℕ) (room : ℕ) (nodes : Nodes) (events : List RangedEvent)
+    → Stand page setting [] 0 passed nodes → passed_after passed nodes ≤ length page → AreNodeEvents page setting room outermost None None nodes events
     → AreWithin page events
-page_events_rise page setting passed nodes events stand within are =
+page_events_rise page setting passed room nodes events stand within are =
     let between = ends_between page setting nodes [] 0 passed 0 stand (omega arith) in
     subst (RiseIn (length page ∷ []) 0) (append-nil events)
-    (nodes_rise page setting nodes outermost None None passed 0 (length page) (length page ∷ []) [] events [] stand (omega arith)
+    (nodes_rise page setting nodes room outermost None None passed 0 (length page) (length page ∷ []) [] events [] stand (omega arith)
     (omega (arith, between.1, within)) refl are tt)

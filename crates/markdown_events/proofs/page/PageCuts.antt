@@ -17,6 +17,7 @@ use Rattle.markdown_events.specs.InlineEvents.{EventSetting, RangedEvent}
 use Rattle.markdown_events.specs.Targets.{Targets, or_else}
 use Rattle.markdown_values.specs.declared.values.extensions.Extensions.{Extensions}
 use Rattle.markdown_events.specs.page.PageEvents.{AreNodeEvents, ArePageEvents, ArePageEventsWith, event_setting, outermost}
+use Rattle.markdown_events.specs.page.References.{room_of}
 use Rattle.markdown_events.specs.page.Settings.{built}
 use Rattle.markdown_events.proofs.page.NodeCuts.{NodesAt, nodes_at}
 use Rattle.markdown_events.proofs.page.task_events.TaskCuts.{block_at}
@@ -31,7 +32,7 @@ module _ (page : List ℕ) (setting : EventSetting) where
       let more = cut_nodes later outer (length outer) (block_end block) (waiting_behind waiting (leaf block)) rest stand.2 cut.1 plain.1 in (
         (
           cut.0,
-          λ is_tight events are. block_at page setting (record { containers = outer; kept = kept; is_tight = is_tight }) block waiting cut.0 stand.1 plain.0
+          λ s is_tight events are. block_at page s (record { containers = outer; kept = kept; is_tight = is_tight }) block waiting cut.0 stand.1 plain.0
               events are,
           more.0,
         ),
@@ -49,7 +50,7 @@ module _ (page : List ℕ) (setting : EventSetting) where
 module _ (page : List ℕ) (setting : Extensions) (utf8 : IsUtf8 page) where
   -- wherever labels lead
   tree_at_boundaries : (targets : Targets) (nodes : Nodes) (events : List RangedEvent) → IsEventsOf (built setting) page (flatten nodes)
-      → AreNodeEvents page (event_setting setting targets) outermost None None nodes events → AreAtBoundaries page events
+      → AreNodeEvents page (event_setting setting targets) (room_of page) outermost None None nodes events → AreAtBoundaries page events
   tree_at_boundaries targets nodes events are_blocks are_events =
       let read_with = event_setting setting targets in
       let asked = built setting in
@@ -57,7 +58,7 @@ module _ (page : List ℕ) (setting : Extensions) (utf8 : IsUtf8 page) where
       let at = cut_nodes page read_with nodes [] 0 (text_start page) None [] (page_contents_stand asked page nodes are_blocks)
       (subst (AreCutOut page) all (page_cut_out asked page (flatten nodes) are_blocks utf8))
       (subst (FirstsBeginPlain None) all (page_firsts_begin_plain asked page (flatten nodes) are_blocks)) in
-      nodes_at page read_with utf8 nodes outermost None None events at.0 tt are_events
+      nodes_at page read_with utf8 nodes (room_of page) outermost None None events at.0 tt are_events
 
   -- Each range begins and ends at a character boundary of the page.
   pub page_events_at_boundaries : (events : List RangedEvent) → ArePageEvents page setting events → AreAtBoundaries page events

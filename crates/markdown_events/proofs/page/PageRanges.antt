@@ -18,6 +18,7 @@ use Rattle.markdown_events.specs.page.LeafEvents.{Place}
 use Rattle.markdown_events.specs.page.PageEvents.{AreNodeEvents, ArePageEvents, ArePageEventsWith, event_setting, outermost}
 use Rattle.markdown_events.specs.page.Settings.{built}
 use Rattle.markdown_events.specs.page.Places.{lines_in_page}
+use Rattle.markdown_events.specs.page.References.{room_of}
 use Rattle.markdown_events.specs.page.Spans.{block_end}
 use Rattle.markdown_events.proofs.page.NodeRanges.{AreSome, LeafRises, Stand, page_events_rise}
 use Rattle.markdown_events.proofs.page.leaf_events.LineRanges.{ContentAfter}
@@ -68,9 +69,9 @@ some_inside (container_then container place inner later) some = tt
 module _ (page : List ℕ) (setting : EventSetting) where
   leaf_stands : (outer : List Container) (kept passed : ℕ) (block : LeafBlock) → passed ≤ block.place → block.place ≤ block_end block
       → HoldsContent page outer kept passed block → HoldsText page outer kept block → LeafRises page setting passed outer kept block
-  leaf_stands outer kept passed block own ends_after stands holds is_tight waiting events are =
+  leaf_stands outer kept passed block own ends_after stands holds s is_tight waiting events are =
       let here : Place = record { containers = outer; kept = kept; is_tight = is_tight } in
-      block_rises page setting here passed block own ends_after
+      block_rises page s here passed block own ends_after
       (content_after page outer kept passed block stands is_tight passed (from_passed block.kind passed block.place own))
       (λ has. content_after page outer kept passed block stands is_tight block.place (omega (arith, from_text block.kind passed block.place has)))
       holds waiting events are
@@ -96,14 +97,14 @@ module _ (page : List ℕ) (setting : EventSetting) where
 module _ (page : List ℕ) (setting : Extensions) where
   -- wherever labels lead
   tree_within : (targets : Targets) (nodes : Nodes) (events : List RangedEvent) → IsEventsOf (built setting) page (flatten nodes)
-      → AreNodeEvents page (event_setting setting targets) outermost None None nodes events → AreWithin page events
+      → AreNodeEvents page (event_setting setting targets) (room_of page) outermost None None nodes events → AreWithin page events
   tree_within targets nodes events are_blocks are_events =
       let read_with = event_setting setting targets in
       let asked = built setting in
       let found = page_nodes_stand asked page nodes are_blocks in
       let stand = nodes_stand page read_with nodes [] 0 (text_start page) found.0 (containers_hold_some asked page nodes are_blocks)
       (page_contents_stand asked page nodes are_blocks) in
-      page_events_rise page read_with (text_start page) nodes events stand (omega (arith, found.1)) are_events
+      page_events_rise page read_with (text_start page) (room_of page) nodes events stand (omega (arith, found.1)) are_events
 
   -- Ranges rise, and what an element holds lies within its range.
   pub page_events_within : (events : List RangedEvent) → ArePageEvents page setting events → AreWithin page events

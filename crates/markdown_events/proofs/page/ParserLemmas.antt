@@ -10,12 +10,12 @@ use Rattle.markdown_events.specs.InlineEvents.{RangedEvent}
 use Rattle.markdown_events.specs.Targets.{Targets, nowhere, or_else}
 use Rattle.markdown_events.specs.declared.page.spans.Span.{Span}
 use Rattle.markdown_values.specs.declared.values.extensions.Extensions.{Extensions}
-use Rattle.markdown_events.specs.page.Given.{AreEventsFrom, Gives, GivesWith, IsDone, PageLeft, left_with, setting_of, setting_with}
+use Rattle.markdown_events.specs.page.Given.{AreEventsFrom, Gives, GivesWith, IsDone, PageLeft, leaf_left_with, left_with, setting_of, setting_with}
 use Rattle.markdown_events.specs.page.OpenElements.{begun, end_events, ended, next_span, none_open, passed, place_in, start_events}
 use Rattle.markdown_events.specs.page.PageEvents.{event_setting, ArePageEvents, ArePageEventsWith, AreNodeEvents, outermost}
 use Rattle.markdown_events.specs.page.Settings.{built}
 use Rattle.markdown_events.specs.page.Spans.{spans}
-use Rattle.markdown_events.specs.page.TaskEvents.{AreBlockEvents}
+use Rattle.markdown_events.specs.page.References.{AreEventsInRoom, room_of}
 use Rattle.markdown_events.proofs.page.TreeLemmas.{page_tree}
 
 -- with no other labels
@@ -26,7 +26,7 @@ without_more targets = fun_ext (λ label. elim (targets label) as (λ t. elim t 
 pub given_without : (left : PageLeft) (events : List RangedEvent) → GivesWith nowhere left events → Gives left events
 given_without left events g = record {
   rest = g.rest;
-  are_later = subst (λ targets. AreEventsFrom left.page (record { asked = left.extensions; targets = targets }) left.elements left.blocks g.rest)
+  are_later = subst (λ targets. AreEventsFrom left.page (record { asked = left.extensions; targets = targets }) left.room left.elements left.blocks g.rest)
       (without_more (known_as left.known)) g.are_later;
   given = g.given;
 }
@@ -34,7 +34,7 @@ given_without left events g = record {
 pub given_with : (left : PageLeft) (events : List RangedEvent) → Gives left events → GivesWith nowhere left events
 given_with left events g = record {
   rest = g.rest;
-  are_later = subst (λ targets. AreEventsFrom left.page (record { asked = left.extensions; targets = targets }) left.elements left.blocks g.rest)
+  are_later = subst (λ targets. AreEventsFrom left.page (record { asked = left.extensions; targets = targets }) left.room left.elements left.blocks g.rest)
       (sym (without_more (known_as left.known))) g.are_later;
   given = g.given;
 }
@@ -45,22 +45,22 @@ pub page_events_with : (page : List ℕ) (setting : Extensions) (more : Targets)
     → (named : List Named) → HasDefinitions (built setting) page named
     → ((label : List ℕ) → known_as known label ≡ first_of label named)
     → ((nodes : Nodes) → blocks ≡ flatten nodes → found ≡ spans nodes)
-    → AreEventsFrom page (event_setting setting (or_else (known_as known) more)) (none_open found) blocks events
+    → AreEventsFrom page (event_setting setting (or_else (known_as known) more)) (room_of page) (none_open found) blocks events
     → ArePageEventsWith page setting more events
 page_events_with page setting more blocks known found events of_page named defined first are_spans given =
     let tree = events_of_nodes (built setting) page blocks of_page in
     let same : known_as known ≡ (λ label. first_of label named) = fun_ext first in
-    let spanned = subst (λ all. AreEventsFrom page (event_setting setting (or_else (known_as known) more)) (none_open all) blocks events)
+    let spanned = subst (λ all. AreEventsFrom page (event_setting setting (or_else (known_as known) more)) (room_of page) (none_open all) blocks events)
     (are_spans tree.0 tree.1) given in
-    let flat = subst (λ all. AreEventsFrom page (event_setting setting (or_else (known_as known) more)) (none_open (spans tree.0)) all events)
+    let flat = subst (λ all. AreEventsFrom page (event_setting setting (or_else (known_as known) more)) (room_of page) (none_open (spans tree.0)) all events)
     tree.1 spanned in
     record {
       nodes = tree.0;
       are_blocks = subst (λ all. IsEventsOf (built setting) page all) tree.1 of_page;
       named = named;
       are_defined = defined;
-      are_events = subst (λ (targets : Targets). AreNodeEvents page (event_setting setting (or_else targets more)) outermost None None tree.0 events) same
-          (page_tree page (event_setting setting (or_else (known_as known) more)) tree.0 events flat);
+      are_events = subst (λ (targets : Targets). AreNodeEvents page (event_setting setting (or_else targets more)) (room_of page) outermost None None tree.0 events) same
+          (page_tree page (event_setting setting (or_else (known_as known) more)) (room_of page) tree.0 events flat);
     }
 
 -- without other labels they are those of the page
@@ -71,7 +71,7 @@ page_events page setting events are = record {
   are_blocks = are.are_blocks;
   named = are.named;
   are_defined = are.are_defined;
-  are_events = subst (λ targets. AreNodeEvents page (event_setting setting (targets)) outermost None None are.nodes events)
+  are_events = subst (λ targets. AreNodeEvents page (event_setting setting targets) (room_of page) outermost None None are.nodes events)
       (without_more (λ label. first_of label are.named)) are.are_events;
 }
 
@@ -84,16 +84,16 @@ pub given_start : (more : Targets) (old : PageLeft) (container : Container) (pla
     → GivesWith more old events
 given_start more old container place blocks events none next g = record {
   rest = events;
-  are_later = subst (λ all. AreEventsFrom old.page (setting_with more old) old.elements all events) (sym next) (g.rest, g.are_later, g.given);
+  are_later = subst (λ all. AreEventsFrom old.page (setting_with more old) old.room old.elements all events) (sym next) (g.rest, g.are_later, g.given);
   given = ap (λ ready. ready ++ events) (sym none);
 }
 
 pub given_leaf : (more : Targets) (old : PageLeft) (block : LeafBlock) (here : List RangedEvent) (blocks : List Event) (events : List RangedEvent)
-    → old.ready ≡ [] → old.blocks ≡ leaf block ∷ blocks → AreBlockEvents old.page (setting_with more old) (place_in old.elements) old.elements.waiting block here
-    → GivesWith more (left_with old here (passed block old.elements) blocks) events → GivesWith more old events
+    → old.ready ≡ [] → old.blocks ≡ leaf block ∷ blocks → AreEventsInRoom old.page (setting_with more old) old.room (place_in old.elements) old.elements.waiting block here
+    → GivesWith more (leaf_left_with old here (passed block old.elements) blocks) events → GivesWith more old events
 given_leaf more old block here blocks events none next leaf_is g = record {
   rest = events;
-  are_later = subst (λ all. AreEventsFrom old.page (setting_with more old) old.elements all events) (sym next) (here, g.rest, leaf_is, g.are_later, g.given);
+  are_later = subst (λ all. AreEventsFrom old.page (setting_with more old) old.room old.elements all events) (sym next) (here, g.rest, leaf_is, g.are_later, g.given);
   given = ap (λ ready. ready ++ events) (sym none);
 }
 
@@ -101,7 +101,7 @@ pub given_end : (more : Targets) (old : PageLeft) (blocks : List Event) (events 
     → GivesWith more (left_with old (end_events old.elements.elements) (ended old.elements) blocks) events → GivesWith more old events
 given_end more old blocks events none next g = record {
   rest = events;
-  are_later = subst (λ all. AreEventsFrom old.page (setting_with more old) old.elements all events) (sym next) (g.rest, g.are_later, g.given);
+  are_later = subst (λ all. AreEventsFrom old.page (setting_with more old) old.room old.elements all events) (sym next) (g.rest, g.are_later, g.given);
   given = ap (λ ready. ready ++ events) (sym none);
 }
 
@@ -135,6 +135,6 @@ given_first left event events first g = record {
 pub given_none : (left : PageLeft) → IsDone left → Gives left []
 given_none left done = record {
   rest = [];
-  are_later = subst (λ (blocks : List Event). AreEventsFrom left.page (setting_of left) left.elements blocks []) (sym done.no_blocks) refl;
+  are_later = subst (λ (blocks : List Event). AreEventsFrom left.page (setting_of left) left.room left.elements blocks []) (sym done.no_blocks) refl;
   given = ap (λ (es : List RangedEvent). es ++ []) (sym done.none_ready);
 }

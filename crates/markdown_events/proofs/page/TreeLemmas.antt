@@ -1,10 +1,11 @@
 -- Events that are followed one after another are those of their nodes.
-use Rattle.std.proofs.Common.{ℕ, Bool, true, false, not, ◌||◌, ◌==◌, ◌-◌, List, [], ◌∷◌, ◌++◌, Option, Some, None, is_some, ◌≡◌}
+use Rattle.std.proofs.Common.{ℕ, Bool, true, false, not, ◌||◌, ◌==◌, ◌-◌, List, [], ◌∷◌, ◌++◌, Option, Some, None, is_some, ◌≡◌, ◌+◌}
 use Rattle.std.specs.Bool.{⊤}
 use Rattle.std.proofs.Math.Seq.{take-append_seam}
 use Rattle.std.proofs.lemmas.List.{length-append}
 use Rattle.std.proofs.Common.{arith, append-nil}
 use Rattle.std.proofs.Common.{length, take, drop, if◌then◌else◌, IsTrue, refl, sym, ap, subst, ◌∙◌, append_assoc}
+use Rattle.markdown_values.specs.values.Events.{start}
 use Rattle.markdown_values.specs.values.Tags.{item, list}
 use Rattle.markdown_scanners_tree.specs.Ascii.{full_stop, right_parenthesis}
 use Rattle.markdown_blocks.specs.containers.Containers.{settled}
@@ -27,7 +28,8 @@ use Rattle.markdown_events.specs.page.OpenElements.{without_list}
 use Rattle.markdown_events.specs.page.PageEvents.{AreNodeEvents, OpenList, after_block, container_tag, element_of, ending, inside, list_after, list_end}
 use Rattle.markdown_events.specs.page.PageEvents.{list_in, list_start, list_tag, outermost, starting}
 use Rattle.markdown_events.specs.page.Spans.{container_end, front_list, is_alike, span_of, spans}
-use Rattle.markdown_events.specs.page.TaskEvents.{AreBlockEvents}
+use Rattle.markdown_events.specs.page.References.{AreEventsInRoom, added, added_by}
+use Rattle.markdown_events.proofs.page.RoomLemmas.{added_both, room_after_both}
 
 -- no list is directly in a list
 abbrev AreParted : List OpenElement → Type 0
@@ -163,12 +165,12 @@ abbrev with_spans : List Span → OpenElements → OpenElements
 with_spans spans s = record s { spans = spans }
 
 -- the events of nodes, and of what follows them
-record AreBoth (page : List ℕ) (setting : EventSetting) (nodes : Nodes) (more : List Span) (tail : List Event) (s : OpenElements)
+record AreBoth (page : List ℕ) (setting : EventSetting) (room : ℕ) (nodes : Nodes) (more : List Span) (tail : List Event) (s : OpenElements)
     (events : List RangedEvent) : Type 0 where
   here : List RangedEvent
   rest : List RangedEvent
-  of_nodes : AreNodeEvents page setting (place_in s) s.waiting (innermost_list s.elements) nodes here
-  of_tail : AreEventsFrom page setting (after nodes more s) tail rest
+  of_nodes : AreNodeEvents page setting room (place_in s) s.waiting (innermost_list s.elements) nodes here
+  of_tail : AreEventsFrom page setting (room - added here) (after nodes more s) tail rest
   both : events ≡ here ++ rest
 
 kept_passed : (nodes : Nodes) (before : LeafBlock) (s : OpenElements) → kept_after nodes (passed before s) ≡ length s.containers
@@ -186,38 +188,44 @@ goes_on_leaf blank None block later e goes = tt
 goes_on_leaf true (Some now) block later e goes = subst (λ b. IsTrue (is_some (if b then front_list later else None))) e goes
 goes_on_leaf false (Some now) block later e goes = absurd (false_is_not (subst (λ b. IsTrue (is_some (if b then front_list later else None))) e goes))
 
-nothing_goes_on : (page : List ℕ) (setting : EventSetting) (more : List Span) (tail : List Event) (s : OpenElements) (events : List RangedEvent)
+nothing_added : (room : ℕ) → room ≡ room - added []
+nothing_added room = omega arith
+
+nothing_goes_on : (page : List ℕ) (setting : EventSetting) (room : ℕ) (more : List Span) (tail : List Event) (s : OpenElements) (events : List RangedEvent)
     → AreParted s.elements → GoesOn (innermost_list s.elements) nothing
-    → AreEventsFrom page setting (with_spans more s) tail events → AreBoth page setting nothing more tail s events
-nothing_goes_on page setting more tail s events parted goes are =
+    → AreEventsFrom page setting room (with_spans more s) tail events → AreBoth page setting room nothing more tail s events
+nothing_goes_on page setting room more tail s events parted goes are =
     record {
       here = [];
       rest = events;
       of_nodes = refl;
-      of_tail = subst (λ elements. AreEventsFrom page setting (record {
-        spans = more;
-        containers = s.containers;
-        kept = s.kept;
-        waiting = s.waiting;
-        elements = elements;
-      }) tail events) (sym (without_none s.elements (none_now (innermost_list s.elements) goes))) are;
+      of_tail = subst (λ room. AreEventsFrom page setting room (after nothing more s) tail events) (nothing_added room)
+          (subst (λ elements. AreEventsFrom page setting room (record {
+            spans = more;
+            containers = s.containers;
+            kept = s.kept;
+            waiting = s.waiting;
+            elements = elements;
+          }) tail events) (sym (without_none s.elements (none_now (innermost_list s.elements) goes))) are);
       both = refl;
     }
 
-leaf_goes_on : (page : List ℕ) (setting : EventSetting) (block : LeafBlock) (later : Nodes) (more : List Span) (tail : List Event) (s : OpenElements)
-    → (here rest events : List RangedEvent) → AreBlockEvents page setting (place_in s) s.waiting block here → events ≡ here ++ rest
-    → AreBoth page setting later more tail (passed block s) rest → AreBoth page setting (leaf_then block later) more tail s events
-leaf_goes_on page setting block later more tail s here rest events leaf_is both_are next = record {
+leaf_goes_on : (page : List ℕ) (setting : EventSetting) (room : ℕ) (block : LeafBlock) (later : Nodes) (more : List Span) (tail : List Event) (s : OpenElements)
+    → (here rest events : List RangedEvent) → AreEventsInRoom page setting room (place_in s) s.waiting block here → events ≡ here ++ rest
+    → AreBoth page setting (room - added here) later more tail (passed block s) rest → AreBoth page setting room (leaf_then block later) more tail s events
+leaf_goes_on page setting room block later more tail s here rest events leaf_is both_are next = record {
   here = here ++ next.here;
   rest = next.rest;
   of_nodes = (here, next.here, leaf_is, next.of_nodes, refl);
-  of_tail = subst (λ kept. AreEventsFrom page setting (record {
-    spans = more;
-    containers = s.containers;
-    kept = kept;
-    waiting = waiting_after later (waiting_behind s.waiting (leaf block));
-    elements = without_list s.elements;
-  }) tail next.rest) (kept_passed later block s) next.of_tail;
+  of_tail = subst (λ room. AreEventsFrom page setting room (after (leaf_then block later) more s) tail next.rest)
+      (sym (room_after_both room here next.here))
+      (subst (λ kept. AreEventsFrom page setting ((room - added here) - added next.here) (record {
+        spans = more;
+        containers = s.containers;
+        kept = kept;
+        waiting = waiting_after later (waiting_behind s.waiting (leaf block));
+        elements = without_list s.elements;
+      }) tail next.rest) (kept_passed later block s) next.of_tail);
   both = both_are ∙ (ap (λ es. here ++ es) next.both ∙ sym (append_assoc here next.here next.rest));
 }
 
@@ -266,24 +274,79 @@ goes_on_by : (b : Bool) (now : OpenList) (later : Nodes) (one : ListItem) → is
 goes_on_by true now later one e = alike_is_some one (front_list later) e
 goes_on_by false now later one e = tt
 
+-- ---- what references add
+
+no_list_start : (current : Option OpenList) (one : ListItem) (offset : ℕ) (span : Span) → added (list_start current one offset span) ≡ 0
+no_list_start None one offset span = refl
+no_list_start (Some current) one offset span = refl
+
+no_list_end : (is_last : Bool) (current : OpenList) → added (list_end is_last current) ≡ 0
+no_list_end true current = refl
+no_list_end false current = refl
+
+no_container : (container : Container) → added_by (start (container_tag container)) ≡ 0
+no_container Quote = refl
+no_container (Item one) = refl
+no_container Footnote = refl
+no_container (TermDefinition one) = refl
+
+-- around a list, and around what an item of it holds, nothing is added
+pub added_by_item : (current : Option OpenList) (one : ListItem) (offset : ℕ) (span : Span) (now : OpenList) (held next : List RangedEvent)
+    → added (list_start current one offset span ++ starting item offset span.to ++ held ++ ending (element_of item offset span.to)
+    ++ list_end span.is_last now ++ next) ≡ added held + added next
+added_by_item current one offset span now held next =
+    let lists = list_start current one offset span in
+    let starts = starting item offset span.to in
+    let ends = ending (element_of item offset span.to) in
+    let last = list_end span.is_last now in
+    omega (
+      arith,
+      no_list_start current one offset span,
+      no_list_end span.is_last now,
+      added_both lists starts,
+      added_both (lists ++ starts) held,
+      added_both (lists ++ starts ++ held) ends,
+      added_both (lists ++ starts ++ held ++ ends) last,
+      added_both (lists ++ starts ++ held ++ ends ++ last) next,
+    )
+
+pub added_by_other : (container : Container) (offset to : ℕ) (held next : List RangedEvent)
+    → added (starting (container_tag container) offset to ++ held ++ ending (element_of (container_tag container) offset to) ++ next)
+    ≡ added held + added next
+added_by_other container offset to held next =
+    let ends = ending (element_of (container_tag container) offset to) in
+    omega (arith, no_container container, added_both held ends, added_both (held ++ ends) next)
+
+room_after_item : (room : ℕ) (current : Option OpenList) (one : ListItem) (offset : ℕ) (span : Span) (now : OpenList) (held next : List RangedEvent)
+    → room - added (list_start current one offset span ++ starting item offset span.to ++ held ++ ending (element_of item offset span.to)
+    ++ list_end span.is_last now ++ next) ≡ (room - added held) - added next
+room_after_item room current one offset span now held next = omega (arith, added_by_item current one offset span now held next)
+
+room_after_other : (room : ℕ) (container : Container) (offset to : ℕ) (held next : List RangedEvent)
+    → room - added (starting (container_tag container) offset to ++ held ++ ending (element_of (container_tag container) offset to) ++ next)
+    ≡ (room - added held) - added next
+room_after_other room container offset to held next = omega (arith, added_by_other container offset to held next)
+
+-- ---- containers and what follows them
+
 -- what is given of an item: what it holds, its end, and what follows it
-item_joined : (page : List ℕ) (setting : EventSetting) (one : ListItem) (place : ℕ) (inner later : Nodes) (more : List Span) (tail : List Event)
+item_joined : (page : List ℕ) (setting : EventSetting) (room : ℕ) (one : ListItem) (place : ℕ) (inner later : Nodes) (more : List Span) (tail : List Event)
     → (s : OpenElements) (events rest : List RangedEvent) → AreParted s.elements
     → let span = span_of (Item one) inner later in
     let lists = with_list one place span s.elements in
     events ≡ start_events (Item one) place span s.elements ++ rest
-    → AreBoth page setting inner (spans later ++ more) (ends ∷ (flatten later ++ tail)) (inside_of (Item one) (opened (Item one) place span s.elements) s) rest
-    → ((rest2 : List RangedEvent) → AreEventsFrom page setting (with_spans (spans later ++ more) (past (lists_after span.is_last lists)
+    → AreBoth page setting room inner (spans later ++ more) (ends ∷ (flatten later ++ tail)) (inside_of (Item one) (opened (Item one) place span s.elements) s) rest
+    → ((room2 : ℕ) (rest2 : List RangedEvent) → AreEventsFrom page setting room2 (with_spans (spans later ++ more) (past (lists_after span.is_last lists)
     s)) (flatten later ++ tail) rest2
-    → AreBoth page setting later more tail (past (lists_after span.is_last lists) s) rest2)
-    → AreBoth page setting (container_then (Item one) place inner later) more tail s events
-item_joined page setting one place inner later more tail s events rest parted given held follow =
+    → AreBoth page setting room2 later more tail (past (lists_after span.is_last lists) s) rest2)
+    → AreBoth page setting room (container_then (Item one) place inner later) more tail s events
+item_joined page setting room one place inner later more tail s events rest parted given held follow =
     let span = span_of (Item one) inner later in
     let lists = with_list one place span s.elements in
     let now = list_in (innermost_list s.elements) one place span in
     let known = are_after one place span s.elements in
     let rest2 = held.of_tail.0 in
-    let next = follow rest2 (subst (λ containers. AreEventsFrom page setting (record {
+    let next = follow (room - added held.here) rest2 (subst (λ containers. AreEventsFrom page setting (room - added held.here) (record {
       spans = spans later ++ more;
       containers = containers;
       kept = length containers;
@@ -297,32 +360,34 @@ item_joined page setting one place inner later more tail s events rest parted gi
       of_nodes = (
         held.here,
         next.here,
-        subst (λ tight. AreNodeEvents page setting (record { containers = s.containers ++ settled (Item one) ∷ []; kept = s.kept; is_tight = tight })
+        subst (λ tight. AreNodeEvents page setting room (record { containers = s.containers ++ settled (Item one) ∷ []; kept = s.kept; is_tight = tight })
             (Some (Item one)) None inner held.here)
             known.tight held.of_nodes,
-        subst (λ current. AreNodeEvents page setting (after_block (place_in s)) None current later next.here)
+        subst (λ current. AreNodeEvents page setting (room - added held.here) (after_block (place_in s)) None current later next.here)
             (after_list one place span s.elements span.is_last parted)
-            (subst (λ around. AreNodeEvents page setting (record {
+            (subst (λ around. AreNodeEvents page setting (room - added held.here) (record {
               containers = s.containers;
               kept = length s.containers;
               is_tight = is_tight_in around;
             }) None (innermost_list (lists_after span.is_last lists)) later next.here) (around_list one place span s.elements span.is_last parted) next.of_nodes),
         refl,
       );
-      of_tail = subst (λ kept. AreEventsFrom page setting (record {
-        spans = more;
-        containers = s.containers;
-        kept = kept;
-        waiting = waiting_after later None;
-        elements = without_list s.elements;
-      }) tail next.rest) (kept_past later (lists_after span.is_last lists) s)
-          (subst (λ around. AreEventsFrom page setting (record {
+      of_tail = subst (λ room. AreEventsFrom page setting room (after (container_then (Item one) place inner later) more s) tail next.rest)
+          (sym (room_after_item room (innermost_list s.elements) one place span now held.here next.here))
+          (subst (λ kept. AreEventsFrom page setting ((room - added held.here) - added next.here) (record {
+            spans = more;
+            containers = s.containers;
+            kept = kept;
+            waiting = waiting_after later None;
+            elements = without_list s.elements;
+          }) tail next.rest) (kept_past later (lists_after span.is_last lists) s)
+          (subst (λ around. AreEventsFrom page setting ((room - added held.here) - added next.here) (record {
             spans = more;
             containers = s.containers;
             kept = kept_after later (past (lists_after span.is_last lists) s);
             waiting = waiting_after later None;
             elements = around;
-          }) tail next.rest) (around_list one place span s.elements span.is_last parted) next.of_tail);
+          }) tail next.rest) (around_list one place span s.elements span.is_last parted) next.of_tail));
       both = given
           ∙ (ap (λ starts. (starts ++ starting item place span.to) ++ rest) known.start
           ∙ (ap (λ es. (list_start (innermost_list s.elements) one place span ++ starting item place span.to) ++ es)
@@ -337,16 +402,16 @@ item_joined page setting one place inner later more tail s events rest parted gi
 abbrev other_element : Container → ℕ → ℕ → OpenElement
 other_element container place to = record { element = element_of (container_tag container) place to; is_tight = false; is_last = false }
 
-record AreOther (page : List ℕ) (setting : EventSetting) (container : Container) (place : ℕ) (inner later : Nodes) (more : List Span)
+record AreOther (page : List ℕ) (setting : EventSetting) (room : ℕ) (container : Container) (place : ℕ) (inner later : Nodes) (more : List Span)
     (tail : List Event) (s : OpenElements) (events : List RangedEvent) : Type 0 where
   here : List RangedEvent
   rest : List RangedEvent
   of_nodes : (held : List RangedEvent) × (next : List RangedEvent)
-      × AreNodeEvents page setting (inside container false (place_in s)) (Some container) None inner held
-      × AreNodeEvents page setting (after_block (place_in s)) None None later next
+      × AreNodeEvents page setting room (inside container false (place_in s)) (Some container) None inner held
+      × AreNodeEvents page setting (room - added held) (after_block (place_in s)) None None later next
       × (here ≡ starting (container_tag container) place (container_end inner) ++ held
       ++ ending (element_of (container_tag container) place (container_end inner)) ++ next)
-  of_tail : AreEventsFrom page setting (record {
+  of_tail : AreEventsFrom page setting (room - added here) (record {
     spans = more;
     containers = s.containers;
     kept = length s.containers;
@@ -358,20 +423,20 @@ record AreOther (page : List ℕ) (setting : EventSetting) (container : Containe
 joined_other : (a b c d e : List RangedEvent) → a ++ (b ++ (c ++ (d ++ e))) ≡ (a ++ b ++ c ++ d) ++ e
 joined_other a b c d e = simp append_assoc refl
 
-other_joined : (page : List ℕ) (setting : EventSetting) (container : Container) (place : ℕ) (inner later : Nodes) (more : List Span) (tail : List Event)
+other_joined : (page : List ℕ) (setting : EventSetting) (room : ℕ) (container : Container) (place : ℕ) (inner later : Nodes) (more : List Span) (tail : List Event)
     → (s : OpenElements) (events rest : List RangedEvent) → innermost_list s.elements ≡ None
     → let open_now = other_element container place (container_end inner) ∷ s.elements in
     innermost_list open_now ≡ None → is_tight_in (without_list open_now) ≡ false → without_list open_now ≡ open_now
     → events ≡ starting (container_tag container) place (container_end inner) ++ rest
-    → AreBoth page setting inner (spans later ++ more) (ends ∷ (flatten later ++ tail)) (inside_of container open_now s) rest
-    → ((rest2 : List RangedEvent) → AreEventsFrom page setting (with_spans (spans later ++ more) (past s.elements s)) (flatten later ++ tail) rest2
-    → AreBoth page setting later more tail (past s.elements s) rest2)
-    → AreOther page setting container place inner later more tail s events
-other_joined page setting container place inner later more tail s events rest none no_list not_tight same given held follow =
+    → AreBoth page setting room inner (spans later ++ more) (ends ∷ (flatten later ++ tail)) (inside_of container open_now s) rest
+    → ((room2 : ℕ) (rest2 : List RangedEvent) → AreEventsFrom page setting room2 (with_spans (spans later ++ more) (past s.elements s)) (flatten later ++ tail) rest2
+    → AreBoth page setting room2 later more tail (past s.elements s) rest2)
+    → AreOther page setting room container place inner later more tail s events
+other_joined page setting room container place inner later more tail s events rest none no_list not_tight same given held follow =
     let tag = container_tag container in
     let to = container_end inner in
     let open_now = other_element container place to ∷ s.elements in
-    let after_it = subst (λ elements. AreEventsFrom page setting (record {
+    let after_it = subst (λ elements. AreEventsFrom page setting (room - added held.here) (record {
       spans = spans later ++ more;
       containers = s.containers ++ settled container ∷ [];
       kept = kept_after inner (inside_of container open_now s);
@@ -379,7 +444,7 @@ other_joined page setting container place inner later more tail s events rest no
       elements = elements;
     }) (ends ∷ (flatten later ++ tail)) held.rest) same held.of_tail in
     let rest2 = after_it.0 in
-    let next = follow rest2 (subst (λ containers. AreEventsFrom page setting (record {
+    let next = follow (room - added held.here) rest2 (subst (λ containers. AreEventsFrom page setting (room - added held.here) (record {
       spans = spans later ++ more;
       containers = containers;
       kept = length containers;
@@ -392,23 +457,30 @@ other_joined page setting container place inner later more tail s events rest no
       of_nodes = (
         held.here,
         next.here,
-        subst (λ tight. AreNodeEvents page setting (record {
+        subst (λ tight. AreNodeEvents page setting room (record {
           containers = s.containers ++ settled container ∷ [];
           kept = s.kept;
           is_tight = tight;
         }) (Some container) None inner held.here)
             not_tight
-            (subst (λ current. AreNodeEvents page setting (place_in (inside_of container open_now s)) (Some container) current inner held.here) no_list held.of_nodes),
-        subst (λ current. AreNodeEvents page setting (after_block (place_in s)) None current later next.here) none next.of_nodes,
+            (subst (λ current. AreNodeEvents page setting room (place_in (inside_of container open_now s)) (Some container) current inner held.here) no_list held.of_nodes),
+        subst (λ current. AreNodeEvents page setting (room - added held.here) (after_block (place_in s)) None current later next.here) none next.of_nodes,
         refl,
       );
-      of_tail = subst (λ kept. AreEventsFrom page setting (record {
+      of_tail = subst (λ room. AreEventsFrom page setting room (record {
         spans = more;
         containers = s.containers;
-        kept = kept;
+        kept = length s.containers;
         waiting = waiting_after later None;
         elements = without_list s.elements;
-      }) tail next.rest) (kept_past later s.elements s) next.of_tail;
+      }) tail next.rest) (sym (room_after_other room container place to held.here next.here))
+          (subst (λ kept. AreEventsFrom page setting ((room - added held.here) - added next.here) (record {
+            spans = more;
+            containers = s.containers;
+            kept = kept;
+            waiting = waiting_after later None;
+            elements = without_list s.elements;
+          }) tail next.rest) (kept_past later s.elements s) next.of_tail);
       both = given ∙ (ap (λ es. starting tag place to ++ es)
           (held.both ∙ ap (λ es. held.here ++ es) (after_it.2 ∙ (ap (λ es. es ++ rest2) (append-nil (ending (element_of tag place to)))
           ∙ ap (λ es. ending (element_of tag place to) ++ es) next.both)))
@@ -421,73 +493,73 @@ none_now_other : (now : Option OpenList) (nodes : Nodes) → front_list nodes �
 none_now_other None nodes front goes = refl
 none_now_other (Some now) nodes front goes = absurd (false_is_not (subst (λ f. IsTrue (is_some f)) front goes))
 
-split_events : (page : List ℕ) (setting : EventSetting) (inner later : Nodes) (more : List Span) (tail : List Event) (s : OpenElements)
+split_events : (page : List ℕ) (setting : EventSetting) (room : ℕ) (inner later : Nodes) (more : List Span) (tail : List Event) (s : OpenElements)
     → (events : List RangedEvent)
-    → AreEventsFrom page setting (with_spans ((spans inner ++ spans later) ++ more) s) ((flatten inner ++ ends ∷ flatten later) ++ tail) events
-    → AreEventsFrom page setting (with_spans (spans inner ++ (spans later ++ more)) s) (flatten inner ++ (ends ∷ (flatten later ++ tail))) events
-split_events page setting inner later more tail s events are =
-    subst (λ all. AreEventsFrom page setting (with_spans all s) (flatten inner ++ (ends ∷ (flatten later ++ tail))) events)
+    → AreEventsFrom page setting room (with_spans ((spans inner ++ spans later) ++ more) s) ((flatten inner ++ ends ∷ flatten later) ++ tail) events
+    → AreEventsFrom page setting room (with_spans (spans inner ++ (spans later ++ more)) s) (flatten inner ++ (ends ∷ (flatten later ++ tail))) events
+split_events page setting room inner later more tail s events are =
+    subst (λ all. AreEventsFrom page setting room (with_spans all s) (flatten inner ++ (ends ∷ (flatten later ++ tail))) events)
     (append_assoc (spans inner) (spans later) more)
-    (subst (λ blocks. AreEventsFrom page setting (with_spans ((spans inner ++ spans later) ++ more) s) blocks events)
+    (subst (λ blocks. AreEventsFrom page setting room (with_spans ((spans inner ++ spans later) ++ more) s) blocks events)
     (append_assoc (flatten inner) (ends ∷ flatten later) tail) are)
 
-flat_tree : (page : List ℕ) (setting : EventSetting) (nodes : Nodes) (more : List Span) (tail : List Event) (s : OpenElements)
+flat_tree : (page : List ℕ) (setting : EventSetting) (room : ℕ) (nodes : Nodes) (more : List Span) (tail : List Event) (s : OpenElements)
     → (events : List RangedEvent) → AreParted s.elements → GoesOn (innermost_list s.elements) nodes
-    → AreEventsFrom page setting (with_spans (spans nodes ++ more) s) (flatten nodes ++ tail) events
-    → AreBoth page setting nodes more tail s events
-flat_tree page setting nothing more tail s events parted goes are = nothing_goes_on page setting more tail s events parted goes are
-flat_tree page setting (leaf_then block later) more tail s events parted goes are =
-    leaf_goes_on page setting block later more tail s are.0 are.1 events are.2 are.4
-    (flat_tree page setting later more tail (passed block s) are.1 parted
+    → AreEventsFrom page setting room (with_spans (spans nodes ++ more) s) (flatten nodes ++ tail) events
+    → AreBoth page setting room nodes more tail s events
+flat_tree page setting room nothing more tail s events parted goes are = nothing_goes_on page setting room more tail s events parted goes are
+flat_tree page setting room (leaf_then block later) more tail s events parted goes are =
+    leaf_goes_on page setting room block later more tail s are.0 are.1 events are.2 are.4
+    (flat_tree page setting (room - added are.0) later more tail (passed block s) are.1 parted
     (goes_on_leaf (is_blank_kind block.kind) (innermost_list s.elements) block later refl goes) are.3)
-flat_tree page setting (container_then (Item one) place inner later) more tail s events parted goes are =
+flat_tree page setting room (container_then (Item one) place inner later) more tail s events parted goes are =
     let span = span_of (Item one) inner later in
     let elements = opened (Item one) place span s.elements in
     let lists = with_list one place span s.elements in
     let after_it = lists_after span.is_last lists in
-    item_joined page setting one place inner later more tail s events are.0 parted are.2
-    (flat_tree page setting inner (spans later ++ more) (ends ∷ (flatten later ++ tail)) (inside_of (Item one) elements s) are.0 refl tt
-    (split_events page setting inner later more tail (inside_of (Item one) elements s) are.0 are.1))
-    (λ rest2 are2. flat_tree page setting later more tail (past after_it s) rest2
+    item_joined page setting room one place inner later more tail s events are.0 parted are.2
+    (flat_tree page setting room inner (spans later ++ more) (ends ∷ (flatten later ++ tail)) (inside_of (Item one) elements s) are.0 refl tt
+    (split_events page setting room inner later more tail (inside_of (Item one) elements s) are.0 are.1))
+    (λ room2 rest2 are2. flat_tree page setting room2 later more tail (past after_it s) rest2
     (ap innermost_list (around_list one place span s.elements span.is_last parted) ∙ parted)
     (subst (λ current. GoesOn current later) (sym (after_list one place span s.elements span.is_last parted))
     (goes_on_by (is_alike one (front_list later)) (list_in (innermost_list s.elements) one place span) later one refl)) are2)
-flat_tree page setting (container_then Quote place inner later) more tail s events parted goes are =
+flat_tree page setting room (container_then Quote place inner later) more tail s events parted goes are =
     let none = none_now_other (innermost_list s.elements) (container_then Quote place inner later) refl goes in
-    let other = other_joined page setting Quote place inner later more tail s events are.0 none refl refl refl are.2
-    (flat_tree page setting inner (spans later ++ more) (ends ∷ (flatten later ++ tail))
+    let other = other_joined page setting room Quote place inner later more tail s events are.0 none refl refl refl are.2
+    (flat_tree page setting room inner (spans later ++ more) (ends ∷ (flatten later ++ tail))
     (inside_of Quote (other_element Quote place (container_end inner) ∷ s.elements) s) are.0 refl tt
-    (split_events page setting inner later more tail (inside_of Quote (other_element Quote place (container_end inner) ∷ s.elements) s) are.0 are.1))
-    (λ rest2 are2. flat_tree page setting later more tail (past s.elements s) rest2 parted
+    (split_events page setting room inner later more tail (inside_of Quote (other_element Quote place (container_end inner) ∷ s.elements) s) are.0 are.1))
+    (λ room2 rest2 are2. flat_tree page setting room2 later more tail (past s.elements s) rest2 parted
     (subst (λ current. GoesOn current later) (sym none) tt) are2) in
     record { here = other.here; rest = other.rest; of_nodes = other.of_nodes; of_tail = other.of_tail; both = other.both }
-flat_tree page setting (container_then Footnote place inner later) more tail s events parted goes are =
+flat_tree page setting room (container_then Footnote place inner later) more tail s events parted goes are =
     let none = none_now_other (innermost_list s.elements) (container_then Footnote place inner later) refl goes in
-    let other = other_joined page setting Footnote place inner later more tail s events are.0 none refl refl refl are.2
-    (flat_tree page setting inner (spans later ++ more) (ends ∷ (flatten later ++ tail))
+    let other = other_joined page setting room Footnote place inner later more tail s events are.0 none refl refl refl are.2
+    (flat_tree page setting room inner (spans later ++ more) (ends ∷ (flatten later ++ tail))
     (inside_of Footnote (other_element Footnote place (container_end inner) ∷ s.elements) s) are.0 refl tt
-    (split_events page setting inner later more tail (inside_of Footnote (other_element Footnote place (container_end inner) ∷ s.elements) s) are.0 are.1))
-    (λ rest2 are2. flat_tree page setting later more tail (past s.elements s) rest2 parted
+    (split_events page setting room inner later more tail (inside_of Footnote (other_element Footnote place (container_end inner) ∷ s.elements) s) are.0 are.1))
+    (λ room2 rest2 are2. flat_tree page setting room2 later more tail (past s.elements s) rest2 parted
     (subst (λ current. GoesOn current later) (sym none) tt) are2) in
     record { here = other.here; rest = other.rest; of_nodes = other.of_nodes; of_tail = other.of_tail; both = other.both }
-flat_tree page setting (container_then (TermDefinition one) place inner later) more tail s events parted goes are =
+flat_tree page setting room (container_then (TermDefinition one) place inner later) more tail s events parted goes are =
     let none = none_now_other (innermost_list s.elements) (container_then (TermDefinition one) place inner later) refl goes in
-    let other = other_joined page setting (TermDefinition one) place inner later more tail s events are.0 none refl refl refl are.2
-    (flat_tree page setting inner (spans later ++ more) (ends ∷ (flatten later ++ tail))
+    let other = other_joined page setting room (TermDefinition one) place inner later more tail s events are.0 none refl refl refl are.2
+    (flat_tree page setting room inner (spans later ++ more) (ends ∷ (flatten later ++ tail))
     (inside_of (TermDefinition one) (other_element (TermDefinition one) place (container_end inner) ∷ s.elements) s) are.0 refl tt
-    (split_events page setting inner later more tail (inside_of (TermDefinition one) (other_element (TermDefinition one) place
+    (split_events page setting room inner later more tail (inside_of (TermDefinition one) (other_element (TermDefinition one) place
     (container_end inner) ∷ s.elements) s) are.0 are.1))
-    (λ rest2 are2. flat_tree page setting later more tail (past s.elements s) rest2 parted
+    (λ room2 rest2 are2. flat_tree page setting room2 later more tail (past s.elements s) rest2 parted
     (subst (λ current. GoesOn current later) (sym none) tt) are2) in
     record { here = other.here; rest = other.rest; of_nodes = other.of_nodes; of_tail = other.of_tail; both = other.both }
 
 -- the events of a page's block events are those of its nodes
-pub page_tree : (page : List ℕ) (setting : EventSetting) (nodes : Nodes) (events : List RangedEvent)
-    → AreEventsFrom page setting (none_open (spans nodes)) (flatten nodes) events
-    → AreNodeEvents page setting outermost None None nodes events
-page_tree page setting nodes events are =
-    let both = flat_tree page setting nodes [] [] (none_open []) events refl tt
-    (subst (λ all. AreEventsFrom page setting (none_open all) (flatten nodes ++ []) events) (sym (append-nil (spans nodes)))
-    (subst (λ blocks. AreEventsFrom page setting (none_open (spans nodes)) blocks events) (sym (append-nil (flatten nodes))) are)) in
-    subst (λ es. AreNodeEvents page setting outermost None None nodes es)
+pub page_tree : (page : List ℕ) (setting : EventSetting) (room : ℕ) (nodes : Nodes) (events : List RangedEvent)
+    → AreEventsFrom page setting room (none_open (spans nodes)) (flatten nodes) events
+    → AreNodeEvents page setting room outermost None None nodes events
+page_tree page setting room nodes events are =
+    let both = flat_tree page setting room nodes [] [] (none_open []) events refl tt
+    (subst (λ all. AreEventsFrom page setting room (none_open all) (flatten nodes ++ []) events) (sym (append-nil (spans nodes)))
+    (subst (λ blocks. AreEventsFrom page setting room (none_open (spans nodes)) blocks events) (sym (append-nil (flatten nodes))) are)) in
+    subst (λ es. AreNodeEvents page setting room outermost None None nodes es)
     (sym (both.both ∙ (ap (λ es. both.here ++ es) both.of_tail ∙ append-nil both.here))) both.of_nodes

@@ -32,14 +32,14 @@ only_without Holds left m merges only events g = merges (λ all given. only all 
 pub done_gives : (more : Targets) (left : PageLeft) → IsDone left → GivesWith more left []
 done_gives more left done = record {
   rest = [];
-  are_later = subst (λ (all : List Event). AreEventsFrom left.page (setting_with more left) left.elements all []) (sym done.no_blocks) refl;
+  are_later = subst (λ (all : List Event). AreEventsFrom left.page (setting_with more left) left.room left.elements all []) (sym done.no_blocks) refl;
   given = ap (λ (ready : List RangedEvent). ready ++ []) (sym done.none_ready);
 }
 
 pub done_rest : (more : Targets) (left : PageLeft) (rest : List RangedEvent) → IsDone left → GivesWith more left rest → rest ≡ []
 done_rest more left rest done g =
     let later : g.rest ≡ [] =
-    subst (λ (all : List Event). AreEventsFrom left.page (setting_with more left) left.elements all g.rest) done.no_blocks g.are_later in
+    subst (λ (all : List Event). AreEventsFrom left.page (setting_with more left) left.room left.elements all g.rest) done.no_blocks g.are_later in
     g.given ∙ (ap (λ (ready : List RangedEvent). ready ++ g.rest) done.none_ready ∙ later)
 
 -- ---- an event is read

@@ -1,5 +1,5 @@
 -- The events of a page that are left, while they are given one after another.
-use Rattle.std.specs.Prelude.{ℕ, ◌≡◌, ◌+◌, ◌*◌, ◌^◌, drop, length, List, [], ◌∷◌, ◌++◌}
+use Rattle.std.specs.Prelude.{ℕ, ◌≡◌, ◌+◌, ◌-◌, ◌*◌, ◌^◌, drop, length, List, [], ◌∷◌, ◌++◌}
 use Rattle.markdown_blocks.specs.events.Events.{Event, LeafBlock, starts, leaf, ends}
 use Rattle.markdown_blocks.specs.link_definitions.LinkDefinitions.{Known, known_as}
 use Rattle.markdown_values.specs.declared.values.extensions.Extensions.{Extensions}
@@ -7,26 +7,27 @@ use Rattle.markdown_events.specs.InlineEvents.{EventSetting, RangedEvent}
 use Rattle.markdown_events.specs.Targets.{Targets, or_else}
 use Rattle.markdown_events.specs.page.LeafEvents.{HasNoEvents}
 use Rattle.markdown_events.specs.page.OpenElements.{OpenElements, begun, ended, passed, place_in, start_events, end_events, next_span}
-use Rattle.markdown_events.specs.page.TaskEvents.{AreBlockEvents}
+use Rattle.markdown_events.specs.page.References.{AreEventsInRoom, added}
 
--- These are the events of the block events that follow, with these elements open.
-abbrev pub AreEventsFrom : List ℕ → EventSetting → OpenElements → List Event → List RangedEvent → Type 0
-AreEventsFrom page setting s [] events = events ≡ []
-AreEventsFrom page setting s (starts container place ∷ later) events =
-    (rest : List RangedEvent) × AreEventsFrom page setting (begun container place s) later rest
+-- These are the events of the block events that follow, with these elements open. References may still add so many bytes to them.
+abbrev pub AreEventsFrom : List ℕ → EventSetting → ℕ → OpenElements → List Event → List RangedEvent → Type 0
+AreEventsFrom page setting room s [] events = events ≡ []
+AreEventsFrom page setting room s (starts container place ∷ later) events =
+    (rest : List RangedEvent) × AreEventsFrom page setting room (begun container place s) later rest
     × (events ≡ start_events container place (next_span s.spans) s.elements ++ rest)
-AreEventsFrom page setting s (leaf block ∷ later) events =
-    (here : List RangedEvent) × (rest : List RangedEvent) × AreBlockEvents page setting (place_in s) s.waiting block here
-    × AreEventsFrom page setting (passed block s) later rest × (events ≡ here ++ rest)
-AreEventsFrom page setting s (ends ∷ later) events =
-    (rest : List RangedEvent) × AreEventsFrom page setting (ended s) later rest × (events ≡ end_events s.elements ++ rest)
+AreEventsFrom page setting room s (leaf block ∷ later) events =
+    (here : List RangedEvent) × (rest : List RangedEvent) × AreEventsInRoom page setting room (place_in s) s.waiting block here
+    × AreEventsFrom page setting (room - added here) (passed block s) later rest × (events ≡ here ++ rest)
+AreEventsFrom page setting room s (ends ∷ later) events =
+    (rest : List RangedEvent) × AreEventsFrom page setting room (ended s) later rest × (events ≡ end_events s.elements ++ rest)
 
--- How far the events of a page are given: what it is read with, the events that are ready, the elements that are open after them, and
--- the block events that follow.
+-- How far the events of a page are given: what it is read with, the bytes that references may still add, the events that are ready, the
+-- elements that are open after them, and the block events that follow.
 pub record PageLeft : Type 0 where
   pub page : List ℕ
   pub extensions : Extensions
   pub known : Known
+  pub room : ℕ
   pub ready : List RangedEvent
   pub elements : OpenElements
   pub blocks : List Event
@@ -42,6 +43,10 @@ setting_with more left = record { asked = left.extensions; targets = or_else (kn
 abbrev pub left_with : PageLeft → List RangedEvent → OpenElements → List Event → PageLeft
 left_with old ready elements blocks = record old { ready = ready; elements = elements; blocks = blocks }
 
+-- the same, and references have added what they add to the events that are ready
+abbrev pub leaf_left_with : PageLeft → List RangedEvent → OpenElements → List Event → PageLeft
+leaf_left_with old ready elements blocks = record (left_with old ready elements blocks) { room = old.room - added ready }
+
 -- the next block event is passed, which is a leaf block without events
 pub record IsPassed (old new : PageLeft) : Type 0 where
   pub block : LeafBlock
@@ -52,13 +57,13 @@ pub record IsPassed (old new : PageLeft) : Type 0 where
 -- from here these events are given
 pub record Gives (left : PageLeft) (events : List RangedEvent) : Type 0 where
   pub rest : List RangedEvent
-  pub are_later : AreEventsFrom left.page (setting_of left) left.elements left.blocks rest
+  pub are_later : AreEventsFrom left.page (setting_of left) left.room left.elements left.blocks rest
   pub given : events ≡ left.ready ++ rest
 
 -- the same where labels that the page does not define lead as these say
 pub record GivesWith (more : Targets) (left : PageLeft) (events : List RangedEvent) : Type 0 where
   pub rest : List RangedEvent
-  pub are_later : AreEventsFrom left.page (setting_with more left) left.elements left.blocks rest
+  pub are_later : AreEventsFrom left.page (setting_with more left) left.room left.elements left.blocks rest
   pub given : events ≡ left.ready ++ rest
 
 -- this holds of whatever events are given from here

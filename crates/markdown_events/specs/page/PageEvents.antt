@@ -1,5 +1,5 @@
 -- The events of a page: its blocks in their containers and lists, and their inlines. (CommonMark 0.31.2, chapters 4 to 6)
-use Rattle.std.specs.Prelude.{ℕ, Bool, false, not, ◌==◌, ◌||◌, ◌≡◌, List, [], ◌∷◌, ◌++◌, length, Option, Some, None, if◌then◌else◌}
+use Rattle.std.specs.Prelude.{ℕ, Bool, false, not, ◌==◌, ◌||◌, ◌-◌, ◌≡◌, List, [], ◌∷◌, ◌++◌, length, Option, Some, None, if◌then◌else◌}
 use Rattle.markdown_values.specs.values.Events.{start, end}
 use Rattle.markdown_values.specs.values.Tags.{TagView, block_quote, list, item, footnote_definition, definition_list_definition}
 use Rattle.markdown_scanners_tree.specs.Ascii.{full_stop, right_parenthesis}
@@ -20,7 +20,7 @@ use Rattle.markdown_events.specs.declared.elements.Element.{Element}
 use Rattle.markdown_events.specs.declared.page.spans.Span.{Span}
 use Rattle.markdown_events.specs.page.Settings.{built}
 use Rattle.markdown_events.specs.page.Spans.{span_of, container_end}
-use Rattle.markdown_events.specs.page.TaskEvents.{AreBlockEvents}
+use Rattle.markdown_events.specs.page.References.{AreEventsInRoom, added, room_of}
 
 -- ---- elements
 
@@ -87,26 +87,26 @@ after_block here = record here { kept = length here.containers }
 -- ---- the page
 
 -- These are the events of nodes that stand here, directly in this container where it has no block yet, and before which this list has
--- begun and not ended.
-abbrev pub AreNodeEvents : List ℕ → EventSetting → Place → Option Container → Option OpenList → Nodes → List RangedEvent → Type 0
-AreNodeEvents page setting here waiting current nothing events = events ≡ []
-AreNodeEvents page setting here waiting current (leaf_then block later) events =
-    (own : List RangedEvent) × (rest : List RangedEvent) × AreBlockEvents page setting here waiting block own
-    × AreNodeEvents page setting (after_block here) (waiting_behind waiting (leaf block)) current later rest × (events ≡ own ++ rest)
-AreNodeEvents page setting here waiting current (container_then (Item one) place inner later) events =
+-- begun and not ended. References may still add so many bytes to them.
+abbrev pub AreNodeEvents : List ℕ → EventSetting → ℕ → Place → Option Container → Option OpenList → Nodes → List RangedEvent → Type 0
+AreNodeEvents page setting room here waiting current nothing events = events ≡ []
+AreNodeEvents page setting room here waiting current (leaf_then block later) events =
+    (own : List RangedEvent) × (rest : List RangedEvent) × AreEventsInRoom page setting room here waiting block own
+    × AreNodeEvents page setting (room - added own) (after_block here) (waiting_behind waiting (leaf block)) current later rest × (events ≡ own ++ rest)
+AreNodeEvents page setting room here waiting current (container_then (Item one) place inner later) events =
     let span = span_of (Item one) inner later in
     let now = list_in current one place span in
     (held : List RangedEvent) × (rest : List RangedEvent)
-    × AreNodeEvents page setting (inside (Item one) now.is_tight here) (Some (Item one)) None inner held
-    × AreNodeEvents page setting (after_block here) None (list_after span.is_last now) later rest
+    × AreNodeEvents page setting room (inside (Item one) now.is_tight here) (Some (Item one)) None inner held
+    × AreNodeEvents page setting (room - added held) (after_block here) None (list_after span.is_last now) later rest
     × (events ≡ list_start current one place span ++ starting item place span.to ++ held
     ++ ending (element_of item place span.to) ++ list_end span.is_last now ++ rest)
-AreNodeEvents page setting here waiting current (container_then container place inner later) events =
+AreNodeEvents page setting room here waiting current (container_then container place inner later) events =
     let tag = container_tag container in
     let to = container_end inner in
     (held : List RangedEvent) × (rest : List RangedEvent)
-    × AreNodeEvents page setting (inside container false here) (Some container) None inner held
-    × AreNodeEvents page setting (after_block here) None None later rest
+    × AreNodeEvents page setting room (inside container false here) (Some container) None inner held
+    × AreNodeEvents page setting (room - added held) (after_block here) None None later rest
     × (events ≡ starting tag place to ++ held ++ ending (element_of tag place to) ++ rest)
 
 -- outside all containers
@@ -123,7 +123,7 @@ pub record ArePageEvents (page : List ℕ) (setting : Extensions) (events : List
   pub are_blocks : IsEventsOf (built setting) page (flatten nodes)
   pub named : List Named
   pub are_defined : HasDefinitions (built setting) page named
-  pub are_events : AreNodeEvents page (event_setting setting (λ label. first_of label named)) outermost None None nodes events
+  pub are_events : AreNodeEvents page (event_setting setting (λ label. first_of label named)) (room_of page) outermost None None nodes events
 
 -- These are the events of a page whose labels lead as these say where the page does not define them. (6.3: without them "[foo]" is text)
 pub record ArePageEventsWith (page : List ℕ) (setting : Extensions) (more : Targets) (events : List RangedEvent) : Type 0 where
@@ -131,7 +131,8 @@ pub record ArePageEventsWith (page : List ℕ) (setting : Extensions) (more : Ta
   pub are_blocks : IsEventsOf (built setting) page (flatten nodes)
   pub named : List Named
   pub are_defined : HasDefinitions (built setting) page named
-  pub are_events : AreNodeEvents page (event_setting setting (or_else (λ label. first_of label named) more)) outermost None None nodes events
+  pub are_events :
+      AreNodeEvents page (event_setting setting (or_else (λ label. first_of label named) more)) (room_of page) outermost None None nodes events
 
 -- What is known of where labels lead are the link reference definitions of a page, of each label the first. (4.7)
 pub record AreDefinitionsOf (page : List ℕ) (setting : Extensions) (known : Known) : Type 0 where

@@ -21,3 +21,8 @@ pub returns-in-Ok-clause-boundaries : goal.returns-in-Ok-clause-boundaries
 returns-in-Ok-clause-boundaries g c = λ events given.
     let targets = g.B.Definitions.targets c.args.broken in
     c.in-Ok.ensures.broken_boundaries targets events (subst (λ (left : PageLeft). GivesWith targets left events) c.of_reader.ensures.left given)
+
+pub returns-in-Ok-clause-references : goal.returns-in-Ok-clause-references
+returns-in-Ok-clause-references g c = λ events given.
+    let targets = g.B.Definitions.targets c.args.broken in
+    c.in-Ok.ensures.broken_references targets events (subst (λ (left : PageLeft). GivesWith targets left events) c.of_reader.ensures.left given)

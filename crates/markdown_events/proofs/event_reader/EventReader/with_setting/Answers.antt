@@ -3,11 +3,13 @@ use Rattle.markdown_blocks.specs.events.Events.{seen_event as seen_block}
 use Rattle.markdown_events.specs.Targets.{nowhere}
 use Rattle.markdown_events.specs.page.OpenElements.{none_open}
 use Rattle.markdown_events.specs.page.PageEvents.{ArePageEvents, ArePageEventsWith}
+use Rattle.markdown_events.specs.page.References.{room_of}
 use Rattle.markdown_events.specs.page.Settings.{built}
 use Rattle.markdown_events.proofs.page.InPageLemmas.{page_leaves_in}
 use Rattle.markdown_events.proofs.page.PageBalance.{page_events_balance, page_events_nest, page_events_with_balance, page_events_with_nest}
 use Rattle.markdown_events.proofs.page.PageCuts.{page_events_at_boundaries, page_events_with_at_boundaries}
 use Rattle.markdown_events.proofs.page.PageRanges.{page_events_with_within, page_events_within}
+use Rattle.markdown_events.proofs.page.PageRoom.{page_references_fit, page_references_with_fit}
 use Rattle.markdown_events.proofs.page.ParserLemmas.{given_with, page_events, page_events_with}
 use Rattle.markdown_events.proofs.event_reader.EventReader.with_setting.Goals as goal
 
@@ -29,11 +31,12 @@ returns-clause-page c = λ events g.
     let first = rw c.built.ensures at c.in_ok-blocks.ensures.first in
     let are_spans = rw c.deref.ensures.value at c.in_ok-spans.ensures in
     let none = c.new-2.ensures in
-    let later = rw (c.new.ensures, c.all.ensures) at g.are_later in
+    let later = rw (c.new.ensures, c.all.ensures, c.room_of.ensures) at g.are_later in
     let without = given_with (record {
       page = page;
       extensions = setting;
       known = known;
+      room = room_of page;
       ready = [];
       elements = none_open found;
       blocks = map seen_block all;
@@ -71,7 +74,7 @@ returns-clause-broken c = λ more events g.
     let of_page = rw c.built.ensures at c.in_ok-blocks.ensures.blocks in
     let first = rw c.built.ensures at c.in_ok-blocks.ensures.first in
     let none = c.new-2.ensures in
-    let later = rw (c.new.ensures, c.all.ensures) at g.are_later in
+    let later = rw (c.new.ensures, c.all.ensures, c.room_of.ensures) at g.are_later in
     subst (λ es. ArePageEventsWith page setting more es) (sym (g.given ∙ ap (λ es. es ++ g.rest) none))
     (page_events_with page setting more (map seen_block all) c.in_ok-blocks.definitions (reverse c.in_ok-spans.spans.items) g.rest of_page
     first.0 first.1 first.2 (rw c.deref.ensures.value at c.in_ok-spans.ensures) later)
@@ -91,3 +94,10 @@ returns-clause-broken_nested c = λ more events g.
 pub returns-clause-broken_boundaries : goal.returns-clause-broken_boundaries
 returns-clause-broken_boundaries c = λ more events g.
     page_events_with_at_boundaries c.args.page.now c.args.setting c.utf8.page more events (returns-clause-broken c more events g)
+
+pub returns-clause-references : goal.returns-clause-references
+returns-clause-references c = λ events g. page_references_fit c.args.page.now c.args.setting events (returns-clause-page c events g)
+
+pub returns-clause-broken_references : goal.returns-clause-broken_references
+returns-clause-broken_references c = λ more events g.
+    page_references_with_fit c.args.page.now c.args.setting more events (returns-clause-broken c more events g)

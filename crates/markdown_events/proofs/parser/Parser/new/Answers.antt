@@ -2,6 +2,7 @@ use Rattle.std.proofs.Common.{subst, sym}
 use Rattle.markdown_events.specs.EventLaws.{AreAtBoundaries, AreBalanced, AreWithin}
 use Rattle.markdown_events.specs.Nesting.{AreNested, without_ranges}
 use Rattle.markdown_events.specs.page.Given.{AlwaysGivesOnly}
+use Rattle.markdown_events.specs.page.References.{ReferencesFit}
 use Rattle.markdown_events.proofs.parser.Parser.new.Goals as goal
 
 pub returns-clause-broken_balanced : goal.returns-clause-broken_balanced
@@ -15,3 +16,6 @@ returns-clause-broken_within c = subst (AlwaysGivesOnly (AreWithin c.args.text.n
 
 pub returns-clause-broken_boundaries : goal.returns-clause-broken_boundaries
 returns-clause-broken_boundaries c = subst (AlwaysGivesOnly (AreAtBoundaries c.args.text.now)) (sym c.of_reader.ensures.left) c.in_ok-new.ensures.broken_boundaries
+
+pub returns-clause-broken_references : goal.returns-clause-broken_references
+returns-clause-broken_references c = subst (AlwaysGivesOnly (ReferencesFit c.args.text.now)) (sym c.of_reader.ensures.left) c.in_ok-new.ensures.broken_references
