@@ -1,3 +1,4 @@
 pub mod Autolink
 pub mod DestinationEnds
+pub mod FoundDestination
 pub mod LinkDestination

@@ -1,2 +1,3 @@
+pub mod FoundDefinition
 pub mod ReferenceDefinition
 pub mod private

@@ -1,11 +1,10 @@
 //! Link destinations of texts that can be read to their end: most are bare, and have neither a
 //! parenthesis nor an escape. (CommonMark 0.31.2, section 6.3)
-ghost use Rattle.std.specs.Prelude.{◌≡◌, ◌+◌, ◌≤◌, ℕ, List, length, slice_range, option_map, IfNone, IfSome};
+ghost use Rattle.std.specs.Prelude.{◌≡◌, ◌+◌, ◌≤◌, length, IfSome};
 ghost use Rattle.std.specs.List.{prefix_len};
-ghost use Rattle.std.specs.Str.{IsUtf8, IsCharBoundary};
 ghost use Rattle.markdown_scanners_tree.specs.SomeExactly.{SomeExactly, IsOnly};
 ghost use Rattle.markdown_scanners_tree.specs.scanners.classes.private.InDestination.{is_in_destination};
-ghost use Rattle.markdown_scanners_tree.specs.scanners.links.LinkDestination.{IsLinkDestination, StandsInside};
+ghost use Rattle.markdown_scanners_tree.specs.scanners.links.FoundDestination.{IsDestination, RawTextStandsIn, with_raw_text};
 ghost use Rattle.markdown_scanners_tree.specs.scanners.links.DestinationEnds.{ends_destination};
 
 use crate::byte_sets::ByteSet;
@@ -23,24 +22,13 @@ const NESTS_ESCAPES_OR_ENDS: ByteSet = ByteSet {
 /// read. (CommonMark 0.31.2, section 6.3.)
 pub fn scan_link_dest_ahead(bytes: &[u8], max_next: usize) -> Option<(usize, Range<usize>)>
     // The one destination that stands there is answered.
-    ensures found { SomeExactly
-        (λ (r : ℕ × List ℕ). IsLinkDestination (max_next + 1) bytes.now r.0 r.1)
-        (option_map (λ r. (r.0, slice_range bytes.now r.1.start r.1.end)) result) }
-    ensures only { IsOnly
-        (λ (r : ℕ × List ℕ). IsLinkDestination (max_next + 1) bytes.now r.0 r.1)
-        (option_map (λ r. (r.0, slice_range bytes.now r.1.start r.1.end)) result) }
-    ensures none { IfNone result ((n : ℕ) (raw : List ℕ)
-        → ¬ IsLinkDestination (max_next + 1) bytes.now n raw) }
+    ensures found { SomeExactly (IsDestination (max_next + 1) bytes.now)
+        (with_raw_text bytes.now result) }
+    ensures only { IsOnly (IsDestination (max_next + 1) bytes.now)
+        (with_raw_text bytes.now result) }
 
-    // Its raw text is all that it takes, or stands between brackets.
-    ensures stands { IfSome result (λ r. StandsInside r.0 r.1.start r.1.end) }
-    ensures ordered { IfSome result (λ r. (r.1.start ≤ r.1.end) × (r.1.end ≤ r.0)) }
-    ensures within { IfSome result (λ r. r.0 ≤ length bytes.now) }
-
-    // A text may be cut where its raw text begins and ends, and after all that it takes.
-    ensures begins { IfSome result (λ r. IsUtf8 bytes.now → IsCharBoundary bytes.now r.1.start) }
-    ensures ends { IfSome result (λ r. IsUtf8 bytes.now → IsCharBoundary bytes.now r.1.end) }
-    ensures after { IfSome result (λ r. IsUtf8 bytes.now → IsCharBoundary bytes.now r.0) }
+    // Its raw text is all of it or stands between its brackets, and can be cut out.
+    ensures raw_text { IfSome result (λ r. RawTextStandsIn bytes.now r.0 r.1) }
 {
     let plain = plain_len(bytes);
     if plain > 0 && bytes[0] != b'<' && is_ended(&bytes[plain..]) {

@@ -8,7 +8,8 @@ ghost use Rattle.markdown_scanners_tree.specs.Ascii.{vertical_line, less_than_si
 ghost use Rattle.markdown_scanners_tree.specs.Bytes.{is_line_ending};
 ghost use Rattle.markdown_scanners_tree.specs.SomeExactly.{SomeExactly, IsOnly};
 ghost use Rattle.markdown_scanners_tree.specs.scanners.classes.private.InDestination.{is_in_destination};
-ghost use Rattle.markdown_scanners_tree.specs.scanners.links.LinkDestination.{IsLinkDestination, IsBareFrom, IsPointedFrom, StandsInside};
+ghost use Rattle.markdown_scanners_tree.specs.scanners.links.LinkDestination.{IsLinkDestination, IsBareFrom, IsPointedFrom};
+ghost use Rattle.markdown_scanners_tree.specs.scanners.links.FoundDestination.{IsDestination, RawTextStandsIn, with_raw_text};
 ghost use Rattle.markdown_scanners_tree.specs.scanners.links.Autolink.{IsUriAutolink, StartsWithScheme, is_scheme_byte, is_uri_byte};
 
 use crate::scanners::classes::{
@@ -60,24 +61,13 @@ pub fn scan_wikilink_pipe(text: &str, start: usize, len: usize) -> Option<(usize
 /// 6.3.)
 pub fn scan_link_dest_bytes(bytes: &[u8], max_next: usize) -> Option<(usize, Range<usize>)>
     // The one destination that stands there is answered.
-    ensures found { SomeExactly
-        (λ (r : ℕ × List ℕ). IsLinkDestination (max_next + 1) bytes.now r.0 r.1)
-        (option_map (λ r. (r.0, slice_range bytes.now r.1.start r.1.end)) result) }
-    ensures only { IsOnly
-        (λ (r : ℕ × List ℕ). IsLinkDestination (max_next + 1) bytes.now r.0 r.1)
-        (option_map (λ r. (r.0, slice_range bytes.now r.1.start r.1.end)) result) }
-    ensures none { IfNone result ((n : ℕ) (raw : List ℕ)
-        → ¬ IsLinkDestination (max_next + 1) bytes.now n raw) }
+    ensures found { SomeExactly (IsDestination (max_next + 1) bytes.now)
+        (with_raw_text bytes.now result) }
+    ensures only { IsOnly (IsDestination (max_next + 1) bytes.now)
+        (with_raw_text bytes.now result) }
 
-    // Its raw text is all that it takes, or stands between brackets.
-    ensures place { IfSome result (λ r. StandsInside r.0 r.1.start r.1.end) }
-    ensures ordered { IfSome result (λ r. (r.1.start ≤ r.1.end) × (r.1.end ≤ r.0)) }
-    ensures within { IfSome result (λ r. r.0 ≤ length bytes.now) }
-
-    // A text may be cut where its raw text begins and ends, and after all that it takes.
-    ensures begins { IfSome result (λ r. IsUtf8 bytes.now → IsCharBoundary bytes.now r.1.start) }
-    ensures ends { IfSome result (λ r. IsUtf8 bytes.now → IsCharBoundary bytes.now r.1.end) }
-    ensures behind { IfSome result (λ r. IsUtf8 bytes.now → IsCharBoundary bytes.now r.0) }
+    // Its raw text is all of it or stands between its brackets, and can be cut out.
+    ensures raw_text { IfSome result (λ r. RawTextStandsIn bytes.now r.0 r.1) }
 {
     if !bytes.is_empty() && bytes[0] == b'<' {
         let n = pointed_len(&bytes[1..])?;

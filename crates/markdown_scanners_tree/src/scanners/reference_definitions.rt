@@ -1,10 +1,11 @@
 //! Link reference definitions.
-ghost use Rattle.std.specs.Prelude.{◌≡◌, ◌==◌, ◌+◌, ◌-◌, ◌<◌, ◌≤◌, ℕ, List, length, slice_range, option_map, IfNone, IfSome};
+ghost use Rattle.std.specs.Prelude.{◌≡◌, ◌==◌, ◌+◌, ◌-◌, ◌<◌, ◌≤◌, length, IfSome};
 ghost use Rattle.markdown_scanners_tree.specs.Ascii.{colon};
 ghost use Rattle.markdown_scanners_tree.specs.Bytes.{begins_with};
 ghost use Rattle.std.specs.Str.{IsUtf8, IsCharBoundary};
 ghost use Rattle.markdown_scanners_tree.specs.SomeExactly.{SomeExactly, IsOnly};
-ghost use Rattle.markdown_scanners_tree.specs.scanners.links.LinkDestination.{IsLinkDestination, StandsInside};
+ghost use Rattle.markdown_scanners_tree.specs.scanners.links.FoundDestination.{IsDestination, RawTextStandsIn, with_raw_text};
+ghost use Rattle.markdown_scanners_tree.specs.scanners.reference_definitions.FoundDefinition.{PartsStandIn};
 ghost use Rattle.markdown_scanners_tree.specs.scanners.reference_definitions.ReferenceDefinition.{IsReferenceDefinition, IsLabelWithColon, IsTarget, IsTitleLine, IsEnd, IsRestOfLine, IsCutAt};
 ghost use Rattle.markdown_scanners_tree.specs.scanners.reference_definitions.private.GapLength.{gap_length};
 
@@ -42,24 +43,10 @@ pub fn scan_reference_definition(bytes: &[u8], max_next: usize) -> Option<Refere
     ensures found { SomeExactly (IsReferenceDefinition (max_next + 1) bytes.now) result }
     ensures only { IsOnly (IsReferenceDefinition (max_next + 1) bytes.now) result }
 
-    // Its parts stand one after another in what it takes.
-    ensures within { IfSome result (λ d. d.len ≤ length bytes.now) }
-    ensures label { IfSome result (λ d. (0 < d.label.start) × (d.label.start ≤ d.label.end)
-        × (d.label.end < d.destination.start)) }
-    ensures destination { IfSome result (λ d. (d.destination.start ≤ d.destination.end)
-        × (d.destination.end ≤ d.len)) }
-    ensures title { IfSome result (λ d. IfSome d.title (λ title. (d.destination.end < title.start)
-        × (title.start ≤ title.end) × (title.end < d.len))) }
-
-    // A text may be cut where each of them begins and ends, and after all that it takes.
-    ensures label_cut { IfSome result (λ d. IsUtf8 bytes.now → IsCutAt bytes.now d.label) }
-    ensures destination_cut { IfSome result (λ d. IsUtf8 bytes.now
-        → IsCutAt bytes.now d.destination) }
-    ensures title_cut { IfSome result (λ d. IfSome d.title (λ title. IsUtf8 bytes.now
-        → IsCutAt bytes.now title)) }
-    ensures behind { IfSome result (λ d. IsUtf8 bytes.now → IsCharBoundary bytes.now d.len) }
+    // Its parts stand one after another in it, and can be cut out.
+    ensures parts { IfSome result (PartsStandIn bytes.now) }
 {
-    scan_definition(bytes, max_next, false)
+    scan_definition(bytes, max_next, Reach::Deciding)
 }
 
 /// The same of a text that can be read to its end: bytes after the destination may be read too, as by
@@ -69,45 +56,28 @@ pub fn scan_reference_definition_ahead(bytes: &[u8], max_next: usize) -> Option<
     ensures found { SomeExactly (IsReferenceDefinition (max_next + 1) bytes.now) result }
     ensures only { IsOnly (IsReferenceDefinition (max_next + 1) bytes.now) result }
 
-    // Its parts stand one after another in what it takes.
-    ensures within { IfSome result (λ d. d.len ≤ length bytes.now) }
-    ensures label { IfSome result (λ d. (0 < d.label.start) × (d.label.start ≤ d.label.end)
-        × (d.label.end < d.destination.start)) }
-    ensures destination { IfSome result (λ d. (d.destination.start ≤ d.destination.end)
-        × (d.destination.end ≤ d.len)) }
-    ensures title { IfSome result (λ d. IfSome d.title (λ title. (d.destination.end < title.start)
-        × (title.start ≤ title.end) × (title.end < d.len))) }
-
-    // A text may be cut where each of them begins and ends, and after all that it takes.
-    ensures label_cut { IfSome result (λ d. IsUtf8 bytes.now → IsCutAt bytes.now d.label) }
-    ensures destination_cut { IfSome result (λ d. IsUtf8 bytes.now
-        → IsCutAt bytes.now d.destination) }
-    ensures title_cut { IfSome result (λ d. IfSome d.title (λ title. IsUtf8 bytes.now
-        → IsCutAt bytes.now title)) }
-    ensures after { IfSome result (λ d. IsUtf8 bytes.now → IsCharBoundary bytes.now d.len) }
+    // Its parts stand one after another in it, and can be cut out.
+    ensures parts { IfSome result (PartsStandIn bytes.now) }
 {
-    scan_definition(bytes, max_next, true)
+    scan_definition(bytes, max_next, Reach::Ahead)
 }
 
-// The same, which may look ahead or not.
-fn scan_definition(bytes: &[u8], max_next: usize, looks_ahead: bool) -> Option<ReferenceDefinition>
+// Which bytes a scan of a destination may read.
+#[derive(Clone, Copy)]
+enum Reach {
+    // None after the one that decides the answer.
+    Deciding,
+    // Those after it too, 16 at a time.
+    Ahead,
+}
+
+// The definition at the front, by a scan of this reach.
+fn scan_definition(bytes: &[u8], max_next: usize, reach: Reach) -> Option<ReferenceDefinition>
     ensures found { SomeExactly (IsReferenceDefinition (max_next + 1) bytes.now) result }
     ensures only { IsOnly (IsReferenceDefinition (max_next + 1) bytes.now) result }
-    ensures within { IfSome result (λ d. d.len ≤ length bytes.now) }
-    ensures label { IfSome result (λ d. (0 < d.label.start) × (d.label.start ≤ d.label.end)
-        × (d.label.end < d.destination.start)) }
-    ensures destination { IfSome result (λ d. (d.destination.start ≤ d.destination.end)
-        × (d.destination.end ≤ d.len)) }
-    ensures title { IfSome result (λ d. IfSome d.title (λ title. (d.destination.end < title.start)
-        × (title.start ≤ title.end) × (title.end < d.len))) }
-    ensures label_cut { IfSome result (λ d. IsUtf8 bytes.now → IsCutAt bytes.now d.label) }
-    ensures destination_cut { IfSome result (λ d. IsUtf8 bytes.now
-        → IsCutAt bytes.now d.destination) }
-    ensures title_cut { IfSome result (λ d. IfSome d.title (λ title. IsUtf8 bytes.now
-        → IsCutAt bytes.now title)) }
-    ensures after { IfSome result (λ d. IsUtf8 bytes.now → IsCharBoundary bytes.now d.len) }
+    ensures parts { IfSome result (PartsStandIn bytes.now) }
 {
-    let target = scan_target(bytes, max_next, looks_ahead)?;
+    let target = scan_target(bytes, max_next, reach)?;
     let (title, len) = scan_end(bytes, target.place)?;
     Some(ReferenceDefinition {
         label: target.label,
@@ -126,7 +96,7 @@ struct Target {
 }
 
 // What a definition begins with.
-fn scan_target(bytes: &[u8], max_next: usize, looks_ahead: bool) -> Option<Target>
+fn scan_target(bytes: &[u8], max_next: usize, reach: Reach) -> Option<Target>
     ensures found { SomeExactly
         (λ t. IsTarget (max_next + 1) bytes.now t.label t.destination t.place) result }
     ensures within { IfSome result (λ t. t.place ≤ length bytes.now) }
@@ -141,7 +111,7 @@ fn scan_target(bytes: &[u8], max_next: usize, looks_ahead: bool) -> Option<Targe
 {
     let named = scan_label_and_colon(bytes)?;
     let start = named + gap_len(&bytes[named..]);
-    let (taken, raw) = scan_destination(&bytes[start..], max_next, looks_ahead)?;
+    let (taken, raw) = scan_destination(&bytes[start..], max_next, reach)?;
     if taken == 0 {
         return None;
     }
@@ -153,30 +123,16 @@ fn scan_target(bytes: &[u8], max_next: usize, looks_ahead: bool) -> Option<Targe
 }
 
 // The link destination at the front.
-fn scan_destination(
-    bytes: &[u8],
-    max_next: usize,
-    looks_ahead: bool,
-) -> Option<(usize, Range<usize>)>
-    ensures found { SomeExactly
-        (λ (r : ℕ × List ℕ). IsLinkDestination (max_next + 1) bytes.now r.0 r.1)
-        (option_map (λ r. (r.0, slice_range bytes.now r.1.start r.1.end)) result) }
-    ensures only { IsOnly
-        (λ (r : ℕ × List ℕ). IsLinkDestination (max_next + 1) bytes.now r.0 r.1)
-        (option_map (λ r. (r.0, slice_range bytes.now r.1.start r.1.end)) result) }
-    ensures none { IfNone result ((n : ℕ) (raw : List ℕ)
-        → ¬ IsLinkDestination (max_next + 1) bytes.now n raw) }
-    ensures stands { IfSome result (λ r. StandsInside r.0 r.1.start r.1.end) }
-    ensures ordered { IfSome result (λ r. (r.1.start ≤ r.1.end) × (r.1.end ≤ r.0)) }
-    ensures within { IfSome result (λ r. r.0 ≤ length bytes.now) }
-    ensures begins { IfSome result (λ r. IsUtf8 bytes.now → IsCharBoundary bytes.now r.1.start) }
-    ensures ends { IfSome result (λ r. IsUtf8 bytes.now → IsCharBoundary bytes.now r.1.end) }
-    ensures after { IfSome result (λ r. IsUtf8 bytes.now → IsCharBoundary bytes.now r.0) }
+fn scan_destination(bytes: &[u8], max_next: usize, reach: Reach) -> Option<(usize, Range<usize>)>
+    ensures found { SomeExactly (IsDestination (max_next + 1) bytes.now)
+        (with_raw_text bytes.now result) }
+    ensures only { IsOnly (IsDestination (max_next + 1) bytes.now)
+        (with_raw_text bytes.now result) }
+    ensures raw_text { IfSome result (λ r. RawTextStandsIn bytes.now r.0 r.1) }
 {
-    if looks_ahead {
-        scan_link_dest_ahead(bytes, max_next)
-    } else {
-        scan_link_dest_bytes(bytes, max_next)
+    match reach {
+        Reach::Deciding => scan_link_dest_bytes(bytes, max_next),
+        Reach::Ahead => scan_link_dest_ahead(bytes, max_next),
     }
 }
 

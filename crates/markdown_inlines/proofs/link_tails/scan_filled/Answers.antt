@@ -11,7 +11,7 @@ pub returns-in_err-taken-clause-found : goal.returns-in_err-taken-clause-found
 returns-in_err-taken-clause-found c =
     SomeExactly-from_none _ c.from_residual.ensures (λ tail.
     no_filled (c.args.max_next + 1) c.args.bytes.now c.gap_len-start.result (opened c.args.bytes.now c.requires.opens)
-    c.gap_len-start.ensures.gap (λ n raw is some. c.in_err-taken.ensures.none n raw is) tail)
+    c.gap_len-start.ensures.gap (λ n raw is some. c.in_err-taken.ensures.found (n, raw) is) tail)
 
 pub returns-then-taken-eq0-clause-found : goal.returns-then-taken-eq0-clause-found
 returns-then-taken-eq0-clause-found c = λ tail.
@@ -34,7 +34,7 @@ returns-clause-found c =
     let taken = c.in_ok-taken.ensures in
     filled_found (c.args.max_next + 1) c.args.bytes.now c.gap_len-start.result (opened c.args.bytes.now c.requires.opens)
     c.gap_len-start.ensures.gap c.in_ok-taken.taken c.in_ok-taken.raw.start c.in_ok-taken.raw.end c.in_ok-title.title
-    c.in_ok-title.len taken.found taken.stands taken.within (omega (arith, c.if-taken-eq0.false)) c.gap_len-start.ensures.within
+    c.in_ok-title.len taken.found taken.raw_text.inside taken.raw_text.within (omega (arith, c.if-taken-eq0.false)) c.gap_len-start.ensures.within
     c.in_ok-title.ensures.found
 
 pub returns-clause-destination_cut : goal.returns-clause-destination_cut
@@ -43,8 +43,8 @@ returns-clause-destination_cut c = λ utf8.
     let start = 1 + c.gap_len-start.result in
     let here : IsCharBoundary bytes start =
     place_of_rest _ bytes 1 c.gap_len-start.result (from_place bytes 1) utf8 (λ _. cut_opened bytes c.requires.opens utf8) c.gap_len-start.ensures.after in (
-      place_of_rest _ bytes start c.in_ok-taken.raw.start (from_place bytes start) utf8 (λ _. here) c.in_ok-taken.ensures.begins,
-      place_of_rest _ bytes start c.in_ok-taken.raw.end (from_place bytes start) utf8 (λ _. here) c.in_ok-taken.ensures.ends,
+      place_of_rest _ bytes start c.in_ok-taken.raw.start (from_place bytes start) utf8 (λ _. here) c.in_ok-taken.ensures.raw_text.begins,
+      place_of_rest _ bytes start c.in_ok-taken.raw.end (from_place bytes start) utf8 (λ _. here) c.in_ok-taken.ensures.raw_text.ends,
     )
 
 pub returns-clause-title_cut : goal.returns-clause-title_cut
@@ -54,7 +54,7 @@ returns-clause-title_cut c =
     title_cut bytes (start + c.in_ok-taken.taken) c.in_ok-title.title c.in_ok-title.ensures.title_cut (λ utf8.
     let here : IsCharBoundary bytes start =
     place_of_rest _ bytes 1 c.gap_len-start.result (from_place bytes 1) utf8 (λ _. cut_opened bytes c.requires.opens utf8) c.gap_len-start.ensures.after in
-    place_of_rest _ bytes start c.in_ok-taken.taken (from_place bytes start) utf8 (λ _. here) c.in_ok-taken.ensures.after)
+    place_of_rest _ bytes start c.in_ok-taken.taken (from_place bytes start) utf8 (λ _. here) c.in_ok-taken.ensures.raw_text.after)
 
 pub returns-clause-after : goal.returns-clause-after
 returns-clause-after c = λ utf8.
@@ -63,4 +63,4 @@ returns-clause-after c = λ utf8.
     let here : IsCharBoundary bytes start =
     place_of_rest _ bytes 1 c.gap_len-start.result (from_place bytes 1) utf8 (λ _. cut_opened bytes c.requires.opens utf8) c.gap_len-start.ensures.after in
     c.in_ok-title.ensures.after utf8
-    (place_of_rest _ bytes start c.in_ok-taken.taken (from_place bytes start) utf8 (λ _. here) c.in_ok-taken.ensures.after)
+    (place_of_rest _ bytes start c.in_ok-taken.taken (from_place bytes start) utf8 (λ _. here) c.in_ok-taken.ensures.raw_text.after)

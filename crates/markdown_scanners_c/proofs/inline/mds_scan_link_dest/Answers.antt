@@ -9,15 +9,16 @@ pub returns-in-Some-clause-part : goal.returns-in-Some-clause-part
 unfolding IsDestinationPart
 returns-in-Some-clause-part c =
     let bytes = c.args.bytes.now in
-    let found = c.in-Some.ensures in
+    let found = c.in-Some.ensures.found in
+    let stands = c.in-Some.ensures.raw_text in
     let raw = c.in-Some.raw in
     inr (
       omega arith,
       inr (
         refl,
-        stands_from c.args.start c.in-Some.taken raw.start raw.end found.ordered.0 found.place,
+        stands_from c.args.start c.in-Some.taken raw.start raw.end stands.ordered.0 stands.inside,
         destination_at (c.args.max_next + 1) c.args.start c.in-Some.taken raw.start raw.end bytes _
-            (take_rest bytes c.args.start) found.found,
+            (take_rest bytes c.args.start) found,
       ),
     )
 
@@ -25,8 +26,9 @@ pub returns-in-Some-clause-boundary : goal.returns-in-Some-clause-boundary
 returns-in-Some-clause-boundary c = λ text found.
     let bytes = c.args.bytes.now in
     let raw = c.in-Some.raw in
+    let stands = c.in-Some.ensures.raw_text in
     cut_destination c.args.start c.in-Some.taken raw.start raw.end bytes _ (take_rest bytes c.args.start) text
-    c.in-Some.ensures.ordered.0 c.in-Some.ensures.begins c.in-Some.ensures.ends c.in-Some.ensures.behind
+    stands.ordered.0 stands.begins stands.ends stands.after
 
 pub returns-in-None-clause-part : goal.returns-in-None-clause-part
 unfolding IsDestinationPart

@@ -43,9 +43,9 @@ returns-clause-boundary c = λ text found.
     let bytes = c.args.bytes.now in
     let rest = take_rest bytes start in
     let definition = c.in-Some.found in
-    let is = c.in-Some.ensures in (
+    let is = c.in-Some.ensures.parts in (
       cut_range start bytes _ rest text definition.label _ _ (refl, omega (arith, is.label.1)) is.label_cut,
       cut_range start bytes _ rest text definition.destination _ _ (refl, omega (arith, is.destination.0)) is.destination_cut,
       cut_title start bytes _ rest text definition.title _ _ c.title_at-title_start.ensures is.title_cut,
-      place_in start bytes _ rest text definition.len _ refl is.behind,
+      place_in start bytes _ rest text definition.len _ refl is.after,
     )

@@ -1,5 +1,6 @@
-use Rattle.std.proofs.Common.{◌≡◌, ◌+◌, true, ap, arith, drop, get_or, take, inr, sym, ◌∙◌, subst}
+use Rattle.std.proofs.Common.{◌≡◌, ◌+◌, true, ap, arith, drop, get_or, take, inl, inr, refl, sym, ◌∙◌, subst}
 use Rattle.std.specs.List.{prefix_len}
+use Rattle.std.proofs.lemmas.Grind.{common_steps}
 use Rattle.std.proofs.lemmas.Str.{IsCharBoundary-start}
 use Rattle.markdown_scanners_tree.specs.scanners.classes.private.InDestination.{is_in_destination}
 use Rattle.markdown_scanners_tree.specs.scanners.links.LinkDestination.{IsBareFrom}
@@ -28,5 +29,13 @@ returns-then-is_ended-clause-only c =
     λ other is. one_destination (c.args.max_next + 1) c.args.bytes.now other.0 other.1 _ _ is
     (returns-then-is_ended-clause-found c)
 
-pub returns-then-is_ended-clause-begins : goal.returns-then-is_ended-clause-begins
-returns-then-is_ended-clause-begins c = λ utf8. IsCharBoundary-start c.args.bytes.now utf8
+pub returns-then-is_ended-clause-raw_text : goal.returns-then-is_ended-clause-raw_text
+returns-then-is_ended-clause-raw_text c =
+    record {
+      inside = inl (refl, refl);
+      ordered = (omega arith, omega arith);
+      within = c.plain_len-plain.ensures.within;
+      begins = IsCharBoundary-start c.args.bytes.now;
+      ends = grind (arith, common_steps);
+      after = grind (arith, common_steps);
+    }

@@ -10,7 +10,7 @@ pub returns-in_err-taken-clause-none : goal.returns-in_err-taken-clause-none
 returns-in_err-taken-clause-none c =
     let read = slice_is_rest c.as_bytes.result.now c.args.text.now c.args.start c.as_bytes.ensures.value in
     rw c.from_residual.ensures (λ n raw is.
-    c.in_err-taken.ensures.none n raw (subst (λ t. IsLinkDestination (c.args.max_next + 1) t n raw) (sym read) is))
+    c.in_err-taken.ensures.found (n, raw) (subst (λ t. IsLinkDestination (c.args.max_next + 1) t n raw) (sym read) is))
 
 pub returns-in_err-taken-clause-found : goal.returns-in_err-taken-clause-found
 returns-in_err-taken-clause-found c =
@@ -22,13 +22,13 @@ pub range-requires-clause-start_boundary : goal.range-requires-clause-start_boun
 range-requires-clause-start_boundary c = λ _.
     let read = slice_is_rest c.as_bytes.result.now c.args.text.now c.args.start c.as_bytes.ensures.value in
     place_of_rest _ c.args.text.now c.args.start c.in_ok-taken.raw.start read c.utf8.text c.requires
-    c.in_ok-taken.ensures.begins
+    c.in_ok-taken.ensures.raw_text.begins
 
 pub range-requires-clause-end_boundary : goal.range-requires-clause-end_boundary
 range-requires-clause-end_boundary c =
     let read = slice_is_rest c.as_bytes.result.now c.args.text.now c.args.start c.as_bytes.ensures.value in
     place_of_rest _ c.args.text.now c.args.start c.in_ok-taken.raw.end read c.utf8.text c.requires
-    c.in_ok-taken.ensures.ends
+    c.in_ok-taken.ensures.raw_text.ends
 
 pub returns-clause-found : goal.returns-clause-found
 returns-clause-found c =
@@ -48,4 +48,4 @@ pub returns-clause-boundary : goal.returns-clause-boundary
 returns-clause-boundary c =
     let read = slice_is_rest c.as_bytes.result.now c.args.text.now c.args.start c.as_bytes.ensures.value in
     place_of_rest _ c.args.text.now c.args.start c.in_ok-taken.taken read c.utf8.text c.requires
-    c.in_ok-taken.ensures.behind
+    c.in_ok-taken.ensures.raw_text.after

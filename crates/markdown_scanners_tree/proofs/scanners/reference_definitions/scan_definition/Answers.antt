@@ -1,4 +1,4 @@
-use Rattle.std.proofs.Common.{◌+◌, subst}
+use Rattle.std.proofs.Common.{◌+◌, subst, arith, rules}
 use Rattle.markdown_scanners_tree.specs.scanners.reference_definitions.ReferenceDefinition.{IsEnd}
 use Rattle.markdown_scanners_tree.proofs.SomeExactlyLemmas.{SomeExactly-from_none}
 use Rattle.markdown_scanners_tree.proofs.scanners.reference_definitions.DefinitionLemmas.{title_cut}
@@ -27,10 +27,17 @@ returns-clause-only c = λ other is.
       ends = c.in_ok-title.ensures.found;
     })
 
-pub returns-clause-title_cut : goal.returns-clause-title_cut
-returns-clause-title_cut c =
-    title_cut c.args.bytes.now c.in_ok-target.target.place c.in_ok-title.title c.in_ok-title.ensures.title_cut
-    c.in_ok-target.ensures.behind
-
-pub returns-clause-after : goal.returns-clause-after
-returns-clause-after c = λ utf8. c.in_ok-title.ensures.behind utf8 (c.in_ok-target.ensures.behind utf8)
+pub returns-clause-parts : goal.returns-clause-parts
+returns-clause-parts c =
+    let target = c.in_ok-target.ensures in
+    let end = c.in_ok-title.ensures in
+    record {
+      within = end.within.1;
+      label = target.label;
+      destination = (target.destination.0, omega (arith, target.destination.1, end.within.0));
+      title = search rules;
+      label_cut = target.label_cut;
+      destination_cut = target.destination_cut;
+      title_cut = title_cut c.args.bytes.now c.in_ok-target.target.place c.in_ok-title.title end.title_cut target.behind;
+      after = λ utf8. end.behind utf8 (target.behind utf8);
+    }

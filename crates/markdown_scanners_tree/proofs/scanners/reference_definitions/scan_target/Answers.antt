@@ -14,7 +14,7 @@ pub returns-in_err-taken-clause-found : goal.returns-in_err-taken-clause-found
 returns-in_err-taken-clause-found c =
     SomeExactly-from_none _ c.from_residual-in_err-taken.ensures (λ t.
     no_target (c.args.max_next + 1) c.args.bytes.now c.in_ok-named.named c.gap_len.result c.in_ok-named.ensures.found
-    c.gap_len.ensures.gap (λ n raw is some. c.in_err-taken.ensures.none n raw is) t.label t.destination t.place)
+    c.gap_len.ensures.gap (λ n raw is some. c.in_err-taken.ensures.found (n, raw) is) t.label t.destination t.place)
 
 pub returns-then-taken-eq0-clause-found : goal.returns-then-taken-eq0-clause-found
 returns-then-taken-eq0-clause-found c = λ t.
@@ -28,8 +28,8 @@ pub returns-clause-found : goal.returns-clause-found
 returns-clause-found c =
     let taken = c.in_ok-taken.ensures in
     target_found (c.args.max_next + 1) c.args.bytes.now c.in_ok-named.named c.gap_len.result c.in_ok-named.ensures.found
-    c.gap_len.ensures.gap c.in_ok-taken.taken c.in_ok-taken.raw.start c.in_ok-taken.raw.end taken.found taken.stands
-    taken.within (omega (arith, c.if-taken-eq0.false)) c.gap_len.ensures.within c.in_ok-named.ensures.within.0
+    c.gap_len.ensures.gap c.in_ok-taken.taken c.in_ok-taken.raw.start c.in_ok-taken.raw.end taken.found taken.raw_text.inside
+    taken.raw_text.within (omega (arith, c.if-taken-eq0.false)) c.gap_len.ensures.within c.in_ok-named.ensures.within.0
 
 pub returns-clause-label_cut : goal.returns-clause-label_cut
 returns-clause-label_cut c = λ utf8. (c.in_ok-named.ensures.begins utf8, c.in_ok-named.ensures.ends utf8)
@@ -43,9 +43,9 @@ returns-clause-destination_cut c = λ utf8.
     place_of_rest _ bytes named gap (from_place bytes named) utf8 (λ _. c.in_ok-named.ensures.behind utf8)
     c.gap_len.ensures.behind in (
       place_of_rest _ bytes (named + gap) c.in_ok-taken.raw.start (from_place bytes (named + gap)) utf8 (λ _. here)
-          c.in_ok-taken.ensures.begins,
+          c.in_ok-taken.ensures.raw_text.begins,
       place_of_rest _ bytes (named + gap) c.in_ok-taken.raw.end (from_place bytes (named + gap)) utf8 (λ _. here)
-          c.in_ok-taken.ensures.ends,
+          c.in_ok-taken.ensures.raw_text.ends,
     )
 
 pub returns-clause-behind : goal.returns-clause-behind
@@ -57,4 +57,4 @@ returns-clause-behind c = λ utf8.
     place_of_rest _ bytes named gap (from_place bytes named) utf8 (λ _. c.in_ok-named.ensures.behind utf8)
     c.gap_len.ensures.behind in
     place_of_rest _ bytes (named + gap) c.in_ok-taken.taken (from_place bytes (named + gap)) utf8 (λ _. here)
-    c.in_ok-taken.ensures.after
+    c.in_ok-taken.ensures.raw_text.after
