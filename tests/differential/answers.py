@@ -375,6 +375,13 @@ def link_destination(text, start, max_next):
     return pointed.span(1) + (pointed.end(),) if pointed else bare and (start, start + bare, start + bare)
 
 
+def separated_title(text, offset):
+    """Where the raw text of a title begins and ends that follows the offset after a gap."""
+    start = re.compile(GAP).match(text, offset).end()
+    length = link_title(text[start:]) if start > offset else None
+    return length and (start + 1, start + length - 1)
+
+
 def reference_definition(text, max_next):
     """A link reference definition (4.7) whose label and destination have no escapes: where its label, its destination and its
     title stand, and its length."""
@@ -385,11 +392,10 @@ def reference_definition(text, max_next):
     if not target:
         return None
     begun = ((1, name[0]), target[:2])
-    start = re.compile(GAP).match(text, target[2]).end()
-    title = link_title(text[start:]) if start > target[2] else None
-    titled = title and rest_of_line.match(text, start + title)
+    title = separated_title(text, target[2])
+    titled = title and rest_of_line.match(text, title[1] + 1)
     if titled:
-        return (*begun, (start + 1, start + title - 1), titled.end())
+        return (*begun, title, titled.end())
     untitled = rest_of_line.match(text, target[2])
     return untitled and (*begun, None, untitled.end())
 

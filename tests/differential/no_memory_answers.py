@@ -177,6 +177,7 @@ def inline():
         some((end, borrowed(address), Value("Autolink"))), some(answers.wikilink(b"a|b]]", 0, 3)[0] - 1),
         some((bare, Plain(f"0..{bare}"))), some(len(address)), *map(title_answer, (b"'a\n\\'b' c", b"(a\n\nb)")),
         definition_answer(b"[a]: <b>\n'c'\n", 1), definition_answer(b"[a]: b 'c' d", 1),
+        some(Plain("{}..{}".format(*answers.separated_title(b"a \n'b'", 1)))),
         some((address_ahead, Plain(f"0..{address_ahead}"))), definition_answer(b"[a]: https://a.b/c/d/e/f 'g'\n", 1),
         answers.is_block_name(b"DIV>"),
         some(answers.tag_alone(b"<a b=\t'c'>  \n")), *map(html_answer, HTML_LINES),

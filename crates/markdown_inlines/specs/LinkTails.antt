@@ -3,8 +3,7 @@ use Rattle.std.specs.Prelude.{ℕ, ◌+◌, ◌≤◌, List, ◌∷◌, ◌++◌
 use Rattle.std.specs.declared.ops.Range.{Range}
 use Rattle.markdown_scanners_tree.specs.Ascii.{left_parenthesis, right_parenthesis}
 use Rattle.markdown_scanners_tree.specs.scanners.links.LinkDestination.{IsLinkDestination}
-use Rattle.markdown_scanners_tree.specs.scanners.titles.LinkTitle.{IsLinkTitle}
-use Rattle.markdown_scanners_tree.specs.scanners.reference_definitions.ReferenceDefinition.{IsGap, bracket_count}
+use Rattle.markdown_scanners_tree.specs.scanners.reference_definitions.ReferenceDefinition.{IsGap, IsSeparatedTitle, bracket_count}
 use Rattle.markdown_inlines.specs.declared.link_tails.LinkTail.{LinkTail}
 
 -- A gap, which may be empty, and a right parenthesis, n bytes together.
@@ -15,20 +14,11 @@ pub record IsClosing (text : List ℕ) (n : ℕ) : Type 0 where
   pub is_gap : IsGap gap
   pub counted : n ≡ length gap + 1
 
--- From the place on stand a gap, which is not empty, a link title, and what closes the tail: `len` bytes of the text up
--- to there. The title's own bytes stand between the two around it.
+-- From the place on stand a gap, a link title, and what closes the tail: `len` bytes of the text up to there.
 pub record IsTitledEnd (text : List ℕ) (place : ℕ) (title : Range ℕ) (len : ℕ) : Type 0 where
-  pub gap : List ℕ
-  pub rest : List ℕ
-  pub taken : ℕ
   pub closing : ℕ
-  pub parts : drop place text ≡ gap ++ rest
-  pub is_gap : IsGap gap
-  pub separated : 1 ≤ length gap
-  pub is_title : IsLinkTitle rest taken
-  pub closes : IsClosing (drop taken rest) closing
-  pub title_begins : title.start ≡ place + length gap + 1
-  pub title_ends : title.end + 1 ≡ place + length gap + taken
+  pub is_titled : IsSeparatedTitle text place title
+  pub closes : IsClosing (drop (title.end + 1) text) closing
   pub len_is : len ≡ title.end + 1 + closing
 
 -- What closes the tail stands at the place: `len` bytes of the text up to there.

@@ -9,7 +9,7 @@ ghost use Rattle.markdown_scanners_tree.specs.scanners.reference_definitions.pri
 ghost use Rattle.markdown_inlines.specs.LinkTails.{IsLinkTail, IsFilledTail, IsTailEnd, IsTitledEnd, IsClosing};
 
 use markdown_scanners_tree::scanners::{
-    scan_eol, scan_link_dest_ahead, scan_link_title, scan_spaces_and_tabs,
+    scan_eol, scan_link_dest_ahead, scan_separated_title, scan_spaces_and_tabs,
 };
 use std::ops::Range;
 
@@ -135,13 +135,10 @@ fn scan_titled_end(bytes: &[u8], place: usize) -> Option<(Range<usize>, usize)>
     ensures after { IfSome result (λ r. IsUtf8 bytes.now → IsCharBoundary bytes.now place
         → IsCharBoundary bytes.now r.1) }
 {
-    let start = place + gap_len(&bytes[place..]);
-    if start == place {
-        return None;
-    }
-    let end = start + scan_link_title(&bytes[start..])?;
+    let title = scan_separated_title(bytes, place)?;
+    let end = title.end + 1;
     let closing = scan_closing(&bytes[end..])?;
-    Some((start + 1..end - 1, end + closing))
+    Some((title, end + closing))
 }
 
 // The length of a gap at the front with the right parenthesis after it.

@@ -21,7 +21,7 @@ pub use Rattle.markdown_scanners_tree.proofs.scanners.Scanned.{one_atx_heading, 
 pub use Rattle.markdown_scanners_tree.proofs.scanners.Scanned.{one_destination}
 pub use Rattle.markdown_scanners_tree.proofs.scanners.Scanned.{one_html_block_start, one_html_kind, one_indent, one_item}
 pub use Rattle.markdown_scanners_tree.proofs.scanners.Scanned.{one_metadata_block, one_quote_start, one_reference, one_reference_definition, one_row}
-pub use Rattle.markdown_scanners_tree.proofs.scanners.Scanned.{one_tag, one_tag_alone, one_title, one_underline, one_uri}
+pub use Rattle.markdown_scanners_tree.proofs.scanners.Scanned.{one_separated_title, one_tag, one_tag_alone, one_title, one_underline, one_uri}
 pub use Rattle.markdown_scanners_tree.proofs.scanners.breaks.BreakLemmas.{is_thematic_break-found}
 pub use Rattle.markdown_scanners_tree.proofs.scanners.html_kinds.StartLemmas.{none_unopened}
 pub use Rattle.markdown_scanners_tree.proofs.scanners.lines.BlankLemmas.{first-line_ending}
@@ -52,6 +52,7 @@ pub ruleset only_answers = (
   one_reference,
   one_reference_definition,
   one_row,
+  one_separated_title,
   one_tag,
   one_tag_alone,
   one_title,

@@ -50,6 +50,7 @@ pub(crate) use list_items::scan_marker;
 pub use metadata::{scan_closing_metadata_block, scan_metadata_block};
 pub use reference_definitions::{
     ReferenceDefinition, scan_reference_definition, scan_reference_definition_ahead,
+    scan_separated_title,
 };
 pub use runs::{
     scan_ch, scan_ch_repeat, scan_rev_while, scan_spaces_and_tabs, scan_while,

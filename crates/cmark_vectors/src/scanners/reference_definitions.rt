@@ -3,6 +3,7 @@
 use crate::asserts::{assert_answer, assert_same, made};
 use markdown_scanners_tree::scanners::{
     ReferenceDefinition, scan_reference_definition, scan_reference_definition_ahead,
+    scan_separated_title,
 };
 use std::alloc::{AllocError, Global};
 use std::ops::Range;
@@ -153,6 +154,36 @@ fn takes_one_line_ending_in_a_gap(rt: HostRuntime) {
 #[test]
 fn leaves_a_title_that_something_follows(rt: HostRuntime) {
     assert_rows(&rt, &ENDS);
+}
+
+// Bytes whose first is no part of the gap, and where the raw text of the title after it stands.
+type Title = (&'static [u8], Option<Range<usize>>);
+
+const TITLES: [Title; 9] = [
+    (b"a 'b' c", Some(3..4)),
+    (b"a\t\n (b\nc)", Some(5..8)),
+    (b"a\r\n\"\"", Some(4..4)),
+    (b"a'b'", None),
+    (b"a\n\n'b'", None),
+    (b"a 'b", None),
+    (b"a b", None),
+    (b"a ", None),
+    (b"a", None),
+];
+
+fn title_after_one(bytes: &[u8]) -> Option<Range<usize>> {
+    if bytes.is_empty() {
+        None
+    } else {
+        scan_separated_title(bytes, 1)
+    }
+}
+
+#[test]
+fn separates_a_title_by_a_gap(rt: HostRuntime) {
+    for (bytes, found) in &TITLES {
+        assert_answer(&rt, bytes, &title_after_one(bytes), found);
+    }
 }
 
 #[test]

@@ -13,10 +13,9 @@ use Rattle.markdown_scanners_tree.specs.SomeExactly.{SomeExactly}
 use Rattle.markdown_scanners_tree.specs.scanners.Escapes.{units}
 use Rattle.markdown_scanners_tree.specs.scanners.links.LinkDestination.{IsLinkDestination, IsBalanced, StandsInside}
 use Rattle.markdown_scanners_tree.specs.scanners.links.LinkDestination.{opening_count, closing_count}
-use Rattle.markdown_scanners_tree.specs.scanners.titles.LinkTitle.{IsLinkTitle}
-use Rattle.markdown_scanners_tree.specs.scanners.reference_definitions.ReferenceDefinition.{IsCutAt}
+use Rattle.markdown_scanners_tree.specs.scanners.reference_definitions.ReferenceDefinition.{IsCutAt, IsSeparatedTitle}
 use Rattle.markdown_scanners_tree.specs.scanners.reference_definitions.private.GapLength.{gap_length}
-use Rattle.markdown_scanners_tree.proofs.ForCallers.{IsSolid, destination_solid, title_solid, gap_only, gap_there, raw_place}
+use Rattle.markdown_scanners_tree.proofs.ForCallers.{IsSolid, destination_solid, gap_only, gap_there, raw_place}
 use Rattle.markdown_scanners_tree.proofs.PrefixLemmas.{from_place}
 use Rattle.markdown_inlines.specs.LinkTails.{IsClosing, IsTitledEnd, IsUntitledEnd, IsTailEnd, IsEmptyTail, IsFilledTail}
 use Rattle.markdown_inlines.specs.LinkTails.{IsLinkTail}
@@ -171,72 +170,25 @@ module _ (most : ℕ) (bytes : List ℕ) (gap : ℕ) (opens : bytes ≡ 40 ∷ d
         ends = subst (λ p. IsTailEnd bytes p title len) (omega (arith, counted)) ends;
       }
 
--- A title after the destination that ends at a place.
-module _ (bytes : List ℕ) (place gap : ℕ) (gap_is : gap ≡ gap_length (take (length bytes - place) (drop place bytes))) where
-  -- what a scan of a title is given
-  abbrev from_title : List ℕ
-  from_title = take (length bytes - (place + gap)) (drop (place + gap) bytes)
+-- what closes the tail after a title
+pub titled_end : (bytes : List ℕ) (place : ℕ) (title : Range ℕ) (closing : ℕ) → IsSeparatedTitle bytes place title
+    → IsClosing (take (length bytes - (title.end + 1)) (drop (title.end + 1) bytes)) closing
+    → IsTitledEnd bytes place title (title.end + 1 + closing)
+titled_end bytes place title closing is closes = record {
+  closing = closing;
+  is_titled = is;
+  closes = subst (λ t. IsClosing t closing) (from_place bytes (title.end + 1)) closes;
+  len_is = refl;
+}
 
-  -- and what a scan of what closes the tail is given
-  abbrev from_end : ℕ → List ℕ
-  from_end taken = take (length bytes - (place + gap + taken)) (drop (place + gap + taken) bytes)
-
-  title_gap_is : gap ≡ gap_length (drop place bytes)
-  title_gap_is = gap_is ∙ ap gap_length (from_place bytes place)
-
-  title_rest_is : from_title ≡ drop gap (drop place bytes)
-  title_rest_is = from_place bytes (place + gap) ∙ sym (drop-drop gap place bytes)
-
-  end_is : (taken : ℕ) → from_end taken ≡ drop taken from_title
-  end_is taken =
-      from_place bytes (place + gap + taken)
-      ∙ (sym (drop-drop taken (place + gap) bytes) ∙ ap (drop taken) (sym (from_place bytes (place + gap))))
-
-  at_title : (title : Range ℕ) (len : ℕ) → (is : IsTitledEnd bytes place title len)
-      → (length is.gap ≡ gap) × (is.rest ≡ from_title)
-  at_title title len is =
-      let only = gap_only (drop place bytes) is.gap is.rest is.parts is.is_gap (title_solid is.rest is.taken is.is_title) in
-      (only.0 ∙ sym title_gap_is, only.1 ∙ (ap (λ k. drop k (drop place bytes)) (sym title_gap_is) ∙ sym title_rest_is))
-
-  pub no_gap : gap ≡ 0 → (title : Range ℕ) (len : ℕ) → ¬ IsTitledEnd bytes place title len
-  no_gap none title len is = absurd (omega (arith, none, (at_title title len is).0, is.separated))
-
-  pub no_title_there : ((n : ℕ) → ¬ IsLinkTitle from_title n) → (title : Range ℕ) (len : ℕ)
-      → ¬ IsTitledEnd bytes place title len
-  no_title_there none title len is =
-      none is.taken (subst (λ t. IsLinkTitle t is.taken) (at_title title len is).1 is.is_title)
-
-  pub not_closed : (taken : ℕ) → ((n : ℕ) → IsLinkTitle from_title n → n ≡ taken)
-      → ((n : ℕ) → ¬ IsClosing (from_end taken) n) → (title : Range ℕ) (len : ℕ)
-      → ¬ IsTitledEnd bytes place title len
-  not_closed taken only none title len is =
-      let rest = (at_title title len is).1 in
-      let same = only is.taken (subst (λ t. IsLinkTitle t is.taken) rest is.is_title) in
-      let here : drop is.taken is.rest ≡ from_end taken =
-      ap (λ k. drop k is.rest) same ∙ (ap (drop taken) rest ∙ sym (end_is taken)) in
-      none is.closing (subst (λ t. IsClosing t is.closing) here is.closes)
-
-  pub titled_end : (taken closing : ℕ) → 1 ≤ gap → gap ≤ length (take (length bytes - place) (drop place bytes))
-      → IsLinkTitle from_title taken → 2 ≤ taken → IsClosing (from_end taken) closing
-      → IsTitledEnd bytes place (record { start = place + gap + 1; end = place + gap + taken - 1 })
-      (place + gap + taken + closing)
-  titled_end taken closing some within is long closes =
-      let counted : length (take gap (drop place bytes)) ≡ gap =
-      omega (arith, length-take gap (drop place bytes), within, ap length (from_place bytes place)) in
-      record {
-        gap = take gap (drop place bytes);
-        rest = from_title;
-        taken = taken;
-        closing = closing;
-        parts = sym (take-append-drop gap (drop place bytes)) ∙ ap (λ t. take gap (drop place bytes) ++ t) (sym title_rest_is);
-        is_gap = gap_there (drop place bytes) gap title_gap_is;
-        separated = omega (arith, some, counted);
-        is_title = is;
-        closes = subst (λ t. IsClosing t closing) (end_is taken) closes;
-        title_begins = omega (arith, counted);
-        title_ends = omega (arith, counted, long);
-        len_is = omega (arith, long);
-      }
+pub not_closed : (bytes : List ℕ) (place : ℕ) (title : Range ℕ)
+    → ((other : Range ℕ) → IsSeparatedTitle bytes place other → other ≡ title)
+    → ((n : ℕ) → ¬ IsClosing (take (length bytes - (title.end + 1)) (drop (title.end + 1) bytes)) n)
+    → (r : Range ℕ × ℕ) → ¬ IsTitledEnd bytes place r.0 r.1
+not_closed bytes place title only none r is =
+    let here : drop (r.0.end + 1) bytes ≡ take (length bytes - (title.end + 1)) (drop (title.end + 1) bytes) =
+    ap (λ (t : Range ℕ). drop (t.end + 1) bytes) (only r.0 is.is_titled) ∙ sym (from_place bytes (title.end + 1)) in
+    none is.closing (subst (λ t. IsClosing t is.closing) here is.closes)
 
 -- no title, and what closes the tail at a place
 pub untitled_end : (bytes : List ℕ) (place closing : ℕ) → IsClosing (take (length bytes - place) (drop place bytes)) closing

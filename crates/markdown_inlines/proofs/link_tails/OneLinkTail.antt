@@ -3,10 +3,10 @@ use Rattle.std.proofs.Common.{◌≡◌, ℕ, ◌+◌, List, ◌∷◌, drop, le
 use Rattle.std.proofs.Common.{Some, None}
 use Rattle.std.specs.declared.ops.Range.{Range}
 use Rattle.markdown_scanners_tree.specs.scanners.links.LinkDestination.{IsLinkDestination}
-use Rattle.markdown_scanners_tree.specs.scanners.titles.LinkTitle.{IsLinkTitle, closing_of}
+use Rattle.markdown_scanners_tree.specs.scanners.titles.LinkTitle.{closing_of}
 use Rattle.markdown_scanners_tree.specs.scanners.reference_definitions.ReferenceDefinition.{bracket_count}
 use Rattle.markdown_scanners_tree.specs.scanners.reference_definitions.private.GapLength.{gap_length}
-use Rattle.markdown_scanners_tree.proofs.ForCallers.{one_destination, one_title, one_gap, destination_solid, title_solid}
+use Rattle.markdown_scanners_tree.proofs.ForCallers.{one_destination, one_separated_title, one_gap, destination_solid, title_solid}
 use Rattle.markdown_inlines.specs.LinkTails.{IsClosing, IsTitledEnd, IsTailEnd, IsEmptyTail, IsFilledTail, IsLinkTail}
 use Rattle.markdown_inlines.specs.declared.link_tails.LinkTail.{LinkTail}
 use Rattle.markdown_inlines.proofs.link_tails.LinkTailLemmas.{closing_only, closing_solid, no_destination}
@@ -24,29 +24,25 @@ one_closing text n n' is is' =
 one_titled_end : (text : List ℕ) (place : ℕ) (title : Range ℕ) (len : ℕ) (title' : Range ℕ) (len' : ℕ)
     → IsTitledEnd text place title len → IsTitledEnd text place title' len' → (title ≡ title') × (len ≡ len')
 one_titled_end text place title len title' len' is is' =
-    let gap =
-    one_gap (drop place text) is.gap is.rest is'.gap is'.rest is.parts is'.parts is.is_gap is'.is_gap
-    (title_solid is.rest is.taken is.is_title) (title_solid is'.rest is'.taken is'.is_title) in
-    let taken =
-    one_title is.rest is.taken is'.taken is.is_title (subst (λ t. IsLinkTitle t is'.taken) (sym gap.1) is'.is_title) in
-    let further : drop is.taken is.rest ≡ drop is'.taken is'.rest =
-    ap (λ k. drop k is.rest) taken ∙ ap (drop is'.taken) gap.1 in
+    let same = one_separated_title text place title title' is.is_titled is'.is_titled in
+    let end : title.end ≡ title'.end = ap (λ (t : Range ℕ). t.end) same in
     let closing =
-    one_closing (drop is.taken is.rest) is.closing is'.closing is.closes
-    (subst (λ t. IsClosing t is'.closing) (sym further) is'.closes) in
-    let end : title.end ≡ title'.end = omega (arith, is.title_ends, is'.title_ends, gap.0, taken) in
-    (same_range (omega (arith, is.title_begins, is'.title_begins, gap.0)) end, omega (arith, is.len_is, is'.len_is, end, closing))
+    one_closing (drop (title.end + 1) text) is.closing is'.closing is.closes
+    (subst (λ n. IsClosing (drop (n + 1) text) is'.closing) (sym end) is'.closes) in
+    (same, omega (arith, is.len_is, is'.len_is, end, closing))
 
 -- a title does not begin with what closes the tail
 closes_no_title : (text : List ℕ) (place : ℕ) (title : Range ℕ) (len n : ℕ) → IsTitledEnd text place title len
     → IsClosing (drop place text) n → ⊥
 closes_no_title text place title len n is closes =
+    let titled = is.is_titled in
     let gap =
-    one_gap (drop place text) is.gap is.rest closes.gap (41 ∷ closes.rest) is.parts closes.parts is.is_gap closes.is_gap
-    (title_solid is.rest is.taken is.is_title) (closing_solid closes.rest) in
-    let front : is.is_title.opening ∷ is.is_title.after ≡ 41 ∷ closes.rest = sym is.is_title.opens ∙ gap.1 in
-    let byte : is.is_title.opening ≡ 41 = cc in
-    let none : None ≡ Some is.is_title.closing = subst (λ b. closing_of b ≡ Some is.is_title.closing) byte is.is_title.matching in
+    one_gap (drop place text) titled.gap titled.rest closes.gap (41 ∷ closes.rest) titled.parts closes.parts titled.is_gap
+    closes.is_gap (title_solid titled.rest titled.taken titled.is_title) (closing_solid closes.rest) in
+    let front : titled.is_title.opening ∷ titled.is_title.after ≡ 41 ∷ closes.rest = sym titled.is_title.opens ∙ gap.1 in
+    let byte : titled.is_title.opening ≡ 41 = cc in
+    let none : None ≡ Some titled.is_title.closing =
+    subst (λ b. closing_of b ≡ Some titled.is_title.closing) byte titled.is_title.matching in
     cc
 
 one_tail_end : (text : List ℕ) (place : ℕ) (title title' : Option (Range ℕ)) (len len' : ℕ) → IsTailEnd text place title len

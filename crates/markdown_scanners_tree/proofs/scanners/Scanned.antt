@@ -12,7 +12,7 @@ pub use Rattle.markdown_scanners_tree.proofs.scanners.links.LinkLemmas.{one_uri,
 pub use Rattle.markdown_scanners_tree.proofs.scanners.links.OneDestination.{one_destination}
 pub use Rattle.markdown_scanners_tree.proofs.scanners.list_items.OneItem.{one_item}
 pub use Rattle.markdown_scanners_tree.proofs.scanners.metadata.OneMetadata.{one_metadata_block, one_closing_metadata}
-pub use Rattle.markdown_scanners_tree.proofs.scanners.reference_definitions.OneDefinition.{one_reference_definition}
+pub use Rattle.markdown_scanners_tree.proofs.scanners.reference_definitions.OneDefinition.{one_reference_definition, one_separated_title}
 pub use Rattle.markdown_scanners_tree.proofs.scanners.tables.OneRow.{one_row}
 pub use Rattle.markdown_scanners_tree.proofs.scanners.titles.OneTitle.{one_title}
 pub use Rattle.markdown_scanners_tree.proofs.scanners.unescaping.PieceLemmas.{same_pieces}

@@ -6,7 +6,7 @@ ghost use Rattle.std.specs.Str.{IsUtf8, IsCharBoundary};
 ghost use Rattle.markdown_scanners_tree.specs.SomeExactly.{SomeExactly, IsOnly};
 ghost use Rattle.markdown_scanners_tree.specs.scanners.links.FoundDestination.{IsDestination, RawTextStandsIn, with_raw_text};
 ghost use Rattle.markdown_scanners_tree.specs.scanners.reference_definitions.FoundDefinition.{PartsStandIn};
-ghost use Rattle.markdown_scanners_tree.specs.scanners.reference_definitions.ReferenceDefinition.{IsReferenceDefinition, IsLabelWithColon, IsTarget, IsTitleLine, IsEnd, IsRestOfLine, IsCutAt};
+ghost use Rattle.markdown_scanners_tree.specs.scanners.reference_definitions.ReferenceDefinition.{IsReferenceDefinition, IsLabelWithColon, IsTarget, IsSeparatedTitle, IsTitleLine, IsEnd, IsRestOfLine, IsCutAt};
 ghost use Rattle.markdown_scanners_tree.specs.scanners.reference_definitions.private.GapLength.{gap_length};
 
 use crate::linklabel::label_len;
@@ -194,13 +194,37 @@ fn scan_title_line(bytes: &[u8], place: usize) -> Option<(Range<usize>, usize)>
     ensures behind { IfSome result (λ r. IsUtf8 bytes.now → IsCharBoundary bytes.now place
         → IsCharBoundary bytes.now r.1) }
 {
-    let start = place + gap_len(&bytes[place..]);
-    if start == place {
+    let title = scan_separated_title(bytes, place)?;
+    let end = title.end + 1;
+    let ending = scan_rest_of_line(&bytes[end..])?;
+    Some((title, end + ending))
+}
+
+/// Where the raw text of the link title stands that follows the offset after a gap: spaces, tabs and
+/// up to one line ending, of which there is at least one. The byte that closes the title stands at
+/// the end of its raw text. (CommonMark 0.31.2, sections 4.7 and 6.3)
+pub fn scan_separated_title(bytes: &[u8], offset: usize) -> Option<Range<usize>>
+    requires { offset ≤ length bytes.now }
+
+    // The one title that stands there is answered.
+    ensures found { SomeExactly (IsSeparatedTitle bytes.now offset) result }
+    ensures only { IsOnly (IsSeparatedTitle bytes.now offset) result }
+    ensures within { IfSome result (λ title. (offset < title.start) × (title.start ≤ title.end)
+        × (title.end < length bytes.now)) }
+
+    // A text that may be cut at the offset may be so where the title's raw text begins and ends, and
+    // after the byte that closes it.
+    ensures title_cut { IfSome result (λ title. IsUtf8 bytes.now
+        → IsCharBoundary bytes.now offset → IsCutAt bytes.now title) }
+    ensures after { IfSome result (λ title. IsUtf8 bytes.now
+        → IsCharBoundary bytes.now offset → IsCharBoundary bytes.now (title.end + 1)) }
+{
+    let start = offset + gap_len(&bytes[offset..]);
+    if start == offset {
         return None;
     }
-    let end = start + scan_link_title(&bytes[start..])?;
-    let ending = scan_rest_of_line(&bytes[end..])?;
-    Some((start + 1..end - 1, end + ending))
+    let taken = scan_link_title(&bytes[start..])?;
+    Some(start + 1..start + taken - 1)
 }
 
 // The length of the spaces and tabs at the front, including up to one line ending.

@@ -11,8 +11,8 @@ use markdown_scanners_tree::scanners::{
     HtmlBlockKind, ends_html_block, scan_autolink, scan_autolink_bytes, scan_entity,
     scan_html_block_start, scan_html_type_7, scan_link_dest, scan_link_dest_ahead,
     scan_link_dest_bytes, scan_link_title, scan_reference_definition,
-    scan_reference_definition_ahead, scan_table_head, scan_wikilink_pipe, scan_wikilink_pipe_bytes,
-    starts_html_block_type_6,
+    scan_reference_definition_ahead, scan_separated_title, scan_table_head, scan_wikilink_pipe,
+    scan_wikilink_pipe_bytes, starts_html_block_type_6,
 };
 use std::alloc::Global;
 use std::io::Stdout;
@@ -71,10 +71,11 @@ fn links_of_bytes(output: Stdout) -> Result<(), Stop> {
 }
 
 fn reference_definitions(output: Stdout) -> Result<(), Stop> {
-    print_two(
+    print_three(
         output,
         scan_reference_definition(b"[a]: <b>\n'c'\n", 1),
         scan_reference_definition(b"[a]: b 'c' d", 1),
+        scan_separated_title(b"a \n'b'", 1),
     )
 }
 

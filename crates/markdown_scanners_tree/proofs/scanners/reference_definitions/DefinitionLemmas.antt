@@ -11,7 +11,7 @@ use Rattle.markdown_scanners_tree.specs.linklabel.Length.{IsLabelLength}
 use Rattle.markdown_scanners_tree.specs.scanners.html_kinds.HtmlKinds.{begins_with_text}
 use Rattle.markdown_scanners_tree.specs.scanners.links.LinkDestination.{IsLinkDestination, StandsInside}
 use Rattle.markdown_scanners_tree.specs.scanners.titles.LinkTitle.{IsLinkTitle}
-use Rattle.markdown_scanners_tree.specs.scanners.reference_definitions.ReferenceDefinition.{IsRestOfLine, IsLabelWithColon, bracket_count, IsTarget, IsTitleLine, IsEnd, IsUntitled, IsCutAt}
+use Rattle.markdown_scanners_tree.specs.scanners.reference_definitions.ReferenceDefinition.{IsRestOfLine, IsLabelWithColon, bracket_count, IsTarget, IsSeparatedTitle, IsTitleLine, IsEnd, IsUntitled, IsCutAt}
 use Rattle.markdown_scanners_tree.specs.scanners.reference_definitions.private.GapLength.{gap_length}
 use Rattle.markdown_scanners_tree.proofs.PrefixLemmas.{both_true, from_place}
 use Rattle.markdown_scanners_tree.proofs.scanners.links.LinkLemmas.{cut_before, cut_behind}
@@ -184,72 +184,67 @@ module _ (most : ℕ) (bytes : List ℕ) (named gap : ℕ) (is_named : IsLabelWi
         destination_ends = omega (arith, place.1);
       }
 
--- A title after the destination that ends at a place.
-module _ (bytes : List ℕ) (place gap : ℕ) (gap_is : gap ≡ gap_length (take (length bytes - place) (drop place bytes))) where
+-- A title after the gap at an offset.
+module _ (bytes : List ℕ) (offset gap : ℕ) (gap_is : gap ≡ gap_length (take (length bytes - offset) (drop offset bytes))) where
   -- what a scan of a title is given
   abbrev from_title : List ℕ
-  from_title = take (length bytes - (place + gap)) (drop (place + gap) bytes)
+  from_title = take (length bytes - (offset + gap)) (drop (offset + gap) bytes)
 
-  -- and what a scan of the rest of its line is given
-  abbrev from_end : ℕ → List ℕ
-  from_end taken = take (length bytes - (place + gap + taken)) (drop (place + gap + taken) bytes)
+  gap_length_is' : gap ≡ gap_length (drop offset bytes)
+  gap_length_is' = gap_is ∙ ap gap_length (from_place bytes offset)
 
-  gap_length_is' : gap ≡ gap_length (drop place bytes)
-  gap_length_is' = gap_is ∙ ap gap_length (from_place bytes place)
+  title_rest_is : from_title ≡ drop gap (drop offset bytes)
+  title_rest_is = from_place bytes (offset + gap) ∙ sym (drop-drop gap offset bytes)
 
-  title_rest_is : from_title ≡ drop gap (drop place bytes)
-  title_rest_is = from_place bytes (place + gap) ∙ sym (drop-drop gap place bytes)
+  at_title : (title : Range ℕ) → (is : IsSeparatedTitle bytes offset title) → (length is.gap ≡ gap) × (is.rest ≡ from_title)
+  at_title title is =
+      let only = gap_only (drop offset bytes) is.gap is.rest is.parts is.is_gap (title_solid is.rest is.taken is.is_title) in
+      (only.0 ∙ sym gap_length_is', only.1 ∙ (ap (λ k. drop k (drop offset bytes)) (sym gap_length_is') ∙ sym title_rest_is))
 
-  end_is : (taken : ℕ) → from_end taken ≡ drop taken from_title
-  end_is taken =
-      from_place bytes (place + gap + taken)
-      ∙ (sym (drop-drop taken (place + gap) bytes) ∙ ap (drop taken) (sym (from_place bytes (place + gap))))
+  pub no_gap : gap ≡ 0 → (title : Range ℕ) → ¬ IsSeparatedTitle bytes offset title
+  no_gap none title is = absurd (omega (arith, none, (at_title title is).0, is.separated))
 
-  at_title : (title : Range ℕ) (len : ℕ) → (is : IsTitleLine bytes place title len)
-      → (length is.gap ≡ gap) × (is.rest ≡ from_title)
-  at_title title len is =
-      let only = gap_only (drop place bytes) is.gap is.rest is.parts is.is_gap (title_solid is.rest is.taken is.is_title) in
-      (only.0 ∙ sym gap_length_is', only.1 ∙ (ap (λ k. drop k (drop place bytes)) (sym gap_length_is') ∙ sym title_rest_is))
+  pub no_title_there : ((n : ℕ) → ¬ IsLinkTitle from_title n) → (title : Range ℕ) → ¬ IsSeparatedTitle bytes offset title
+  no_title_there none title is =
+      none is.taken (subst (λ t. IsLinkTitle t is.taken) (at_title title is).1 is.is_title)
 
-  pub no_gap : gap ≡ 0 → (title : Range ℕ) (len : ℕ) → ¬ IsTitleLine bytes place title len
-  no_gap none title len is = absurd (omega (arith, none, (at_title title len is).0, is.separated))
-
-  pub no_title_there : ((n : ℕ) → ¬ IsLinkTitle from_title n) → (title : Range ℕ) (len : ℕ)
-      → ¬ IsTitleLine bytes place title len
-  no_title_there none title len is =
-      none is.taken (subst (λ t. IsLinkTitle t is.taken) (at_title title len is).1 is.is_title)
-
-  pub something_further : (taken : ℕ) → ((n : ℕ) → IsLinkTitle from_title n → n ≡ taken)
-      → ((n : ℕ) → ¬ IsRestOfLine (from_end taken) n) → (title : Range ℕ) (len : ℕ)
-      → ¬ IsTitleLine bytes place title len
-  something_further taken only none title len is =
-      let rest = (at_title title len is).1 in
-      let same = only is.taken (subst (λ t. IsLinkTitle t is.taken) rest is.is_title) in
-      let here : drop is.taken is.rest ≡ from_end taken =
-      ap (λ k. drop k is.rest) same ∙ (ap (drop taken) rest ∙ sym (end_is taken)) in
-      none is.ending (subst (λ t. IsRestOfLine t is.ending) here is.nothing_further)
-
-  pub title_line : (taken ending : ℕ) → 1 ≤ gap → gap ≤ length (take (length bytes - place) (drop place bytes))
-      → IsLinkTitle from_title taken → 2 ≤ taken → IsRestOfLine (from_end taken) ending
-      → IsTitleLine bytes place (record { start = place + gap + 1; end = place + gap + taken - 1 })
-      (place + gap + taken + ending)
-  title_line taken ending some within is long further =
-      let counted : length (take gap (drop place bytes)) ≡ gap =
-      omega (arith, length-take gap (drop place bytes), within, ap length (from_place bytes place)) in
+  pub title_found : (taken : ℕ) → 1 ≤ gap → gap ≤ length (take (length bytes - offset) (drop offset bytes))
+      → IsLinkTitle from_title taken → 2 ≤ taken
+      → IsSeparatedTitle bytes offset (record { start = offset + gap + 1; end = offset + gap + taken - 1 })
+  title_found taken some within is long =
+      let counted : length (take gap (drop offset bytes)) ≡ gap =
+      omega (arith, length-take gap (drop offset bytes), within, ap length (from_place bytes offset)) in
       record {
-        gap = take gap (drop place bytes);
+        gap = take gap (drop offset bytes);
         rest = from_title;
         taken = taken;
-        ending = ending;
-        parts = sym (take-append-drop gap (drop place bytes)) ∙ ap (λ t. take gap (drop place bytes) ++ t) (sym title_rest_is);
-        is_gap = gap_there (drop place bytes) gap gap_length_is';
+        parts = sym (take-append-drop gap (drop offset bytes)) ∙ ap (λ t. take gap (drop offset bytes) ++ t) (sym title_rest_is);
+        is_gap = gap_there (drop offset bytes) gap gap_length_is';
         separated = omega (arith, some, counted);
         is_title = is;
-        nothing_further = subst (λ t. IsRestOfLine t ending) (end_is taken) further;
         title_begins = omega (arith, counted);
         title_ends = omega (arith, counted, long);
-        len_is = omega (arith, long);
       }
+
+-- the rest of the line after a title
+pub title_line : (bytes : List ℕ) (place : ℕ) (title : Range ℕ) (ending : ℕ) → IsSeparatedTitle bytes place title
+    → IsRestOfLine (take (length bytes - (title.end + 1)) (drop (title.end + 1) bytes)) ending
+    → IsTitleLine bytes place title (title.end + 1 + ending)
+title_line bytes place title ending is further = record {
+  ending = ending;
+  is_titled = is;
+  nothing_further = subst (λ t. IsRestOfLine t ending) (from_place bytes (title.end + 1)) further;
+  len_is = refl;
+}
+
+pub something_further : (bytes : List ℕ) (place : ℕ) (title : Range ℕ)
+    → ((other : Range ℕ) → IsSeparatedTitle bytes place other → other ≡ title)
+    → ((n : ℕ) → ¬ IsRestOfLine (take (length bytes - (title.end + 1)) (drop (title.end + 1) bytes)) n)
+    → (r : Range ℕ × ℕ) → ¬ IsTitleLine bytes place r.0 r.1
+something_further bytes place title only none r is =
+    let here : drop (r.0.end + 1) bytes ≡ take (length bytes - (title.end + 1)) (drop (title.end + 1) bytes) =
+    ap (λ (t : Range ℕ). drop (t.end + 1) bytes) (only r.0 is.is_titled) ∙ sym (from_place bytes (title.end + 1)) in
+    none is.ending (subst (λ t. IsRestOfLine t is.ending) here is.nothing_further)
 
 -- no title, and the rest of a line from a place on
 pub untitled : (bytes : List ℕ) (place ending : ℕ) → ((r : Range ℕ × ℕ) → ¬ IsTitleLine bytes place r.0 r.1)

@@ -5,7 +5,7 @@ use Rattle.markdown_scanners_tree.specs.declared.scanners.reference_definitions.
 use Rattle.markdown_scanners_tree.specs.linklabel.Length.{IsLabelLength}
 use Rattle.markdown_scanners_tree.specs.scanners.links.LinkDestination.{IsLinkDestination}
 use Rattle.markdown_scanners_tree.specs.scanners.titles.LinkTitle.{IsLinkTitle}
-use Rattle.markdown_scanners_tree.specs.scanners.reference_definitions.ReferenceDefinition.{IsRestOfLine, IsLabelWithColon, bracket_count, IsTarget, IsTitleLine, IsEnd, IsReferenceDefinition}
+use Rattle.markdown_scanners_tree.specs.scanners.reference_definitions.ReferenceDefinition.{IsRestOfLine, IsLabelWithColon, bracket_count, IsTarget, IsSeparatedTitle, IsTitleLine, IsEnd, IsReferenceDefinition}
 use Rattle.markdown_scanners_tree.proofs.linklabel.LabelLengths.{one_label_length}
 use Rattle.markdown_scanners_tree.proofs.scanners.links.OneDestination.{one_destination}
 use Rattle.markdown_scanners_tree.proofs.scanners.titles.OneTitle.{one_title}
@@ -44,21 +44,26 @@ one_target most text label destination place label' destination' place' is is' =
       same,
     )
 
-pub one_title_line : (text : List ℕ) (place : ℕ) (title : Range ℕ) (len : ℕ) (title' : Range ℕ) (len' : ℕ)
-    → IsTitleLine text place title len → IsTitleLine text place title' len' → (title ≡ title') × (len ≡ len')
-one_title_line text place title len title' len' is is' =
+pub one_separated_title : (text : List ℕ) (offset : ℕ) (title title' : Range ℕ) → IsSeparatedTitle text offset title
+    → IsSeparatedTitle text offset title' → title ≡ title'
+one_separated_title text offset title title' is is' =
     let gap =
-    one_gap (drop place text) is.gap is.rest is'.gap is'.rest is.parts is'.parts is.is_gap is'.is_gap
+    one_gap (drop offset text) is.gap is.rest is'.gap is'.rest is.parts is'.parts is.is_gap is'.is_gap
     (title_solid is.rest is.taken is.is_title) (title_solid is'.rest is'.taken is'.is_title) in
     let taken =
     one_title is.rest is.taken is'.taken is.is_title (subst (λ t. IsLinkTitle t is'.taken) (sym gap.1) is'.is_title) in
-    let further : drop is.taken is.rest ≡ drop is'.taken is'.rest =
-    ap (λ k. drop k is.rest) taken ∙ ap (drop is'.taken) gap.1 in
+    same_range (omega (arith, is.title_begins, is'.title_begins, gap.0))
+    (omega (arith, is.title_ends, is'.title_ends, gap.0, taken))
+
+pub one_title_line : (text : List ℕ) (place : ℕ) (title : Range ℕ) (len : ℕ) (title' : Range ℕ) (len' : ℕ)
+    → IsTitleLine text place title len → IsTitleLine text place title' len' → (title ≡ title') × (len ≡ len')
+one_title_line text place title len title' len' is is' =
+    let same = one_separated_title text place title title' is.is_titled is'.is_titled in
+    let end : title.end ≡ title'.end = ap (λ (t : Range ℕ). t.end) same in
     let ending =
-    one_rest_of_line (drop is.taken is.rest) is.ending is'.ending is.nothing_further
-    (subst (λ t. IsRestOfLine t is'.ending) (sym further) is'.nothing_further) in
-    let end : title.end ≡ title'.end = omega (arith, is.title_ends, is'.title_ends, gap.0, taken) in
-    (same_range (omega (arith, is.title_begins, is'.title_begins, gap.0)) end, omega (arith, is.len_is, is'.len_is, end, ending))
+    one_rest_of_line (drop (title.end + 1) text) is.ending is'.ending is.nothing_further
+    (subst (λ n. IsRestOfLine (drop (n + 1) text) is'.ending) (sym end) is'.nothing_further) in
+    (same, omega (arith, is.len_is, is'.len_is, end, ending))
 
 pub one_end : (text : List ℕ) (place : ℕ) (title title' : Option (Range ℕ)) (len len' : ℕ) → IsEnd text place title len
     → IsEnd text place title' len' → (title ≡ title') × (len ≡ len')

@@ -109,33 +109,37 @@ titled_row = record {
     destination_ends = refl;
   };
   ends = record {
-    gap = line_feed ∷ [];
-    rest = codes "'c" ++ line_feed ∷ codes "' " ++ line_feed ∷ codes "d";
-    taken = 4;
     ending = 2;
-    parts = refl;
-    is_gap = record {
-      before = [];
-      ending = line_feed ∷ [];
-      after = [];
+    is_titled = record {
+      gap = line_feed ∷ [];
+      rest = codes "'c" ++ line_feed ∷ codes "' " ++ line_feed ∷ codes "d";
+      taken = 4;
       parts = refl;
-      spaces_before = refl;
-      up_to_one_ending = refl;
-      spaces_after = refl;
-    };
-    separated = omega arith;
-    is_title = record {
-      opening = 39;
-      closing = 39;
-      after = codes "c" ++ line_feed ∷ codes "' " ++ line_feed ∷ codes "d";
-      inner = codes "c" ∷ (line_feed ∷ []) ∷ [];
-      more = codes " " ∷ (line_feed ∷ []) ∷ codes "d" ∷ [];
-      opens = refl;
-      matching = refl;
-      splits = refl;
-      each_stands = refl;
-      n_is_length = refl;
-      no_blank_line = refl;
+      is_gap = record {
+        before = [];
+        ending = line_feed ∷ [];
+        after = [];
+        parts = refl;
+        spaces_before = refl;
+        up_to_one_ending = refl;
+        spaces_after = refl;
+      };
+      separated = omega arith;
+      is_title = record {
+        opening = 39;
+        closing = 39;
+        after = codes "c" ++ line_feed ∷ codes "' " ++ line_feed ∷ codes "d";
+        inner = codes "c" ∷ (line_feed ∷ []) ∷ [];
+        more = codes " " ∷ (line_feed ∷ []) ∷ codes "d" ∷ [];
+        opens = refl;
+        matching = refl;
+        splits = refl;
+        each_stands = refl;
+        n_is_length = refl;
+        no_blank_line = refl;
+      };
+      title_begins = refl;
+      title_ends = refl;
     };
     nothing_further = record {
       spaces = codes " ";
@@ -146,8 +150,6 @@ titled_row = record {
       ends = refl;
       counted = refl;
     };
-    title_begins = refl;
-    title_ends = refl;
     len_is = refl;
   };
 }

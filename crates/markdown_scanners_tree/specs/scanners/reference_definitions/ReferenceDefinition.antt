@@ -65,20 +65,24 @@ pub record IsTarget (most : ℕ) (text : List ℕ) (label destination : Range �
   pub destination_begins : destination.start ≡ named + length gap + bracket_count rest
   pub destination_ends : destination.end + bracket_count rest ≡ place
 
--- From the place on stand a gap, which is not empty, and a link title, with no further character in its line: `len`
--- bytes of the text up to there. The title's own bytes stand between the two around it.
-pub record IsTitleLine (text : List ℕ) (place : ℕ) (title : Range ℕ) (len : ℕ) : Type 0 where
+-- From the offset on stand a gap, which is not empty, and a link title, whose own bytes stand between the two around it.
+pub record IsSeparatedTitle (text : List ℕ) (offset : ℕ) (title : Range ℕ) : Type 0 where
   pub gap : List ℕ
   pub rest : List ℕ
   pub taken : ℕ
-  pub ending : ℕ
-  pub parts : drop place text ≡ gap ++ rest
+  pub parts : drop offset text ≡ gap ++ rest
   pub is_gap : IsGap gap
   pub separated : 1 ≤ length gap
   pub is_title : IsLinkTitle rest taken
-  pub nothing_further : IsRestOfLine (drop taken rest) ending
-  pub title_begins : title.start ≡ place + length gap + 1
-  pub title_ends : title.end + 1 ≡ place + length gap + taken
+  pub title_begins : title.start ≡ offset + length gap + 1
+  pub title_ends : title.end + 1 ≡ offset + length gap + taken
+
+-- From the place on stand a gap and a link title, with no further character in its line: `len` bytes of the text up to
+-- there.
+pub record IsTitleLine (text : List ℕ) (place : ℕ) (title : Range ℕ) (len : ℕ) : Type 0 where
+  pub ending : ℕ
+  pub is_titled : IsSeparatedTitle text place title
+  pub nothing_further : IsRestOfLine (drop (title.end + 1) text) ending
   pub len_is : len ≡ title.end + 1 + ending
 
 -- No further character occurs from the place on, and no title belongs to the definition: none stands in the next line
