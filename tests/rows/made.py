@@ -114,5 +114,8 @@ def names():
 
 
 # The rows by the names under which they are counted, and the files that some are run with.
-MADE = {"answers": answers, "stored": stored, "definitions_made": definitions, "references": references, "large": large, "names": names, COMMONMARK.stem: of_specification}
+MADE = {
+    "answers": answers, "stored": stored, "definitions_made": definitions, "references": references, "large": large, "names": names,
+    COMMONMARK.stem: of_specification,
+}
 FILES = {"names": {ODD: b"|a|\n|-|\n[a](gone)\n"}}
