@@ -1,3 +1,4 @@
+pub mod AddedLemmas
 pub mod CellLemmas
 pub mod RowLemmas
 pub mod TableCuts

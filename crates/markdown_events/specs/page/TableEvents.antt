@@ -60,7 +60,11 @@ pub record AreTableEvents (page : List ℕ) (setting : EventSetting) (here : Pla
   pub are_rows : AreRowEvents setting columns block.start true (rows_of here.kept here.containers (lines_in_page page block)) rows
   pub are_events : events ≡ element (table alignments) block.place (block_end block) rows
 
--- no row ends after this place of the page, where so many bytes of it stand before the lines of the table
+-- The new events are the old ones and, after these, others of which this holds.
+abbrev pub Adds : (List RangedEvent → Type 0) → List RangedEvent → List RangedEvent → Type 0
+Adds Holds old new = (added : List RangedEvent) × Holds added × (new ≡ old ++ added)
+
+-- no row ends after this offset in the page, where so many bytes of it stand before the lines of the table
 abbrev pub RowsEndBy : ℕ → ℕ → List TextAt → Type 0
 RowsEndBy before to [] = ⊤
 RowsEndBy before to (row ∷ later) = (before + row.place + length row.text ≤ to) × RowsEndBy before to later

@@ -1,6 +1,6 @@
 -- The cells that a row shows, and their contents, stand in the row.
 use Rattle.std.proofs.Common.{ℕ, zero, suc, ◌+◌, ◌-◌, ◌^◌, ◌<◌, ◌≤◌, ◌≡◌, Bool, true, false, List, [], ◌∷◌, ◌++◌, length, map}
-use Rattle.std.proofs.Common.{ap, sym, subst, ◌∙◌, append-nil, append_assoc, arith, refl}
+use Rattle.std.proofs.Common.{ap, sym, subst, ◌∙◌, append-nil, arith, refl}
 use Rattle.std.specs.Prelude.{⊤}
 use Rattle.std.specs.List.{AllByRecursion}
 use Rattle.std.specs.Str.{IsCharBoundary, IsUtf8}
@@ -9,11 +9,16 @@ use Rattle.markdown_blocks.specs.cells.Cells.{AreBetween, cells_of}
 use Rattle.markdown_blocks.specs.content.Bytes.{AreBytesOf}
 use Rattle.markdown_blocks.specs.cells.Contents.{bytes_of_cell, content_of_cell, escapes_pipe, unescaped, unescaped_places}
 use Rattle.markdown_blocks.specs.declared.cells.Cell.{Cell}
-use Rattle.markdown_blocks.proofs.ForCallers.{DoNotFall, IsCellCut, cells_cut, row_cut}
-use Rattle.markdown_events.specs.InlineEvents.{AreInlineEvents, EventSetting, RangedEvent}
+use Rattle.markdown_blocks.proofs.ForCallers.{DoNotFall, IsCellCut, cell_bytes, cells_cut, row_cut}
+use Rattle.markdown_events.specs.EventLaws.{LieIn}
+use Rattle.markdown_events.specs.InlineEvents.{EventSetting, RangedEvent}
 use Rattle.markdown_events.specs.page.LeafContent.{CanPlace}
 use Rattle.markdown_events.specs.page.Places.{element, placed}
 use Rattle.markdown_events.specs.page.TableEvents.{AreCellEvents, row_len, shown_cells}
+use Rattle.markdown_events.proofs.inline_events.Filled.{filled_rise}
+use Rattle.markdown_events.proofs.inline_events.Laws.{events_filled}
+use Rattle.markdown_events.proofs.page.leaf_content.PlaceLemmas.{events_within, placed_lie}
+use Rattle.markdown_events.proofs.page.leaf_events.RangeLaws.{element_lies, lie_before}
 
 -- each of the cells begins before it ends, and ends within so many bytes
 abbrev pub StandWithin : ℕ → List Cell → Type 0
@@ -96,17 +101,30 @@ cell_can_place before row cell fits stand = record {
   begins = omega (arith, fits);
 }
 
--- ---- events of cells, one after the other
+-- ---- events of cells
+
+-- they lie in the row
+pub cells_lie : (setting : EventSetting) (before : ℕ) (text : List ℕ) (cells : List Cell) (events : List RangedEvent) → StandWithin (length text) cells
+    → AreCellEvents setting before text cells events → LieIn before (before + length text) events
+cells_lie setting before text [] events stand is = subst (LieIn before (before + length text)) (sym is) tt
+cells_lie setting before text (cell ∷ later) events stand (inlines, rest, are, are_rest, is) =
+    let to = before + length text in
+    let content = content_of_cell text cell in
+    let inner = map (placed before content.places) inlines in
+    let within = events_within content.text inlines (filled_rise (length content.text ∷ []) 0 inlines (events_filled content.text setting inlines are)) in
+    let lie = placed_lie before (length text) text content (omega arith) (cell_sizes text cell) (cell_bytes text cell) (cell_rises text cell) inlines within in
+    subst (LieIn before to) (sym is)
+    (lie_before before to (element table_cell (before + cell.start) (before + cell.end) inner) rest
+    (element_lies table_cell before to (before + cell.start) (before + cell.end) inner (omega arith) (omega (arith, stand.0)) (omega (arith, stand.1)) lie)
+    (cells_lie setting before text later rest stand.2 are_rest))
 
 -- before the first
-pub cells_begin : (setting : EventSetting) (before : ℕ) (text : List ℕ) (columns end : ℕ) (cells : List Cell) (events : List RangedEvent)
-    → end ≡ row_len text → cells ≡ cells_of text → events ≡ [] → (later : List RangedEvent)
-    → AreCellEvents setting before text (shown_cells columns end cells) later
-    → AreCellEvents setting before text (shown_cells columns (row_len text) (cells_of text)) (events ++ later)
-cells_begin setting before text columns end cells events end_is cells_are none later are =
-    subst (λ (es : List RangedEvent). AreCellEvents setting before text (shown_cells columns (row_len text) (cells_of text)) (es ++ later)) (sym none)
-    (subst (λ (cs : List Cell). AreCellEvents setting before text (shown_cells columns (row_len text) cs) later) cells_are
-    (subst (λ n. AreCellEvents setting before text (shown_cells columns n cells) later) end_is are))
+pub cells_begin : (setting : EventSetting) (before : ℕ) (text : List ℕ) (columns end : ℕ) (cells : List Cell) → end ≡ row_len text
+    → cells ≡ cells_of text → (later : List RangedEvent) → AreCellEvents setting before text (shown_cells columns end cells) later
+    → AreCellEvents setting before text (shown_cells columns (row_len text) (cells_of text)) later
+cells_begin setting before text columns end cells end_is cells_are later are =
+    subst (λ (cs : List Cell). AreCellEvents setting before text (shown_cells columns (row_len text) cs) later) cells_are
+    (subst (λ n. AreCellEvents setting before text (shown_cells columns n cells) later) end_is are)
 
 module _ (left end : ℕ) (old new : List Cell) (cell : Cell) (some : 0 < left)
     (next : shown_cells (suc (left - 1)) end old ≡ cell ∷ shown_cells (left - 1) end new) where
@@ -122,24 +140,18 @@ module _ (left end : ℕ) (old new : List Cell) (cell : Cell) (some : 0 < left)
   cut_more text cut = subst (AreCutFrom text) shown cut
 
   -- the next
-  pub cells_more : (setting : EventSetting) (before : ℕ) (text : List ℕ) (all : List Cell) (events more here inlines : List RangedEvent)
-      → AreInlineEvents (content_of_cell text cell).text setting inlines
-      → here ≡ element table_cell (before + cell.start) (before + cell.end) (map (placed before (content_of_cell text cell).places) inlines)
-      → more ≡ events ++ here
-      → ((later : List RangedEvent) → AreCellEvents setting before text (shown_cells left end old) later
-      → AreCellEvents setting before text all (events ++ later)) → (later : List RangedEvent)
-      → AreCellEvents setting before text (shown_cells (left - 1) end new) later → AreCellEvents setting before text all (more ++ later)
-  cells_more setting before text all events more here inlines are is added given later rest =
+  pub cells_more : (setting : EventSetting) (before : ℕ) (text : List ℕ) (here later : List RangedEvent)
+      → AreCellEvents setting before text (cell ∷ []) here → AreCellEvents setting before text (shown_cells (left - 1) end new) later
+      → AreCellEvents setting before text (shown_cells left end old) (here ++ later)
+  cells_more setting before text here later (inlines, rest, are, none, is) are_later =
+      let own = element table_cell (before + cell.start) (before + cell.end) (map (placed before (content_of_cell text cell).places) inlines) in
+      let alone : here ≡ own = is ∙ (ap (λ (es : List RangedEvent). own ++ es) none ∙ append-nil own) in
       let whole : AreCellEvents setting before text (cell ∷ shown_cells (left - 1) end new) (here ++ later) =
-      (inlines, later, are, rest, ap (λ (es : List RangedEvent). es ++ later) is) in
-      subst (λ (es : List RangedEvent). AreCellEvents setting before text all es)
-      (sym (ap (λ (es : List RangedEvent). es ++ later) added ∙ append_assoc events here later))
-      (given (here ++ later) (subst (λ (cs : List Cell). AreCellEvents setting before text cs (here ++ later)) (sym shown) whole))
+      (inlines, later, are, are_later, ap (λ (es : List RangedEvent). es ++ later) alone) in
+      subst (λ (cs : List Cell). AreCellEvents setting before text cs (here ++ later)) (sym shown) whole
 
 -- after the last
-pub cells_end : (setting : EventSetting) (before : ℕ) (text : List ℕ) (left end : ℕ) (cells all : List Cell) (events : List RangedEvent) → left ≡ 0
-    → ((later : List RangedEvent) → AreCellEvents setting before text (shown_cells left end cells) later
-    → AreCellEvents setting before text all (events ++ later)) → AreCellEvents setting before text all events
-cells_end setting before text left end cells all events none given =
-    subst (λ (es : List RangedEvent). AreCellEvents setting before text all es) (append-nil events)
-    (given [] (subst (λ n. AreCellEvents setting before text (shown_cells n end cells) []) (sym none) refl))
+pub cells_end : (setting : EventSetting) (before : ℕ) (text : List ℕ) (left end : ℕ) (cells : List Cell) → left ≡ 0
+    → AreCellEvents setting before text (shown_cells left end cells) []
+cells_end setting before text left end cells none =
+    subst (λ n. AreCellEvents setting before text (shown_cells n end cells) []) (sym none) refl

@@ -1,9 +1,11 @@
 -- The rows of a table stand in its lines.
-use Rattle.std.proofs.Common.{ℕ, ◌+◌, ◌≤◌, ◌≡◌, Bool, true, false, List, [], ◌∷◌, ◌++◌, length}
-use Rattle.std.proofs.Common.{ap, refl, sym, subst, ◌∙◌, append-nil, append_assoc, arith, length-append}
-use Rattle.std.specs.List.{AllByRecursion, concat}
+use Rattle.std.proofs.Common.{ℕ, ◌+◌, ◌-◌, ◌≤◌, ◌≡◌, Bool, true, false, List, [], ◌∷◌, ◌++◌, length, take, drop}
+use Rattle.std.proofs.Common.{ap, refl, sym, subst, ◌∙◌, append-nil, arith, length-append, not}
+use Rattle.std.specs.List.{AllByRecursion, concat, prefix_len, suffix_len}
 use Rattle.std.specs.Str.{IsUtf8}
-use Rattle.std.proofs.lemmas.List.{length-drop}
+use Rattle.std.proofs.lemmas.List.{length-drop, length-take}
+use Rattle.markdown_values.specs.values.Tags.{table}
+use Rattle.markdown_scanners_tree.specs.Bytes.{is_line_ending, is_space_or_tab, line_head}
 use Rattle.markdown_scanners_tree.specs.line.State.{LineState, after_space}
 use Rattle.markdown_scanners_tree.specs.scanners.TextLines.{lines_of}
 use Rattle.markdown_scanners_tree.proofs.ForCallers.{lines_joined}
@@ -12,14 +14,19 @@ use Rattle.markdown_blocks.specs.containers.Containers.{behind}
 use Rattle.markdown_blocks.specs.content.Parts.{first_place}
 use Rattle.markdown_blocks.specs.declared.blocks.BlockKind.TheVariants.{Paragraph}
 use Rattle.markdown_blocks.specs.declared.containers.Container.{Container}
+use Rattle.markdown_blocks.specs.events.Events.{LeafBlock}
 use Rattle.markdown_blocks.specs.rows.Rows.{TextAt, body_rows, later_rows, row_at, rows_of}
-use Rattle.markdown_blocks.proofs.ForCallers.{IsRowCut, rows_cut}
+use Rattle.markdown_blocks.proofs.ForCallers.{IsRowCut, row_between, rows_cut}
 use Rattle.markdown_blocks.proofs.content.ReachedLemmas.{Reached, after_some}
 use Rattle.markdown_blocks.proofs.content.ReachedPlaces.{first_reached, later_reached}
 use Rattle.markdown_events.specs.EventLaws.{LieIn}
 use Rattle.markdown_events.specs.InlineEvents.{EventSetting, RangedEvent}
-use Rattle.markdown_events.specs.page.Places.{element}
-use Rattle.markdown_events.specs.page.TableEvents.{AreCellEvents, AreRowEvents, AreUtf8, RowsEndBy, row_len, row_tag, shown_cells}
+use Rattle.markdown_events.specs.page.LeafContent.{HasPlace, LieInBlock}
+use Rattle.markdown_events.specs.page.Places.{Place, element}
+use Rattle.markdown_events.specs.page.Spans.{block_end}
+use Rattle.markdown_events.specs.page.TableEvents.{AreRowEvents, AreTableEvents, AreUtf8, RowsEndBy, row_len, row_tag, shown_cells}
+use Rattle.markdown_events.proofs.page.leaf_events.RangeLaws.{element_lies, enclosed_lies, lie_before}
+use Rattle.markdown_events.proofs.page.table_events.CellLemmas.{cells_lie, shown_between}
 
 -- a row ends in its line
 pub row_ends : (before : ℕ) (line : List ℕ) (s : LineState) → Reached line s
@@ -67,15 +74,51 @@ all_utf8 lines (row ∷ later) cut = (cut.0.utf8, all_utf8 lines later cut.1)
 pub rows_utf8 : (kept : ℕ) (outer : List Container) (text : List ℕ) → IsUtf8 text → AreUtf8 (rows_of kept outer (lines_of text))
 rows_utf8 kept outer text utf8 = all_utf8 text (rows_of kept outer (lines_of text)) (rows_cut kept outer text utf8)
 
--- ---- events of rows, one after the other
+-- ---- events of rows
 
-pub lie_wider : (outer from to outer_to : ℕ) (events : List RangedEvent) → outer ≤ from → to ≤ outer_to → LieIn from to events
+lie_wider : (outer from to outer_to : ℕ) (events : List RangedEvent) → outer ≤ from → to ≤ outer_to → LieIn from to events
     → LieIn outer outer_to events
 lie_wider outer from to outer_to [] low high lie = tt
 lie_wider outer from to outer_to (event ∷ events) low high lie = (
   record { begins = omega (arith, low, lie.0.begins); in_order = lie.0.in_order; ends = omega (arith, high, lie.0.ends) },
   lie_wider outer from to outer_to events low high lie.1,
 )
+
+-- a row ends with its text
+pub row_within : (text : List ℕ) → row_len text ≤ length text
+row_within text =
+    let line = line_head text in
+    omega (
+      arith,
+      length-take (length line - suffix_len is_space_or_tab line) line,
+      length-take (prefix_len (λ b. not (is_line_ending b)) text) text,
+    )
+
+rows_lie : (setting : EventSetting) (columns before to : ℕ) (is_head : Bool) (rows : List TextAt) (events : List RangedEvent)
+    → RowsEndBy before to rows → AreRowEvents setting columns before is_head rows events → LieIn before to events
+rows_lie setting columns before to is_head [] events ends is = subst (LieIn before to) (sym is) tt
+rows_lie setting columns before to is_head (row ∷ later) events ends (cells, rest, are, are_rest, is) =
+    let from = before + row.place in
+    let len = row_len row.text in
+    let within = row_within row.text in
+    let shown = shown_cells columns len (cells_of row.text) in
+    let stand = shown_between columns len (length row.text) (cells_of row.text) within (row_between row.text (length row.text) within) in
+    let lie = lie_wider before from (from + length row.text) to cells (omega arith) ends.0 (cells_lie setting from row.text shown cells stand are) in
+    subst (LieIn before to) (sym is)
+    (lie_before before to (element (row_tag is_head) from (from + len) cells) rest
+    (element_lies (row_tag is_head) before to from (from + len) cells (omega arith) (omega arith) (omega (arith, within, ends.0)) lie)
+    (rows_lie setting columns before to false later rest ends.1 are_rest))
+
+-- those of a table lie within its lines
+pub table_lies : (page : List ℕ) (setting : EventSetting) (here : Place) (block : LeafBlock) (columns : ℕ) (events : List RangedEvent)
+    → AreTableEvents page setting here block columns events → HasPlace block → LieInBlock block events
+table_lies page setting here block columns events is has =
+    let text = take block.bytes (drop block.start page) in
+    let few = length-take block.bytes (drop block.start page) in
+    let ends = rows_end here.kept here.containers block.start (block_end block) text (omega (arith, few)) in
+    subst (LieInBlock block) (sym is.are_events)
+    (enclosed_lies (table is.alignments) block is.rows has
+    (rows_lie setting columns block.start (block_end block) true (rows_of here.kept here.containers (lines_of text)) is.rows ends is.are_rows))
 
 module _ (before columns : ℕ) (row : TextAt) (rows new : List TextAt) (next : rows ≡ row ∷ new) where
   pub row_first : (to : ℕ) → RowsEndBy before to rows → (before + row.place + length row.text ≤ to) × RowsEndBy before to new
@@ -85,23 +128,19 @@ module _ (before columns : ℕ) (row : TextAt) (rows new : List TextAt) (next : 
   row_text utf8 = subst AreUtf8 next utf8
 
   -- the next
-  pub rows_more : (setting : EventSetting) (is_head : Bool) (all : List TextAt) (events more here cells : List RangedEvent)
-      → AreCellEvents setting (before + row.place) row.text (shown_cells columns (row_len row.text) (cells_of row.text)) cells
-      → here ≡ element (row_tag is_head) (before + row.place) (before + row.place + row_len row.text) cells → more ≡ events ++ here
-      → ((later : List RangedEvent) → AreRowEvents setting columns before is_head rows later
-      → AreRowEvents setting columns before true all (events ++ later)) → (later : List RangedEvent)
-      → AreRowEvents setting columns before false new later → AreRowEvents setting columns before true all (more ++ later)
-  rows_more setting is_head all events more here cells are is added given later rest =
+  pub rows_more : (setting : EventSetting) (is_head : Bool) (here later : List RangedEvent)
+      → AreRowEvents setting columns before is_head (row ∷ []) here → AreRowEvents setting columns before false new later
+      → AreRowEvents setting columns before is_head rows (here ++ later)
+  rows_more setting is_head here later (cells, rest, are, none, is) are_later =
+      let from = before + row.place in
+      let own = element (row_tag is_head) from (from + row_len row.text) cells in
+      let alone : here ≡ own = is ∙ (ap (λ (es : List RangedEvent). own ++ es) none ∙ append-nil own) in
       let whole : AreRowEvents setting columns before is_head (row ∷ new) (here ++ later) =
-      (cells, later, are, rest, ap (λ (es : List RangedEvent). es ++ later) is) in
-      subst (λ (es : List RangedEvent). AreRowEvents setting columns before true all es)
-      (sym (ap (λ (es : List RangedEvent). es ++ later) added ∙ append_assoc events here later))
-      (given (here ++ later) (subst (λ (rs : List TextAt). AreRowEvents setting columns before is_head rs (here ++ later)) (sym next) whole))
+      (cells, later, are, are_later, ap (λ (es : List RangedEvent). es ++ later) alone) in
+      subst (λ (rs : List TextAt). AreRowEvents setting columns before is_head rs (here ++ later)) (sym next) whole
 
 -- after the last
-pub all_rows : (setting : EventSetting) (columns before : ℕ) (is_head : Bool) (rows all : List TextAt) (events : List RangedEvent) → rows ≡ []
-    → ((later : List RangedEvent) → AreRowEvents setting columns before is_head rows later
-    → AreRowEvents setting columns before true all (events ++ later)) → AreRowEvents setting columns before true all events
-all_rows setting columns before is_head rows all events none given =
-    subst (λ (es : List RangedEvent). AreRowEvents setting columns before true all es) (append-nil events)
-    (given [] (subst (λ (rs : List TextAt). AreRowEvents setting columns before is_head rs []) (sym none) refl))
+pub rows_done : (setting : EventSetting) (columns before : ℕ) (is_head : Bool) (rows : List TextAt) → rows ≡ []
+    → AreRowEvents setting columns before is_head rows []
+rows_done setting columns before is_head rows none =
+    subst (λ (rs : List TextAt). AreRowEvents setting columns before is_head rs []) (sym none) refl

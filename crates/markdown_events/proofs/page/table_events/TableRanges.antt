@@ -1,11 +1,10 @@
 -- The ranges of the events of a table rise, and those of its rows and cells lie within it.
 use Rattle.std.proofs.Common.{ℕ, zero, suc, ◌+◌, ◌-◌, ◌<◌, ◌≤◌, ◌≡◌, Bool, true, false, List, [], ◌∷◌, ◌++◌, length, map, take, drop}
-use Rattle.std.proofs.Common.{ap, refl, sym, subst, append_assoc, arith, length-append, not}
+use Rattle.std.proofs.Common.{ap, refl, sym, subst, append_assoc, arith, length-append}
 use Rattle.std.specs.Prelude.{⊤, slice_index}
-use Rattle.std.specs.List.{concat, prefix_len, suffix_len}
+use Rattle.std.specs.List.{concat}
 use Rattle.std.proofs.lemmas.List.{length-take}
 use Rattle.markdown_values.specs.values.Tags.{table, table_cell}
-use Rattle.markdown_scanners_tree.specs.Bytes.{is_line_ending, is_space_or_tab, line_head}
 use Rattle.markdown_scanners_tree.specs.scanners.TextLines.{lines_of}
 use Rattle.markdown_scanners_tree.proofs.ForCallers.{lines_joined}
 use Rattle.markdown_blocks.specs.cells.Cells.{AreBetween, cells_of}
@@ -31,7 +30,7 @@ use Rattle.markdown_events.proofs.inline_events.Rise.{rise_from}
 use Rattle.markdown_events.proofs.page.NodeRanges.{element_rises}
 use Rattle.markdown_events.proofs.page.leaf_events.TextRanges.{placed_rise, strictly_from}
 use Rattle.markdown_events.proofs.page.table_events.CellLemmas.{cell_sizes}
-use Rattle.markdown_events.proofs.page.table_events.RowLemmas.{row_ends}
+use Rattle.markdown_events.proofs.page.table_events.RowLemmas.{row_ends, row_within}
 
 -- ---- where rows stand
 
@@ -73,16 +72,6 @@ rows_stand kept outer start from to (line ∷ lines) low within first =
     let size = length-append line (concat lines) in
     let here = row_ends 0 line (first_place kept outer line) (first_reached line kept outer) in
     (omega (arith, first _ _ refl), body_stand outer start _ (length line) to lines (omega (arith, here)) (omega (arith, size, within)))
-
--- a row ends with its text
-row_within : (text : List ℕ) → row_len text ≤ length text
-row_within text =
-    let line = line_head text in
-    omega (
-      arith,
-      length-take (length line - suffix_len is_space_or_tab line) line,
-      length-take (prefix_len (λ b. not (is_line_ending b)) text) text,
-    )
 
 -- ---- where cells stand, and their contents
 

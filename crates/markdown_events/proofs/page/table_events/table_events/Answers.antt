@@ -1,18 +1,20 @@
-use Rattle.std.proofs.Common.{ℕ, List, ◌+◌, ◌-◌, ◌^◌, ◌≤◌, drop, length, map, refl, subst, sym, take, arith}
+use Rattle.std.proofs.Common.{ℕ, true, List, ◌+◌, ◌-◌, ◌^◌, ◌++◌, ◌≡◌, ◌≤◌, ◌∙◌, ap, drop, length, map, refl, subst, sym, take, arith}
 use Rattle.std.specs.Str.{IsUtf8}
 use Rattle.std.proofs.lemmas.List.{length-take}
-use Rattle.std.proofs.lemmas.Result.{IfOk-weaker}
 use Rattle.markdown_values.specs.values.Tags.{table}
+use Rattle.markdown_scanners_tree.specs.scanners.TextLines.{lines_of}
 use Rattle.markdown_blocks.specs.events.Events.{seen_leaf}
-use Rattle.markdown_events.specs.InlineEvents.{RangedEvent, seen_event}
-use Rattle.markdown_events.specs.page.LeafContent.{LieInBlock}
-use Rattle.markdown_events.specs.page.TableEvents.{AreUtf8, RowsEndBy}
-use Rattle.markdown_events.proofs.page.leaf_events.RangeLaws.{element_lies}
-use Rattle.markdown_events.proofs.page.table_events.RowLemmas.{rows_end, rows_utf8}
+use Rattle.markdown_blocks.specs.rows.Rows.{AreAlignments, TextAt, rows_of}
+use Rattle.markdown_events.specs.InlineEvents.{EventSetting, RangedEvent, seen_event}
+use Rattle.markdown_events.specs.page.Places.{element}
+use Rattle.markdown_events.specs.page.Readings.{seen_place, seen_reading}
+use Rattle.markdown_events.specs.page.TableEvents.{AreRowEvents, AreUtf8, RowsEndBy}
+use Rattle.markdown_events.proofs.page.table_events.AddedLemmas.{element_added}
+use Rattle.markdown_events.proofs.page.table_events.RowLemmas.{rows_end, rows_utf8, table_lies}
 use Rattle.markdown_events.proofs.page.table_events.table_events.Goals as goal
 
-pub rows_events-requires : goal.rows_events-requires
-rows_events-requires g c κs =
+pub push_rows-requires : goal.push_rows-requires
+push_rows-requires g c κs =
     let few : length c.lines_in-lines.result.now ≤ c.args.leaf.bytes =
     subst (λ (t : List ℕ). length t ≤ c.args.leaf.bytes) (sym c.lines_in-lines.ensures) (omega (arith, length-take {A = ℕ})) in
     let within = subst (RowsEndBy c.args.leaf.start (2 ^ 64 - 1)) (sym c.rows_of-rows.ensures.rows)
@@ -23,15 +25,30 @@ rows_events-requires g c κs =
     (rows_utf8 c.args.here.kept c.args.here.containers.now c.lines_in-lines.result.now (subst IsUtf8 (sym c.lines_in-lines.ensures) own)) in
     ((refl, tt), (within, utf8))
 
+pub returns-clause-events : goal.returns-clause-events
+returns-clause-events g c =
+    let setting : EventSetting = seen_reading g.D.Definitions.targets c.args.reading.now in
+    let leaf = c.args.leaf in
+    let outer = c.args.here.containers.now in
+    let alignments = c.in_ok-alignments.alignments.items in
+    let rows = c.in_ok-push_rows.ensures in
+    let lines_are : c.lines_in-lines.result.now ≡ take leaf.bytes (drop leaf.start c.args.reading.now.page.now) =
+    c.lines_in-lines.ensures ∙ ap (λ (t : List ℕ). take leaf.bytes (drop leaf.start t)) c.as_bytes.ensures.value in record {
+      alignments = alignments;
+      rows = rows.0;
+      are_alignments = subst (λ (t : List ℕ). AreAlignments outer (lines_of t) alignments) lines_are c.in_ok-alignments.ensures.alignments;
+      are_rows = subst (λ (rs : List TextAt). AreRowEvents setting c.args.columns leaf.start true rs rows.0)
+          (c.rows_of-rows.ensures.rows ∙ ap (λ (t : List ℕ). rows_of c.args.here.kept outer (lines_of t)) lines_are) rows.1;
+      are_events = ap (map seen_event) c.from.ensures.0
+          ∙ (element_added (table alignments) leaf.place (leaf.start + leaf.bytes) rows.0 (map seen_event c.in_ok-events.events.items)
+          (map seen_event c.push_event.new.events.items) (map seen_event c.push_rows.new.events.items) (map seen_event c.push_event-2.new.events.items)
+          c.in_ok-push_event.ensures rows.2 c.in_ok-push_event-2.ensures
+          ∙ ap (λ (es : List RangedEvent). es ++ element (table alignments) leaf.place (leaf.start + leaf.bytes) rows.0)
+          (ap (map seen_event) c.in_ok-events.ensures));
+    }
+
 pub returns-clause-within : goal.returns-clause-within
 returns-clause-within g c =
-    let leaf = c.args.leaf in
-    let to = leaf.start + leaf.bytes in
-    let few : length c.lines_in-lines.result.now ≤ leaf.bytes =
-    subst (λ (t : List ℕ). length t ≤ leaf.bytes) (sym c.lines_in-lines.ensures) (omega (arith, length-take {A = ℕ})) in
-    let ends = subst (RowsEndBy leaf.start to) (sym c.rows_of-rows.ensures.rows)
-    (rows_end c.args.here.kept c.args.here.containers.now leaf.start to c.lines_in-lines.result.now (omega (arith, few))) in
-    IfOk-weaker c.block_element.result _ _ (λ events is has.
-    subst (λ (es : List RangedEvent). LieInBlock (seen_leaf leaf) es) (sym is)
-    (element_lies (table c.in_ok-alignments.alignments.items) leaf.start to leaf.place to (map seen_event c.in_ok-inner.inner.items)
-    has.begins has.ends (omega arith) (c.in_ok-inner.ensures.within to ends))) c.block_element.ensures
+    let setting : EventSetting = seen_reading g.D.Definitions.targets c.args.reading.now in
+    table_lies c.args.reading.now.page.now setting (seen_place c.args.here) (seen_leaf c.args.leaf) c.args.columns (map seen_event c.from.result.items)
+    (returns-clause-events g c)
