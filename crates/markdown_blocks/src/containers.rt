@@ -4,7 +4,7 @@
 ghost use Rattle.std.specs.Prelude.{◌≡◌, ◌<◌, ◌≤◌, length, false, Some, None, IfSome, IfNone, IsTrue};
 ghost use Rattle.markdown_scanners_tree.specs.Bytes.{begins_with};
 ghost use Rattle.markdown_scanners_tree.specs.line.ItemRules.{start_of};
-ghost use Rattle.markdown_scanners_tree.specs.line.State.{space_within, after_space};
+ghost use Rattle.markdown_scanners_tree.specs.line.State.{space_within, after_space, unscanned};
 ghost use Rattle.markdown_blocks.specs.containers.Containers.{all_containers, begun_behind, behind, behind_quote, extension_of, goes_on_blank};
 ghost use Rattle.markdown_blocks.specs.containers.Containers.{settled, within, within_quote, within_width};
 ghost use Rattle.markdown_blocks.specs.containers.private.Markers.{is_item_byte, is_other_byte};
@@ -355,7 +355,8 @@ fn begins_with_marker_byte(bytes: &[u8], extensions: Extensions) -> bool
     }
 }
 
-// The same where less than four columns of space stand before the position.
+// The same where less than four columns of space stand before the position, and no byte of a list
+// item's marker at it.
 fn scan_marked<'a>(
     line: &'a [u8],
     start: &mut LineStart<'a>,
@@ -364,6 +365,7 @@ fn scan_marked<'a>(
 ) -> Option<Container>
     requires bytes { start.old.bytes ≡ line.now }
     requires near { indent < 4 }
+    requires other { begins_with is_item_byte (unscanned start.old) ≡ false }
     ensures found { IfSome result (λ container.
         begun_behind extensions indent start.old ≡ Some (container, start.new)) }
     ensures none { IfNone result (begun_behind extensions indent start.old ≡ None) }
@@ -373,9 +375,6 @@ fn scan_marked<'a>(
 {
     if start.scan_blockquote_marker() {
         return Some(Container::Quote);
-    }
-    if let Some(item) = scan_item(line, start, indent) {
-        return Some(item);
     }
     scan_extension(line, start, indent, extensions)
 }

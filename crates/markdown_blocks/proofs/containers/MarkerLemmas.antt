@@ -118,12 +118,18 @@ module _ (asked : Extensions) (bytes : List ℕ) (none : begins_with (is_other_b
       by [] h = refl
       by (b ∷ bs) h = rw on at (apart asked b h).colon
 
+-- where no byte of an item's marker stands, no item begins
+pub other_begun : (asked : Extensions) (indent : ℕ) (s : LineState) → begins_with is_item_byte (unscanned s) ≡ false
+    → either_begun (item_of (item_outcome indent s)) (extension_of asked indent s) ≡ extension_of asked indent s
+other_begun asked indent s no_item =
+    ap (λ m. either_begun (item_of (item_outcome_by indent s m)) (extension_of asked indent s)) (no_list_marker (unscanned s) no_item)
+
 -- where no byte of a marker stands nothing begins
 pub none_begun : (asked : Extensions) (indent : ℕ) (s : LineState) → begins_with is_item_byte (unscanned s) ≡ false
     → begins_with (is_other_byte asked) (unscanned s) ≡ false → begun_behind asked indent s ≡ None
 none_begun asked indent s no_item none = elim (cases_Bool (indent == 4)) [
   | inl far ↦ rw far refl
   | inr near ↦ rw (near, no_quote_there asked (unscanned s) none)
-      (ap (λ m. either_begun (item_of (item_outcome_by indent s m)) (extension_of asked indent s)) (no_list_marker (unscanned s) no_item)
+      (other_begun asked indent s no_item
       ∙ no_extension asked indent s (no_bracket_there asked (unscanned s) none) (no_colon_there asked (unscanned s) none))
 ]
