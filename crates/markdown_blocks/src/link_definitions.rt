@@ -344,8 +344,15 @@ fn ascii_key(alloc: Global, label: &str) -> Result<Folding, AllocError>
     Ok(Folding::new(label.to_ascii_lowercase(alloc)?))
 }
 
-// The label after the bracket that opened it, if it is UTF-8.
-fn read_label<'t>(alloc: Global, text: &'t [u8]) -> Result<Option<CowStr<'t>>, AllocError>
+/// The label whose opening bracket stands directly before these bytes, if one ends in them. It is as
+/// `LinkDefinitions::get` has it: each run of white space is one space, and none stands at its ends. It
+/// is lent where it stands so in the bytes, and else has memory of its own. Bytes that aren't UTF-8 have
+/// no characters that another label could match, and are no label.
+///
+/// # Errors
+///
+/// `AllocError` where memory is refused.
+pub fn read_label<'t>(alloc: Global, text: &'t [u8]) -> Result<Option<CowStr<'t>>, AllocError>
     ensures { IfOk result (λ found. SomeExactly (λ bytes. (label : Label)
         × IsLabelInBytes SkipsNothing text.now false label × (label.text ≡ bytes))
         (option_map cow_text found)) }
