@@ -3,9 +3,11 @@ pub use Rattle.markdown_events.proofs.found.InlineFacts.{inlines_found}
 pub use Rattle.markdown_events.proofs.inline_events.Boundaries.{events_at_boundaries}
 pub use Rattle.markdown_events.proofs.inline_events.Laws.{events_balance, events_filled}
 pub use Rattle.markdown_events.proofs.inline_events.Unique.{one_list_of_inline_events, one_meaning}
+pub use Rattle.markdown_events.proofs.page.FrontLists.{IsListed, front_list_is_listed}
 pub use Rattle.markdown_events.proofs.page.leaf_events.BalanceLemmas.{leaf_events_balance}
 pub use Rattle.markdown_events.proofs.page.leaf_events.OneLeaf.{one_list_of_leaf_events}
 pub use Rattle.markdown_events.proofs.page.leaf_events.PagePlaces.{LeavesStandIn, StandsIn, page_leaves_stand}
+pub use Rattle.markdown_events.proofs.page.ListFronts.{BeginsIn, listed_is_front_list}
 pub use Rattle.markdown_events.proofs.page.OnePage.{one_list_of_page_events}
 pub use Rattle.markdown_events.proofs.page.PageBalance.{page_events_balance, page_events_nest, page_events_with_balance, page_events_with_nest}
 pub use Rattle.markdown_events.proofs.page.PageCuts.{page_events_at_boundaries, page_events_with_at_boundaries}

@@ -3,6 +3,7 @@ pub mod InPageLemmas
 pub mod IteratedLemmas
 pub mod LeftLemmas
 pub mod LevelLemmas
+pub mod ListFronts
 pub mod NestLemmas
 pub mod NodeCuts
 pub mod NodeRanges

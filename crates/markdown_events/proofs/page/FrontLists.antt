@@ -19,18 +19,22 @@ use Rattle.markdown_events.specs.declared.page.levels.ItemList.{ItemList}
 use Rattle.markdown_events.specs.page.Spans.{is_parted, is_set_off, list_alone, list_with, front_list}
 use Rattle.markdown_events.proofs.page.LevelLemmas.{are_marked, same_followed, whole_parted_is}
 
+-- how many lines of the page stand before what follows a leaf block
+abbrev pub line_after : LeafBlock → ℕ
+line_after = line_behind
+
 -- an item of this bullet or delimiter
-abbrev is_of : ℕ → Option Container → Bool
+abbrev pub is_of : ℕ → Option Container → Bool
 is_of delimiter (Some (Item item)) = delimiter == item.delimiter
 is_of delimiter container = false
 
-alike_is : (item : ListItem) (c : Option Container) → are_alike (Some (Item item)) c ≡ is_of item.delimiter c
+pub alike_is : (item : ListItem) (c : Option Container) → are_alike (Some (Item item)) c ≡ is_of item.delimiter c
 alike_is item None = refl
 alike_is item (Some (Item other)) = refl
 alike_is item (Some c) = refl
 
 -- such items, with which blocks begin
-abbrev run_of : ℕ → List Child → List Child
+abbrev pub run_of : ℕ → List Child → List Child
 run_of delimiter [] = []
 run_of delimiter (child ∷ later) = if is_of delimiter child.container then child ∷ run_of delimiter later else []
 
@@ -89,7 +93,7 @@ loose_with item inner set_off (Some list) = by_case (item.delimiter == list.deli
     by_case true = refl
     by_case false = refl
 
-delimiter_with : (item : ListItem) (inner : Nodes) (set_off : Bool) (list : Option ItemList)
+pub delimiter_with : (item : ListItem) (inner : Nodes) (set_off : Bool) (list : Option ItemList)
     → (list_with item inner set_off list).delimiter ≡ item.delimiter
 delimiter_with item inner set_off None = refl
 delimiter_with item inner set_off (Some list) = by_case (item.delimiter == list.delimiter) refl
@@ -110,9 +114,9 @@ loose_leaf block later loose item child depth line = by_kind (is_blank_kind bloc
   where
     by_kind : (k : Bool)
         → are_loose (child ∷ run_of item.delimiter
-        (child_unless (k && not false) (leaf_child block line (begins_blank later)) (children false depth (line_behind block) later)))
+        (child_unless (k && not false) (leaf_child block line (begins_blank later)) (children false depth (line_after block) later)))
         ≡ is_loose_before item child.is_parted child.is_blank (if k then front_list later else None)
-    by_kind true = loose item child depth (line_behind block)
+    by_kind true = loose item child depth (line_after block)
     by_kind false = refl
 
 or_comm : (a b : Bool) → (a || b) ≡ (b || a)
@@ -164,6 +168,22 @@ abbrev pub IsListed : ℕ → List Child → ItemList → Type 0
 IsListed depth blocks list = (block : ListBlock) × Contains (lists_among depth [] blocks) block × (block.delimiter ≡ list.delimiter)
     × (block.is_loose ≡ list.is_loose)
 
+-- an item's run is loose as its list is
+pub item_is_loose : (item : ListItem) (inner later : Nodes) (depth line : ℕ)
+    → (let passed = lines_passed line inner in
+    let first = container_child (Item item) (suc depth) line passed (begins_blank later) (children true (suc depth) line inner) in
+    are_loose (first ∷ run_of item.delimiter (children false depth passed later)))
+    ≡ (list_with item inner (is_set_off item inner later) (front_list later)).is_loose
+item_is_loose item inner later depth line =
+    let passed = lines_passed line inner in
+    let first = container_child (Item item) (suc depth) line passed (begins_blank later) (children true (suc depth) line inner) in
+    loose_run later item first depth passed
+    ∙ ap (λ p. is_loose_before item p first.is_blank (front_list later))
+    (whole_parted_is inner (suc depth) line ∙ sym (whole_parted_is inner 0 0))
+    ∙ ap (λ b. is_loose_before item (is_parted inner) b (front_list later))
+    (same_followed (Item item) (suc depth) line inner later (are_marked inner))
+    ∙ sym (loose_with item inner (is_set_off item inner later) (front_list later))
+
 item_is_listed : (item : ListItem) (place : ℕ) (inner later : Nodes) (depth line : ℕ)
     → IsListed depth (children false depth line (container_then (Item item) place inner later))
     (list_with item inner (is_set_off item inner later) (front_list later))
@@ -183,12 +203,7 @@ item_is_listed item place inner later depth line =
       block,
       Contains-append_right ([] ++ first.inside) (lists_among depth (first ∷ []) others) block (listed depth item first refl others [] block refl),
       sym (delimiter_with item inner (is_set_off item inner later) (front_list later)),
-      loose_run later item first depth passed
-          ∙ ap (λ p. is_loose_before item p first.is_blank (front_list later))
-          (whole_parted_is inner (suc depth) line ∙ sym (whole_parted_is inner 0 0))
-          ∙ ap (λ b. is_loose_before item (is_parted inner) b (front_list later))
-          (same_followed (Item item) (suc depth) line inner later (are_marked inner))
-          ∙ sym (loose_with item inner (is_set_off item inner later) (front_list later)),
+      item_is_loose item inner later depth line,
     )
 
 -- a leaf block before them is in none of the lists
@@ -204,8 +219,8 @@ front_after_leaf : (block : LeafBlock) (later : Nodes) → IsFrontListed later �
 front_after_leaf block later listed_later list front depth line = by_kind (is_blank_kind block.kind) front
   where
     by_kind : (k : Bool) → ◌≡◌ {A = Option ItemList} (if k then front_list later else None) (Some list)
-        → IsListed depth (child_unless (k && not false) (leaf_child block line (begins_blank later)) (children false depth (line_behind block) later)) list
-    by_kind true is = listed_later list is depth (line_behind block)
+        → IsListed depth (child_unless (k && not false) (leaf_child block line (begins_blank later)) (children false depth (line_after block) later)) list
+    by_kind true is = listed_later list is depth (line_after block)
     by_kind false is = absurd (cc)
 
 front_is_listed : (nodes : Nodes) → IsFrontListed nodes
@@ -227,9 +242,9 @@ front_list_is_listed (container_then c place inner later) list front true depth 
 front_list_is_listed (leaf_then block later) list front true depth line = by_kind (is_blank_kind block.kind) front
   where
     by_kind : (k : Bool) → ◌≡◌ {A = Option ItemList} (if k then front_list later else None) (Some list)
-        → IsListed depth (child_unless (k && not true) (leaf_child block line (begins_blank later)) (children false depth (line_behind block) later)) list
+        → IsListed depth (child_unless (k && not true) (leaf_child block line (begins_blank later)) (children false depth (line_after block) later)) list
     by_kind false is = absurd (cc)
     by_kind true is =
-        let blocks = children false depth (line_behind block) later in
+        let blocks = children false depth (line_after block) later in
         subst (λ lists. (found : ListBlock) × Contains lists found × (found.delimiter ≡ list.delimiter) × (found.is_loose ≡ list.is_loose))
-        (sym (lists_after_leaf depth line block (begins_blank later) blocks)) (front_is_listed later list is depth (line_behind block))
+        (sym (lists_after_leaf depth line block (begins_blank later) blocks)) (front_is_listed later list is depth (line_after block))

@@ -58,7 +58,8 @@ list_with item inner set_off (Some list) =
     then record list { is_loose = list.is_loose || (is_parted inner || set_off) }
     else list_alone item inner
 
--- the list that nodes begin with, blank lines aside: items that follow each other, of one bullet or delimiter
+-- The list that nodes begin with, blank lines aside: items that follow each other, of one bullet or delimiter. It is one of the lists that
+-- `Lists` has of the page, and each of those is such a list: `front_list_is_listed` and `listed_is_front_list`.
 abbrev pub front_list : Nodes → Option ItemList
 front_list nothing = None
 front_list (leaf_then block later) = if is_blank_kind block.kind then front_list later else None
