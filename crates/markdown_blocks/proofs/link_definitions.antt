@@ -1,2 +1,3 @@
+pub mod LentLemmas
 pub mod ListedLemmas
 pub mod NamedLemmas

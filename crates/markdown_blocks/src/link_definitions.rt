@@ -1,6 +1,6 @@
 //! Which link reference definition of a page a label finds. (CommonMark 0.31.2, sections 4.7 and 6.3)
 ghost use Rattle.std.specs.Prelude.{◌≡◌, ◌<◌, ◌≤◌, [], ◌∷◌, false, List, ℕ, length, option_map, take};
-ghost use Rattle.std.specs.Prelude.{is_none, IsAscii, IfOk, IfErr, IfNone, IfSome, OnOk, Some};
+ghost use Rattle.std.specs.Prelude.{is_none, is_some, IsAscii, IfOk, IfErr, IfNone, IfSome, OnOk, Some};
 ghost use Rattle.std.specs.Cow.{cow_slice_items};
 ghost use Rattle.std.specs.Iterator.{at_most};
 ghost use Rattle.std.specs.Map.Iter.{TakesFirst, deref_pair};
@@ -12,8 +12,9 @@ ghost use Rattle.markdown_scanners_tree.specs.linklabel.Key.{key_bytes};
 ghost use Rattle.markdown_scanners_tree.specs.linklabel.Label.{Label, IsLabelInBytes};
 ghost use Rattle.markdown_values.specs.values.Extensions.{commonmark};
 ghost use Rattle.markdown_blocks.specs.definitions.Definitions.{IsDefinition};
-ghost use Rattle.markdown_blocks.specs.link_definitions.LinkDefinitions.{Named, Target, Known, HasDefinitions, Names, IsNamed};
-ghost use Rattle.markdown_blocks.specs.link_definitions.LinkDefinitions.{AreAddedUpTo, first_of, known_as, known_before, slice, target_of};
+ghost use Rattle.markdown_blocks.specs.link_definitions.Lent.{from_byte, is_lent, is_run_in, is_some_such, lent_target};
+ghost use Rattle.markdown_blocks.specs.link_definitions.LinkDefinitions.{Named, LentTarget, Known, HasDefinitions, Names, IsNamed};
+ghost use Rattle.markdown_blocks.specs.link_definitions.LinkDefinitions.{AreAddedUpTo, first_of, known_as, known_before, slice, target_in};
 ghost use Rattle.markdown_blocks.specs.link_definitions.Listed.{AreListed};
 ghost use Rattle.markdown_blocks.specs.taken.Lines.{IsTaken};
 ghost use Rattle.markdown_scanners_tree.specs.declared.scanners.reference_definitions.ReferenceDefinition.{ReferenceDefinition};
@@ -46,25 +47,59 @@ pub struct LinkDefinition<'a> {
 }
 
 impl<'a> Model for LinkDefinition<'a> {
-    ghost Value = { Target };
+    ghost Value = { LentTarget };
 
     ghost view = { λ d. record {
-      destination = cow_slice_items d.destination;
-      title = option_map cow_slice_items d.title;
+      target = record {
+        destination = cow_slice_items d.destination;
+        title = option_map cow_slice_items d.title;
+      };
+      is_destination_lent = is_lent d.destination;
+      is_title_lent = is_some_such is_lent d.title;
     } };
 }
 
 impl<'a> LinkDefinition<'a> {
+    /// The definition at the front of this content, as `scan_definition` finds it. Each line of the
+    /// content is the end of one of these lines, in their order, as `add_content` and
+    /// `Walk::next_block` gather it from them. A text is lent where it stands in the lines so, one byte
+    /// directly after another, and else it is copied.
+    ///
+    /// # Errors
+    ///
+    /// `AllocError` where memory for a copy is refused.
+    pub fn new(
+        alloc: Global,
+        content: &[u8],
+        definition: &ReferenceDefinition,
+        lines: &'a [u8],
+    ) -> Result<LinkDefinition<'a>, AllocError>
+        requires within { definition.now.len ≤ length content.now }
+        requires destination { (definition.now.destination.start ≤ definition.now.destination.end)
+            × (definition.now.destination.end ≤ definition.now.len) }
+        requires title { IfSome definition.now.title (λ title. (title.start ≤ title.end)
+            × (title.end < definition.now.len)) }
+        ensures { IfOk result (λ made.
+            made ≡ lent_target lines.now content.now definition.now) }
+    {
+        let destination = read_range(alloc, content, &definition.destination, lines)?;
+        let title = match &definition.title {
+            Some(title) => Some(read_range(alloc, content, title, lines)?),
+            None => None,
+        };
+        Ok(LinkDefinition { destination, title })
+    }
+
     /// Its destination, without the angle brackets that it may have.
     pub fn destination(&self) -> &[u8]
-        ensures { result.now ≡ self.now.destination }
+        ensures { result.now ≡ self.now.target.destination }
     {
         self.destination.as_slice()
     }
 
     /// Its title, without the quotes or parentheses around it.
     pub fn title(&self) -> Option<&[u8]>
-        ensures { option_map (λ title. title.now) result ≡ self.now.title }
+        ensures { option_map (λ title. title.now) result ≡ self.now.target.title }
     {
         match &self.title {
             Some(title) => Some(title.as_slice()),
@@ -74,14 +109,16 @@ impl<'a> LinkDefinition<'a> {
 
     /// Its destination, where that is lent from the page.
     pub fn lent_destination(&self) -> Option<&'a [u8]>
-        ensures { IfSome result (λ bytes. bytes.now ≡ self.now.destination) }
+        ensures some { IfSome result (λ bytes. bytes.now ≡ self.now.target.destination) }
+        ensures lent { is_some result ≡ self.now.is_destination_lent }
     {
         lent(&self.destination)
     }
 
     /// Its title, where it has one that is lent from the page.
     pub fn lent_title(&self) -> Option<&'a [u8]>
-        ensures { IfSome result (λ bytes. self.now.title ≡ Some bytes.now) }
+        ensures some { IfSome result (λ bytes. self.now.target.title ≡ Some bytes.now) }
+        ensures lent { is_some result ≡ self.now.is_title_lent }
     {
         match &self.title {
             Some(title) => lent(title),
@@ -92,7 +129,8 @@ impl<'a> LinkDefinition<'a> {
 
 // The bytes, where they are lent.
 fn lent<'a>(bytes: &CowSlice<'a, u8>) -> Option<&'a [u8]>
-    ensures { IfSome result (λ lent. lent.now ≡ cow_slice_items bytes.now) }
+    ensures some { IfSome result (λ lent. lent.now ≡ cow_slice_items bytes.now) }
+    ensures lent { is_some result ≡ is_lent bytes.now }
 {
     match bytes {
         CowSlice::Borrowed(lent) => Some(*lent),
@@ -170,7 +208,8 @@ impl<'a> LinkDefinitions<'a> {
     /// Memory is asked for the label's case folding, where any definition is known and the label is not
     /// ASCII, or longer than 32 bytes.
     pub fn get(&self, label: &str) -> Result<Option<&LinkDefinition<'a>>, AllocError>
-        ensures { IfOk result (λ found. option_copied found ≡ known_as self.now label.now) }
+        ensures { IfOk result (λ found.
+            option_map target_in (option_copied found) ≡ known_as self.now label.now) }
     {
         if self.by_key.is_empty() {
             return Ok(None);
@@ -195,7 +234,7 @@ impl<'a> LinkDefinitions<'a> {
     pub fn add(&mut self, label: &str, definition: LinkDefinition<'a>) -> Result<bool, AllocError>
         ensures added { OnOk result ((asked : List ℕ) → known_as self.new asked
             ≡ known_before self.old
-            (record { label = label.now; target = definition.entry } ∷ []) asked) }
+            (record { label = label.now; target = definition.entry.target } ∷ []) asked) }
         ensures is_first { IfOk result (λ is_added.
             is_added ≡ is_none (known_as self.old label.now)) }
         ensures refused { IfErr result (λ _. self.new ≡ self.old) }
@@ -287,7 +326,7 @@ impl<'a> LinkDefinitions<'a> {
         let Some(label) = read_label(self.alloc, &text[definition.label.start..])? else {
             return Ok(());
         };
-        let target = read_target(self.alloc, text, definition, lines)?;
+        let target = LinkDefinition::new(self.alloc, text, definition, lines)?;
         self.add(label.as_str(), target)?;
         Ok(())
     }
@@ -366,28 +405,6 @@ pub fn read_label<'t>(alloc: Global, text: &'t [u8]) -> Result<Option<CowStr<'t>
     }
 }
 
-// Where the definition at the front of the text leads.
-fn read_target<'a>(
-    alloc: Global,
-    text: &[u8],
-    definition: &ReferenceDefinition,
-    lines: &'a [u8],
-) -> Result<LinkDefinition<'a>, AllocError>
-    requires within { definition.now.len ≤ length text.now }
-    requires destination { (definition.now.destination.start ≤ definition.now.destination.end)
-        × (definition.now.destination.end ≤ definition.now.len) }
-    requires title { IfSome definition.now.title (λ title. (title.start ≤ title.end)
-        × (title.end < definition.now.len)) }
-    ensures { IfOk result (λ target. target ≡ target_of text.now definition.now) }
-{
-    let destination = read_range(alloc, text, &definition.destination, lines)?;
-    let title = match &definition.title {
-        Some(title) => Some(read_range(alloc, text, title, lines)?),
-        None => None,
-    };
-    Ok(LinkDefinition { destination, title })
-}
-
 // The text in the range, lent from the lines where it stands in them.
 fn read_range<'a>(
     alloc: Global,
@@ -397,7 +414,9 @@ fn read_range<'a>(
 ) -> Result<CowSlice<'a, u8>, AllocError>
     requires begins { range.now.start ≤ range.now.end }
     requires ends { range.now.end ≤ length text.now }
-    ensures { IfOk result (λ found. cow_slice_items found ≡ slice range.now text.now) }
+    ensures bytes { IfOk result (λ found. cow_slice_items found ≡ slice range.now text.now) }
+    ensures lent { IfOk result (λ found.
+        is_lent found ≡ is_run_in lines.now text.now range.now) }
 {
     let bytes = &text[range.start..range.end];
     let there = place_in(lines, text, range.start);
@@ -410,12 +429,9 @@ fn read_range<'a>(
 }
 
 // What of the lines begins with the byte at the offset of a text whose lines are the ends of these.
-fn place_in<'a>(lines: &'a [u8], text: &[u8], offset: usize) -> &'a [u8] {
-    // Most often nothing stands before a line of the text in its line.
-    let (front, _) = text.split_at(offset.min(text.len()));
-    if let Some(rest) = lines.strip_prefix(front) {
-        return rest;
-    }
+fn place_in<'a>(lines: &'a [u8], text: &[u8], offset: usize) -> &'a [u8]
+    ensures { result.now ≡ from_byte offset (lines_of text.now) (lines_of lines.now) }
+{
     let mut left = text;
     let mut further = offset;
     let mut rest = lines;

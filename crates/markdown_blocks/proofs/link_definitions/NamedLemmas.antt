@@ -1,7 +1,7 @@
 -- What the definitions of a page name, and which of them a label finds.
 use Rattle.std.proofs.Common.{ℕ, List, [], ◌∷◌, ◌++◌, ◌+◌, ◌≡◌, ◌⊎◌, inl, inr, Option, Some, None, drop, take, cond, false, Bool, true}
 use Rattle.std.proofs.Common.{arith, refl, sym, ap, ◌∙◌, subst, append_assoc}
-use Rattle.std.specs.Prelude.{◌==◌, length, is_some, unwrap_or}
+use Rattle.std.specs.Prelude.{◌==◌, length, is_none, is_some, option_map, unwrap_or}
 use Rattle.std.specs.Map.{lookup}
 use Rattle.std.specs.Ordering.{is_eq, nat_cmp}
 use Rattle.std.specs.Str.{IsUtf8, bytes_eq}
@@ -25,8 +25,8 @@ use Rattle.markdown_blocks.specs.definitions.Content.{content_in}
 use Rattle.markdown_blocks.specs.definitions.Definitions.{AreDefinitions, IsDefinition}
 use Rattle.markdown_blocks.specs.events.Events.{piece_content}
 use Rattle.markdown_blocks.specs.walk.Walk.{IsStep, IsGathered, IsContentOf}
-use Rattle.markdown_blocks.specs.link_definitions.LinkDefinitions.{Target, Named, Known, Names, IsNamed, AreNamed, AreNamedIn, HasDefinitions}
-use Rattle.markdown_blocks.specs.link_definitions.LinkDefinitions.{AreAddedBetween, AreAddedUpTo, do_match, first_of, known_as, known_before, target_of}
+use Rattle.markdown_blocks.specs.link_definitions.LinkDefinitions.{LentTarget, Target, Named, Known, Names, IsNamed, AreNamed, AreNamedIn, HasDefinitions}
+use Rattle.markdown_blocks.specs.link_definitions.LinkDefinitions.{AreAddedBetween, AreAddedUpTo, do_match, first_of, known_as, known_before, target_in, target_of}
 use Rattle.markdown_blocks.proofs.definitions.DefinitionLemmas.{no_text, one_list_of_definitions}
 use Rattle.markdown_blocks.proofs.blocks.OneText.{one_page}
 
@@ -76,7 +76,7 @@ found_by_order (item ∷ known) key =
     rw (is_eq-slice_cmp key item.0) (ap (λ found. cond (bytes_eq key item.0) (Some item.1) found) (found_by_order known key))
 
 -- so it is where one is put in
-pub put_in_order : (old new : Known) (key : List ℕ) (target : Target)
+pub put_in_order : (old new : Known) (key : List ℕ) (target : LentTarget)
     → ((k : List ℕ) → lookup (λ other. is_eq (slice_cmp nat_cmp k other)) new
     ≡ cond (is_eq (slice_cmp nat_cmp key k)) (Some target) (lookup (λ other. is_eq (slice_cmp nat_cmp k other)) old))
     → (k : List ℕ) → lookup (bytes_eq k) new ≡ cond (bytes_eq key k) (Some target) (lookup (bytes_eq k) old)
@@ -84,13 +84,35 @@ put_in_order old new key target put k =
     sym (found_by_order new k) ∙ put k ∙ ap (λ same. cond same (Some target) (lookup (λ other. is_eq (slice_cmp nat_cmp k other)) old)) (is_eq-slice_cmp key k)
     ∙ ap (λ found. cond (bytes_eq key k) (Some target) found) (found_by_order old k)
 
+-- where a key leads
+abbrev pub leads : Known → List ℕ → Option Target
+leads known key = option_map target_in (lookup (bytes_eq key) known)
+
+pub put_target : (old new : Known) (key : List ℕ) (lent : LentTarget)
+    → ((k : List ℕ) → lookup (bytes_eq k) new ≡ cond (bytes_eq key k) (Some lent) (lookup (bytes_eq k) old))
+    → (k : List ℕ) → leads new k ≡ cond (bytes_eq key k) (Some lent.target) (leads old k)
+put_target old new key lent put k = ap (option_map target_in) (put k) ∙ by (bytes_eq key k)
+  where
+    by : (q : Bool) → option_map target_in (cond q (Some lent) (lookup (bytes_eq k) old)) ≡ cond q (Some lent.target) (leads old k)
+    by true = refl
+    by false = refl
+
+pub target_or : (found : Option LentTarget) (other : LentTarget)
+    → target_in (unwrap_or found other) ≡ unwrap_or (option_map target_in found) other.target
+target_or (Some lent) other = refl
+target_or None other = refl
+
+pub none_in : (found : Option LentTarget) → is_none found ≡ is_none (option_map target_in found)
+none_in (Some lent) = refl
+none_in None = refl
+
 -- a label that is known leads nowhere else
 pub already_known : (known : Known) (label : List ℕ) (target : Target) → is_some (known_as known label) ≡ true
     → (asked : List ℕ) → known_as known asked ≡ known_before known (record { label = label; target = target } ∷ []) asked
 already_known known label target there asked = elim (cases_Bool (bytes_eq (key_bytes asked) (key_bytes label))) [
   | inl same ↦ (
       let one : known_as known asked ≡ known_as known label =
-      ap (λ key. lookup (bytes_eq key) known) (same_key (key_bytes asked) (key_bytes label) same) in
+      ap (leads known) (same_key (key_bytes asked) (key_bytes label) same) in
       is_first (known_as known asked) _ (ap is_some one ∙ there)
       )
   | inr other ↦ none_later known asked ∙ ap (λ b. first (known_as known asked) (cond b (Some target) None)) (sym other)
@@ -102,13 +124,13 @@ already_known known label target there asked = elim (cases_Bool (bytes_eq (key_b
 
 -- a label that is added leads to its target
 pub newly_known : (old new : Known) (label : List ℕ) (target : Target) → known_as old label ≡ None
-    → ((key : List ℕ) → lookup (bytes_eq key) new ≡ cond (bytes_eq (key_bytes label) key) (Some target) (lookup (bytes_eq key) old))
+    → ((key : List ℕ) → leads new key ≡ cond (bytes_eq (key_bytes label) key) (Some target) (leads old key))
     → (asked : List ℕ) → known_as new asked ≡ known_before old (record { label = label; target = target } ∷ []) asked
 newly_known old new label target none added asked = elim (cases_Bool (bytes_eq (key_bytes label) (key_bytes asked))) [
   | inl same ↦ (
       let one : key_bytes label ≡ key_bytes asked = same_key (key_bytes label) (key_bytes asked) same in
       let itself : bytes_eq (key_bytes asked) (key_bytes label) ≡ true = (bytes_eq-Decides (key_bytes asked) (key_bytes label)).1 (sym one) in
-      let nothing : known_as old asked ≡ None = ap (λ key. lookup (bytes_eq key) old) (sym one) ∙ none in
+      let nothing : known_as old asked ≡ None = ap (leads old) (sym one) ∙ none in
       added (key_bytes asked) ∙ ap (λ b. cond b (Some target) (known_as old asked)) same ∙ ap (λ b. cond b (Some target) None) (sym itself)
       ∙ ap (λ found. first found (cond (do_match asked label) (Some target) None)) (sym nothing)
       )
@@ -130,17 +152,17 @@ newly_known old new label target none added asked = elim (cases_Bool (bytes_eq (
 
 -- a label leads where it did, or where it did not, to the target that is put in then
 pub known_once : (old new : Known) (label : List ℕ) (target : Target)
-    → ((key : List ℕ) → lookup (bytes_eq key) new
-    ≡ cond (bytes_eq (key_bytes label) key) (Some (unwrap_or (known_as old label) target)) (lookup (bytes_eq key) old))
+    → ((key : List ℕ) → leads new key
+    ≡ cond (bytes_eq (key_bytes label) key) (Some (unwrap_or (known_as old label) target)) (leads old key))
     → (asked : List ℕ) → known_as new asked ≡ known_before old (record { label = label; target = target } ∷ []) asked
 known_once old new label target put asked = by_found (known_as old label) refl
   where
     with : Option Target → List ℕ → Option Target
-    with found key = cond (bytes_eq (key_bytes label) key) (Some (unwrap_or found target)) (lookup (bytes_eq key) old)
+    with found key = cond (bytes_eq (key_bytes label) key) (Some (unwrap_or found target)) (leads old key)
 
     same : (there : Target) → known_as old label ≡ Some there → (is : Bool) → bytes_eq (key_bytes label) (key_bytes asked) ≡ is
         → cond is (Some there) (known_as old asked) ≡ known_as old asked
-    same there found true is = sym (ap (λ key. lookup (bytes_eq key) old) (sym (same_key (key_bytes label) (key_bytes asked) is)) ∙ found)
+    same there found true is = sym (ap (leads old) (sym (same_key (key_bytes label) (key_bytes asked) is)) ∙ found)
     same there found false is = refl
 
     by_found : (found : Option Target) → known_as old label ≡ found

@@ -19,6 +19,12 @@ pub record Target : Type 0 where
   pub destination : List ℕ
   pub title : Option (List ℕ)
 
+-- the same, and which of its texts are lent from the page
+pub record LentTarget : Type 0 where
+  pub target : Target
+  pub is_destination_lent : Bool
+  pub is_title_lent : Bool
+
 -- a label, in which each run of white space is one space, and where its definition leads
 pub record Named : Type 0 where
   pub label : List ℕ
@@ -79,11 +85,14 @@ first_of label (named ∷ more) = if do_match label named.label then Some named.
 
 -- Definitions that are known, by the case foldings of their labels.
 abbrev pub Known : Type 0
-Known = List (List ℕ × Target)
+Known = List (List ℕ × LentTarget)
+
+abbrev pub target_in : LentTarget → Target
+target_in lent = lent.target
 
 -- where a label leads among those that are known
 abbrev pub known_as : Known → List ℕ → Option Target
-known_as known label = lookup (bytes_eq (key_bytes label)) known
+known_as known label = option_map target_in (lookup (bytes_eq (key_bytes label)) known)
 
 -- where a label leads among those that are known, and these later ones
 abbrev pub known_before : Known → List Named → List ℕ → Option Target

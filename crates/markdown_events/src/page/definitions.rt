@@ -138,7 +138,7 @@ impl<'a, 'd, 'b, B: Definitions<'a>> Definitions<'a> for WithBrokenLinks<'a, 'd,
 
 // Where a definition leads.
 fn target_of<'a>(alloc: Global, definition: &LinkDefinition<'a>) -> Result<Target<'a>, AllocError>
-    ensures { IfOk result (λ target. seen_target target ≡ definition.now) }
+    ensures { IfOk result (λ target. seen_target target ≡ definition.now.target) }
 {
     let destination = match definition.lent_destination() {
         Some(lent) => CowStr::from(text_in(lent)?),
