@@ -1,10 +1,7 @@
 //! The link reference definitions of a page, and where they stand. (CommonMark 0.31.2, section 4.7)
-ghost use Rattle.std.specs.Prelude.{◌≡◌, ◌++◌, [], ◌∷◌, List, ℕ, false, drop, map, IfOk, OnOk, Some};
+ghost use Rattle.std.specs.Prelude.{◌≡◌, ◌++◌, [], ◌∷◌, List, ℕ, drop, map, IfOk, OnOk};
 ghost use Rattle.markdown_values.specs.strings.Text.{cow_text};
 ghost use Rattle.std.specs.Option.{option_map, option_to_list};
-ghost use Rattle.markdown_scanners_tree.specs.NoSkips.{SkipsNothing};
-ghost use Rattle.markdown_scanners_tree.specs.SomeExactly.{SomeExactly};
-ghost use Rattle.markdown_scanners_tree.specs.linklabel.Label.{Label, IsLabelInBytes};
 ghost use Rattle.markdown_blocks.specs.containers.Containers.{settled};
 ghost use Rattle.markdown_blocks.specs.events.Events.{Event, seen_event, seen_leaf};
 ghost use Rattle.page_links.specs.definitions.Definitions.{AreDefinedIn, AreDefinitionsIn, Defined, HasDefinition};
@@ -14,8 +11,8 @@ use markdown_blocks::blocks::BlockKind;
 use markdown_blocks::containers::{Container, settled};
 use markdown_blocks::definitions::add_content;
 use markdown_blocks::events::{BlockEvent, Blocks, Leaf};
+use markdown_blocks::link_definitions::read_label;
 use markdown_events::settings::built;
-use markdown_scanners_tree::linklabel::scan_link_label_bytes;
 use markdown_values::strings::CowStr;
 use markdown_values::values::Extensions;
 use std::alloc::{AllocError, Global};
@@ -162,7 +159,7 @@ fn named_at(
     ensures { IfOk result (λ found. IsNamedAt offset content.now
         (option_to_list (option_map seen_definition found))) }
 {
-    match label_in(alloc, bytes_from(content, 1))? {
+    match read_label(alloc, bytes_from(content, 1))? {
         Some(label) => with_label(alloc, offset, label),
         None => Ok(None),
     }
@@ -189,20 +186,5 @@ fn bytes_from(bytes: &[u8], offset: usize) -> &[u8]
         &bytes[offset..]
     } else {
         &[]
-    }
-}
-
-// The label after the bracket that opened it, if it is UTF-8.
-fn label_in<'t>(alloc: Global, text: &'t [u8]) -> Result<Option<CowStr<'t>>, AllocError>
-    ensures { IfOk result (λ found. SomeExactly (λ bytes. (label : Label)
-        × IsLabelInBytes SkipsNothing text.now false label × (label.text ≡ bytes))
-        (option_map cow_text found)) }
-{
-    let skips_nothing = |_rest: &[u8]| -> Option<usize>
-        ensures { result ≡ Some 0 }
-    { Some(0) };
-    match scan_link_label_bytes(alloc, text, &skips_nothing, false)? {
-        Some((_, label)) => Ok(Some(label)),
-        None => Ok(None),
     }
 }
