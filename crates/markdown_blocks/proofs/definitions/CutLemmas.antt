@@ -3,7 +3,7 @@ use Rattle.std.proofs.Common.{ℕ, true, false, List, [], ◌∷◌, ◌++◌, �
 use Rattle.std.specs.Prelude.{if◌then◌else◌}
 use Rattle.std.proofs.Common.{refl, sym, ap, ◌∙◌, subst, inl, inr, arith, append_assoc, append-nil, length-append}
 use Rattle.std.proofs.lemmas.Bool.{cases_Bool}
-use Rattle.std.proofs.lemmas.List.{drop-drop, length-take-le, take-append-drop, drop_at}
+use Rattle.std.proofs.lemmas.List.{length-take-le, take-append-drop, drop_at}
 use Rattle.std.proofs.Math.Seq.{take-append_seam}
 use Rattle.std.specs.declared.ops.Range.{Range}
 use Rattle.markdown_scanners_tree.specs.Bytes.{begins_with, line_ending}
@@ -84,12 +84,7 @@ end_cut : (text : List ℕ) (place : ℕ) (title : Option (Range ℕ)) (len : �
 end_cut text place None len within is =
     subst (λ m. Cut m text) (sym is.len_is) (rest_cut text place is.ending (omega (arith, within, is.len_is)) is.nothing_further)
 end_cut text place (Some title) len within is =
-    let x : ℕ = place + length is.gap + is.taken in
-    let at : drop x text ≡ drop is.taken is.rest =
-    sym (drop-drop is.taken (place + length is.gap) text) ∙ ap (drop is.taken) (sym (drop-drop (length is.gap) place text)
-    ∙ ap (drop (length is.gap)) is.parts ∙ drop_at is.gap is.rest (length is.gap) refl) in
-    let size : x + is.ending ≡ len = omega (arith, is.len_is, is.title_ends) in
-    subst (λ m. Cut m text) size (rest_cut text x is.ending (omega (arith, within, size)) (subst (λ t. IsRestOfLine t is.ending) (sym at) is.nothing_further))
+    subst (λ m. Cut m text) (sym is.len_is) (rest_cut text (title.end + 1) is.ending (omega (arith, within, is.len_is)) is.nothing_further)
 
 pub definition_cut : (text : List ℕ) (d : ReferenceDefinition) → d.len ≤ length text → IsDefinition text d
     → lines_of text ≡ lines_of (take d.len text) ++ lines_of (drop d.len text)
