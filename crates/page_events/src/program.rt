@@ -1,18 +1,13 @@
 //! What the program does with its words, its input and its output.
-ghost use Rattle.std.specs.Prelude.{◌≡◌, ◌≢◌, ◌⊎◌, [], false, IfSome, IsSome, codes};
-ghost use Rattle.std.specs.Io.KnownBytes.{Appends};
-ghost use Rattle.program_faults.specs.Faults.{AppendsPrefix};
-ghost use Rattle.program_faults.specs.Steps.{AreGiven, CantWrite};
-ghost use Rattle.program_faults.specs.declared.reasons.Reason.{Reason};
+ghost use Rattle.std.specs.Prelude.{◌≡◌, ◌≢◌, ◌⊎◌, false, codes};
+ghost use Rattle.page_programs.specs.Answers.{Answers, fillaqut_texts};
 ghost use Rattle.page_programs.specs.Came.{status_of};
 ghost use Rattle.page_programs.specs.Runs.{PrintsAll};
-ghost use Rattle.page_programs.specs.Stops.{stop_parts, unknown_parts};
 ghost use Rattle.page_programs.specs.Texts.{IsRefused, is_unwritten, no_title};
-ghost use Rattle.page_programs.specs.Words.{pages_of, request_of, unknown_of};
+ghost use Rattle.page_programs.specs.Words.{pages_of, request_of};
 ghost use Rattle.page_programs.specs.Worlds.{world};
 ghost use Rattle.page_programs.specs.declared.came.Came.{Came};
-ghost use Rattle.page_programs.specs.declared.stops.Stop.{Stop};
-ghost use Rattle.page_programs.specs.declared.words.Request.TheVariants.{Pages, Help, Version};
+ghost use Rattle.page_programs.specs.declared.words.Request.TheVariants.{Pages};
 ghost use Rattle.page_events.specs.page.Printed.{IsPrintedTo};
 ghost use Rattle.page_programs.specs.Extensions.{event_options, extensions_of};
 
@@ -23,9 +18,8 @@ use page_programs::extensions::extensions_of;
 use page_programs::files::OpensFiles;
 use page_programs::program;
 use page_programs::says::Says;
-use page_programs::stops::Stop;
 use page_programs::whole::{PrintsWholePages, Whole};
-use program_faults::{Reason, StepReader, StepWriter};
+use program_faults::{StepReader, StepWriter};
 use std::alloc::{AllocError, Global};
 
 /// Runs the program on its words, without its name, and answers its status.
@@ -44,30 +38,11 @@ pub fn run_program<R: StepReader, F: OpensFiles, W: StepWriter, V: StepWriter>(
 ) -> u8
     ensures status { (result ≡ 0) ⊎ ((result ≡ 2) ⊎ (result ≡ 3)) }
 
-    // An option that is not known.
-    ensures only_unknown { result ≡ 2 → IsSome (unknown_of event_options words.now) }
-    ensures unknown { IfSome (unknown_of event_options words.now) (λ word. (result ≡ 2)
-        × AreGiven V.writes faults.old
-        (unknown_parts (codes "fillaqut") word.now USAGE.now) faults.new) }
-    ensures untouched { IsSome (unknown_of event_options words.now) →
-        (input.new ≡ input.old) × (files.new ≡ files.old) × (output.new ≡ output.old) }
-
-    // The help, and the version.
-    ensures help { result ≡ 0 → request_of words.now ≡ Help →
-        Appends (W.contents output.old) (W.contents output.new) HELP.now }
-    ensures version { result ≡ 0 → request_of words.now ≡ Version →
-        Appends (W.contents output.old) (W.contents output.new) VERSION.now }
-    ensures help_front { request_of words.now ≡ Help →
-        AppendsPrefix (W.contents output.old) (W.contents output.new) HELP.now }
-    ensures version_front { request_of words.now ≡ Version →
-        AppendsPrefix (W.contents output.old) (W.contents output.new) VERSION.now }
-    ensures unread { (request_of words.now ≡ Help) ⊎ (request_of words.now ≡ Version) →
-        (input.new ≡ input.old) × (files.new ≡ files.old) }
-    ensures unwritten { result ≡ 3 → (request_of words.now ≡ Help)
-        ⊎ (request_of words.now ≡ Version)
-        → (why : Reason) × AreGiven V.writes faults.old
-        (stop_parts (codes "fillaqut") [] (Stop.Write why)) faults.new
-        × CantWrite W.writes why output.new }
+    // An option that is not known, the help and the version.
+    ensures answered { Answers W.contents W.writes V.writes
+        (fillaqut_texts USAGE.now HELP.now VERSION.now) event_options words.now result
+        (world input.old files.old output.old faults.old)
+        (world input.new files.new output.new faults.new) }
 
     // Pages: each is printed, or the faults are given why it is not.
     ensures printed { result ≢ 2 → request_of words.now ≡ Pages →

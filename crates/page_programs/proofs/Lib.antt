@@ -1,3 +1,4 @@
+pub mod AnswerLemmas
 pub mod CameLemmas
 pub mod CutLemmas
 pub mod EndLemmas

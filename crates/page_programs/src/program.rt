@@ -1,18 +1,19 @@
 //! What a program does with its words, its input and its output.
-ghost use Rattle.std.specs.Prelude.{◌≡◌, ◌≢◌, ◌⊎◌, [], IfSome, IsSome, length};
+ghost use Rattle.std.specs.Prelude.{◌≡◌, ◌≢◌, ◌⊎◌, [], length};
 ghost use Rattle.std.specs.Io.KnownBytes.{Appends};
 ghost use Rattle.program_faults.specs.Faults.{AppendsPrefix};
 ghost use Rattle.program_faults.specs.Steps.{AreGiven, CantWrite};
 ghost use Rattle.program_faults.specs.declared.reasons.Reason.{Reason};
+ghost use Rattle.page_programs.specs.Answers.{Answers, own_texts};
 ghost use Rattle.page_programs.specs.Came.{status_of};
 ghost use Rattle.page_programs.specs.Runs.{PrintsAll};
-ghost use Rattle.page_programs.specs.Stops.{stop_parts, unknown_parts};
+ghost use Rattle.page_programs.specs.Stops.{stop_parts};
 ghost use Rattle.page_programs.specs.Tried.{AreHandled};
-ghost use Rattle.page_programs.specs.Words.{pages_of, request_of, texts, unknown_of};
+ghost use Rattle.page_programs.specs.Words.{pages_of, request_of, texts};
 ghost use Rattle.page_programs.specs.Worlds.{world};
 ghost use Rattle.page_programs.specs.declared.came.Came.{Came};
 ghost use Rattle.page_programs.specs.declared.stops.Stop.{Stop};
-ghost use Rattle.page_programs.specs.declared.words.Request.TheVariants.{Pages, Help, Version};
+ghost use Rattle.page_programs.specs.declared.words.Request.TheVariants.{Pages};
 
 use crate::came::status_of;
 use crate::files::OpensFiles;
@@ -44,30 +45,11 @@ pub fn run_program<P: PrintsPages, R: StepReader, F: OpensFiles, W: StepWriter, 
 ) -> u8
     ensures status { (result ≡ 0) ⊎ ((result ≡ 2) ⊎ (result ≡ 3)) }
 
-    // An option that is not known.
-    ensures only_unknown { result ≡ 2 → IsSome (unknown_of (texts options.now) words.now) }
-    ensures unknown { IfSome (unknown_of (texts options.now) words.now) (λ word. (result ≡ 2)
-        × AreGiven V.writes faults.old
-        (unknown_parts says.now.name.now word.now says.now.usage.now) faults.new) }
-    ensures untouched { IsSome (unknown_of (texts options.now) words.now) →
-        (input.new ≡ input.old) × (files.new ≡ files.old) × (output.new ≡ output.old) }
-
-    // The help, and the version.
-    ensures help { result ≡ 0 → request_of words.now ≡ Help →
-        Appends (W.contents output.old) (W.contents output.new) says.now.help.now }
-    ensures version { result ≡ 0 → request_of words.now ≡ Version →
-        Appends (W.contents output.old) (W.contents output.new) says.now.version.now }
-    ensures help_front { request_of words.now ≡ Help →
-        AppendsPrefix (W.contents output.old) (W.contents output.new) says.now.help.now }
-    ensures version_front { request_of words.now ≡ Version →
-        AppendsPrefix (W.contents output.old) (W.contents output.new) says.now.version.now }
-    ensures unread { (request_of words.now ≡ Help) ⊎ (request_of words.now ≡ Version) →
-        (input.new ≡ input.old) × (files.new ≡ files.old) }
-    ensures unwritten { result ≡ 3 → (request_of words.now ≡ Help)
-        ⊎ (request_of words.now ≡ Version)
-        → (why : Reason) × AreGiven V.writes faults.old
-        (stop_parts says.now.name.now [] (Stop.Write why)) faults.new
-        × CantWrite W.writes why output.new }
+    // An option that is not known, the help and the version.
+    ensures answered { Answers W.contents W.writes V.writes
+        (own_texts says.now) (texts options.now) words.now result
+        (world input.old files.old output.old faults.old)
+        (world input.new files.new output.new faults.new) }
 
     // Pages.
     ensures printed { result ≢ 2 → request_of words.now ≡ Pages →
@@ -110,32 +92,11 @@ pub fn run_pages<T: TriesPages<R, F, W, V>, R, F, W: StepWriter, V: StepWriter>(
 ) -> u8
     ensures status { (result ≡ 0) ⊎ ((result ≡ 1) ⊎ ((result ≡ 2) ⊎ (result ≡ 3))) }
 
-    // An option that is not known.
-    ensures only_unknown { result ≡ 2 → IsSome (unknown_of (texts options.now) words.now) }
-    ensures unknown { IfSome (unknown_of (texts options.now) words.now) (λ word. (result ≡ 2)
-        × AreGiven V.writes faults.old
-        (unknown_parts says.now.name.now word.now says.now.usage.now) faults.new) }
-    ensures untouched { IsSome (unknown_of (texts options.now) words.now) →
-        (input.new ≡ input.old) × (files.new ≡ files.old) × (output.new ≡ output.old) }
-
-    // The help, and the version.
-    ensures help { result ≡ 0 → request_of words.now ≡ Help →
-        Appends (W.contents output.old) (W.contents output.new) says.now.help.now }
-    ensures version { result ≡ 0 → request_of words.now ≡ Version →
-        Appends (W.contents output.old) (W.contents output.new) says.now.version.now }
-    ensures help_front { request_of words.now ≡ Help →
-        AppendsPrefix (W.contents output.old) (W.contents output.new) says.now.help.now }
-    ensures version_front { request_of words.now ≡ Version →
-        AppendsPrefix (W.contents output.old) (W.contents output.new) says.now.version.now }
-    ensures unread { (request_of words.now ≡ Help) ⊎ (request_of words.now ≡ Version) →
-        (input.new ≡ input.old) × (files.new ≡ files.old) }
-    ensures silent { result ≡ 0 → (request_of words.now ≡ Help) ⊎ (request_of words.now ≡ Version)
-        → faults.new ≡ faults.old }
-    ensures unwritten { result ≡ 3 → (request_of words.now ≡ Help)
-        ⊎ (request_of words.now ≡ Version)
-        → (why : Reason) × AreGiven V.writes faults.old
-        (stop_parts says.now.name.now [] (Stop.Write why)) faults.new
-        × CantWrite W.writes why output.new }
+    // An option that is not known, the help and the version.
+    ensures answered { Answers W.contents W.writes V.writes
+        (own_texts says.now) (texts options.now) words.now result
+        (world input.old files.old output.old faults.old)
+        (world input.new files.new output.new faults.new) }
 
     // Pages.
     ensures only_pages { result ≡ 1 → request_of words.now ≡ Pages }

@@ -1,4 +1,5 @@
 use Rattle.std.proofs.Common.{true, ◌≡◌, ◌≢◌, inl, inr, sym, ap, subst, ◌∙◌, arith}
+use Rattle.page_programs.proofs.AnswerLemmas.{is_reported}
 use Rattle.page_programs.specs.Came.{status_of}
 use Rattle.page_programs.specs.Runs.{PrintsAll}
 use Rattle.page_programs.specs.Texts.{IsRefused, is_unwritten, no_title}
@@ -39,7 +40,7 @@ returns-clause-safe g c = λ pages is_html is_safe.
       | inl done ↦ all (λ two. absurd (omega (arith, done, two)))
       | inr others ↦ elim others [
         | inl unknown ↦ subst (λ out. PrintsSafely (g.W.Write.contents c.args.output.now) (g.W.Write.contents out))
-            (sym (c.run_program.ensures.untouched (c.run_program.ensures.only_unknown unknown)).2) (nothing (g.W.Write.contents c.args.output.now))
+            (sym (is_reported _ _ _ _ _ _ _ _ _ c.run_program.ensures.answered unknown).1.same_output) (nothing (g.W.Write.contents c.args.output.now))
         | inr three ↦ all (λ two. absurd (omega (arith, three, two)))
       ]
     ]

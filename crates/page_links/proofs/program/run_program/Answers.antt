@@ -1,6 +1,7 @@
 use Rattle.std.proofs.Common.{inl, inr, sym, ◌∙◌, arith}
 use Rattle.std.specs.Prelude.{⊤}
 use Rattle.std.proofs.lemmas.Bool.{false≢true}
+use Rattle.page_programs.proofs.AnswerLemmas.{own_silent}
 use Rattle.page_programs.proofs.EndLemmas.{by_request, ends_done, not_pages}
 use Rattle.page_programs.specs.Words.{pages_of, request_of}
 use Rattle.page_programs.specs.Worlds.{world}
@@ -35,7 +36,7 @@ returns-then-is_check-clause-done g c = λ done.
       | inr one ↦ inr (sym all.1 ∙ one)
     ]))
     (λ other. elim done [
-      | inl none ↦ c.run_pages.ensures.silent none other
+      | inl none ↦ own_silent _ _ _ _ _ _ _ _ _ c.run_pages.ensures.answered none other
       | inr one ↦ absurd (not_pages (request_of c.args.words.now) (c.run_pages.ensures.only_pages one) other)
     ])
 

@@ -1,6 +1,7 @@
 use Rattle.std.proofs.Common.{inl, length, sym, ◌∙◌, arith}
 use Rattle.page_programs.specs.Words.{pages_of, request_of}
 use Rattle.page_programs.specs.Worlds.{world}
+use Rattle.page_programs.proofs.AnswerLemmas.{own_silent}
 use Rattle.page_programs.proofs.EndLemmas.{by_request, ends_done, ends_found}
 use Rattle.page_programs.proofs.RunLemmas.{run_ends, without_one}
 use Rattle.page_programs.proofs.program.run_program.Goals as goal
@@ -28,4 +29,4 @@ returns-clause-done g c = λ none.
     (world c.args.input.now c.args.files.now c.args.output.now c.args.faults.now)
     (world c.run_pages.new.input c.run_pages.new.files c.run_pages.new.output c.run_pages.new.faults) all.0 all.2 in
     ends_done ⊥ _ all.0 ends (inl (sym all.1 ∙ none)))
-    (λ other. c.run_pages.ensures.silent none other)
+    (λ other. own_silent _ _ _ _ _ _ _ _ _ c.run_pages.ensures.answered none other)
