@@ -73,16 +73,16 @@ def help_of(text):
 
 
 def helps(commands, top=TOP):
-    """The help texts by their commands. A command that stands for another has none."""
+    """The help texts by their commands."""
     folder = top / "crates/fillaqut"
-    names = [command.name for command in commands if command.name != PROGRAM and not command.stands_for]
+    names = [command.name for command in commands if command.name != PROGRAM]
     paths = {PROGRAM: folder / "stdout", **{name: folder / f"help/{name}.txt" for name in names}}
     return {name: help_of(path.read_text()) for name, path in paths.items() if path.is_file()}
 
 
 def faults_of_files(commands, found, top=TOP):
     """Commands without a help text, and help texts of no command."""
-    yield from [f"{command.name}: no help text" for command in commands if command.name not in found and not command.stands_for]
+    yield from [f"{command.name}: no help text" for command in commands if command.name not in found]
     for path in sorted((top / "crates/fillaqut/help").iterdir()):
         if path.stem not in found:
             yield f"{path.name}: a help text, and the table has no such command"
@@ -157,15 +157,9 @@ def untaken(line, commands):
 
 
 def faults_of_table(command, commands):
-    """Words that the table has after the program in examples, and in what a command stands for, and that the program doesn't take."""
-    lines = [row.word.partition(f"{PROGRAM} ")[2] for row in command.examples] + [command.stands_for] * bool(command.stands_for)
-    for line in lines:
+    """Words that the table has after the program in examples, and that the program doesn't take."""
+    for line in [row.word.partition(f"{PROGRAM} ")[2] for row in command.examples]:
         yield from [f"{command.name}: the table says {PROGRAM} {line}, and there is no {word}" for word in untaken(line, commands)]
-    others = [it for it in commands if command.stands_for.split()[:1] == [it.name]]
-    taken = [(row.word, row.values) for other in others for row in other.options]
-    for row in command.options if others else []:
-        if (row.word, row.values) not in taken:
-            yield f"{command.name}: {others[0].name}, which it stands for, has other words than {row.shown}"
 
 
 def faults(commands, top=TOP):

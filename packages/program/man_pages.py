@@ -72,18 +72,8 @@ def list_of_commands(commands, names):
     return lines
 
 
-def meaning(command, names):
-    """What a command does that stands for another."""
-    other = command.stands_for.split()[0]
-    stands = f"{bold(f'{PROGRAM} {command.name}')} stands for {bold(f'{PROGRAM} {command.stands_for}')}:"
-    operands = [f"{row.word} is {row.sentence[0].lower()}{row.sentence[1:]}" for row in command.operands]
-    return [*prose([command.sentence], names), stands, f"{linked(other)} says what is printed then.", ".PP", *prose(operands, names)]
-
-
 def description(command, commands, found, names):
     """What the help text says beside its options and statuses."""
-    if command.stands_for:
-        return meaning(command, names)
     lines = []
     for part in [part for part in found.parts if not part[0].startswith(SAYS_STATUS)]:
         if not part[0].startswith(" "):
@@ -110,15 +100,14 @@ def by_help(definition, names):
 def by_table(alike, names):
     """Options that have one sentence."""
     row = alike[0]
-    lines = [".TP", ", ".join(in_fonts(other.shown) for other in alike), *prose([row.sentence], names)]
-    return lines + ([f"{in_fonts(row.value)} is one of {', '.join(map(bold, row.values))}."] if row.value else [])
+    return [".TP", ", ".join(in_fonts(other.shown) for other in alike), *prose([row.sentence], names)]
 
 
 def options(command, found, names):
     """What the help text defines of each option, and else the sentence of the table."""
     lines, said = [], set()
     for row in command.options:
-        definitions = found.defined(row.word) if found else []
+        definitions = found.defined(row.word)
         lines += [line for it in definitions for line in by_help(it, names)]
         if not definitions and row.sentence not in said:
             lines += by_table([other for other in command.options if other.sentence == row.sentence], names)
@@ -144,7 +133,7 @@ def see_also(command, commands):
 
 
 def page(command, commands, found):
-    """The page of a command, of whose help text the pieces are given if there is one."""
+    """The page of a command, of whose help text the pieces are given."""
     names = [it.name for it in commands if it.name != PROGRAM]
     title, version = page_of(command.name), (TOP / "VERSION").read_text().strip()
     sentence = command.sentence[0].lower() + command.sentence[1:].removesuffix(".")
@@ -166,4 +155,4 @@ def page(command, commands, found):
 
 def pages(commands, texts):
     """The text of each page by its name."""
-    return {f"man/{page_of(command.name)}.1": page(command, commands, texts.get(command.name)) for command in commands}
+    return {f"man/{page_of(command.name)}.1": page(command, commands, texts[command.name]) for command in commands}

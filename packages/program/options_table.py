@@ -37,12 +37,11 @@ class Row:
 
 @dataclass
 class Command:
-    """A command, or the program itself: what it does, its other rows, its own first; what it stands for, and of the program the day of its pages."""
+    """A command, or the program itself: what it does, its other rows, its own first; of the program the day of its pages."""
 
     name: str
     sentence: str
     rows: list[Row]
-    stands_for: str = ""
     day: str = ""
 
     def rows_of(self, pattern):
@@ -114,7 +113,7 @@ def commands(top=TOP):
     for head in heads:
         of = (head.command,) if head.command == PROGRAM else (head.command, EACH)
         own = [row for name in of for row in rows if row.command == name and row.word]
-        found.append(Command(head.command, head.sentence, own, **{"day" if head.command == PROGRAM else "stands_for": head.value}))
+        found.append(Command(head.command, head.sentence, own, head.value))
     if idle := [command.name for command in found if not command.options or not command.statuses]:
         raise BadTable(f"{TABLE}: no option or no status of {idle[0]}")
     return found

@@ -10,7 +10,7 @@ sys.path.append(str(TOP / "tests/html"))
 from spec import COMMONMARK, examples
 
 FILLAQUT = TOP / "crates/fillaqut"
-COMMANDS = ("html", "events", "blocks", "inlines", "links", "tables")
+COMMANDS = ("html", "events", "json", "blocks", "inlines", "links", "tables")
 
 
 def row(name, command, page, printed):

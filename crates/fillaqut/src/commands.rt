@@ -1,11 +1,12 @@
 //! The commands, by the first word of the command line.
 
+use page_events::page::EventForm;
+
 /// What is done with the pages.
 #[derive(Clone, Copy)]
 pub(crate) enum Command {
     Html,
-    Events,
-    Json,
+    Events(EventForm),
     Blocks,
     Inlines,
     Links,
@@ -14,8 +15,8 @@ pub(crate) enum Command {
 
 const COMMANDS: [(&str, Command); 7] = [
     ("html", Command::Html),
-    ("events", Command::Events),
-    ("json", Command::Json),
+    ("events", Command::Events(EventForm::Words)),
+    ("json", Command::Events(EventForm::Json)),
     ("blocks", Command::Blocks),
     ("inlines", Command::Inlines),
     ("links", Command::Links),

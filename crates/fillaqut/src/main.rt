@@ -48,42 +48,6 @@ fn words_of<'a>(alloc: Global, texts: &'a [String]) -> Result<Vec<&'a str>, Allo
         .collect::<Vec<&str>>(alloc)
 }
 
-// The words after an option.
-fn words_after<'a>(
-    alloc: Global,
-    option: &'a str,
-    texts: &'a [String],
-) -> Result<Vec<&'a str>, AllocError> {
-    let mut words = Vec::new(alloc);
-    words.push(option)?;
-    for text in texts {
-        words.push(text.as_str())?;
-    }
-    Ok(words)
-}
-
-// Prints HTML, or events as JSON, of the pages that these words name.
-fn run_html<V: StepWriter>(
-    rt: &HostRuntime,
-    texts: &[String],
-    is_json: bool,
-    faults: &mut V,
-) -> Result<u8, AllocError> {
-    let words = if is_json {
-        words_after(rt.alloc(), "--to json", texts)?
-    } else {
-        words_of(rt.alloc(), texts)?
-    };
-    Ok(page_html::program::run_program(
-        rt.alloc(),
-        &words,
-        &mut rt.stdin(),
-        &mut PageFiles(rt),
-        &mut rt.stdout(),
-        faults,
-    ))
-}
-
 // Runs a command on the words after it.
 fn run_command<V: StepWriter>(
     rt: &HostRuntime,
@@ -93,16 +57,16 @@ fn run_command<V: StepWriter>(
 ) -> Result<u8, AllocError> {
     let alloc = rt.alloc();
     let texts = join_values(alloc, texts)?;
-    if let Command::Html | Command::Json = command {
-        return run_html(rt, &texts, matches!(command, Command::Json), faults);
-    }
     let words = words_of(alloc, &texts)?;
     let (mut input, mut output) = (rt.stdin(), rt.stdout());
     let (input, output) = (&mut input, &mut output);
     let files = &mut PageFiles(rt);
     Ok(match command {
-        Command::Events => {
-            page_events::program::run_program(alloc, &words, input, files, output, faults)
+        Command::Html => {
+            page_html::program::run_program(alloc, &words, input, files, output, faults)
+        }
+        Command::Events(form) => {
+            page_events::program::run_program(alloc, form, &words, input, files, output, faults)
         }
         Command::Blocks => {
             page_blocks::program::run_program(alloc, &words, input, files, output, faults)

@@ -1,3 +1,4 @@
+pub mod help
 pub mod json
 pub mod page
 pub mod printing

@@ -1,9 +1,19 @@
 //! What the program says of itself.
+ghost use Rattle.std.specs.Prelude.{◌≡◌};
+ghost use Rattle.page_events.specs.help.Texts.{help_of, usage_of};
+
+use crate::page::EventForm;
 
 /// What is written on standard error after the name of an option that is not known.
 pub const USAGE: &str = "
 usage: fillaqut events [-e NAME].. [--gfm] [--] [FILE ..]
        fillaqut events -h | --help | --version
+";
+
+/// The same of the command that prints events as JSON.
+pub const JSON_USAGE: &str = "
+usage: fillaqut json [-e NAME].. [--gfm] [--] [FILE ..]
+       fillaqut json -h | --help | --version
 ";
 
 /// What `--version` prints.
@@ -82,3 +92,75 @@ control character is \\u{CODE} with its code in hexadecimal digits.
 The status is 0 where all is printed, 2 for an option that is not known, and 3 where a page is not
 printed.
 ";
+
+/// What `--help` prints of the command that prints events as JSON.
+pub const JSON_HELP: &str = "\
+usage: fillaqut json [-e NAME].. [--gfm] [--] [FILE ..]
+       fillaqut json -h | --help | --version
+
+Prints each event of a page of Markdown, in order, as a JSON object on a line of its own: the events
+that fillaqut events prints, each with its range. An element has two events, its start and its end,
+with the same range; what it holds stands between them.
+
+All objects have three members: kind, which is start, end, text, code, html, inline html, soft
+break, hard break, rule or task; start, how many bytes of the page stand before the event's source;
+and end, how many before what follows that. After them come
+
+  text             of a text, code or HTML
+  checked          of a task: true or false
+  element          of a start and an end: the element, as the help of fillaqut events names it
+  level            of both of a heading
+  first            of the start of an ordered list: the number of its first item
+  info             of the start of a fenced code block: the info string
+  columns          of the start of a table: an array of none, left, center and right
+  type             of the start of a link or an image: how it is written, as that help has it
+  destination      of the same: where it leads, and its title
+  title
+  label            of the same, where it is a reference
+
+  -e NAME          reads pages with an extension, which is one of
+
+    tables         tables of GitHub Flavored Markdown
+    strikethrough  text between tildes is struck through, as there
+    tasks          list items that begin with a box, as there
+    wikilinks      links in two pairs of brackets
+
+  --gfm            the same as -e tables -e strikethrough -e tasks
+
+An option and its value may be one word, as -etables.
+
+FILE is a page; - is standard input, and so is no FILE. The objects of the pages follow one another,
+and the bytes of each page are counted from its front. After the word -- all words are files.
+
+A page is read whole before its objects are printed. Of one that is not UTF-8 nothing is printed,
+and standard error has its name and how many bytes stand before the first that is wrong. Where a
+page can't be read, is not UTF-8, or memory is refused, the program says why on standard error and
+goes on with the next page. Where the output can't be written it stops, and says why unless the
+reader of the output has left.
+
+In a name on standard error a tab, a line feed and a carriage return are \\t, \\n and \\r, and another
+control character is \\u{CODE} with its code in hexadecimal digits.
+
+The status is 0 where all is printed, 2 for an option that is not known, and 3 where a page is not
+printed.
+";
+
+// How the command is used that prints events in this form.
+pub(crate) fn usage_of(form: EventForm) -> &'static str
+    ensures { result.now ≡ usage_of form }
+{
+    match form {
+        EventForm::Words => USAGE,
+        EventForm::Json => JSON_USAGE,
+    }
+}
+
+// The help of that command.
+pub(crate) fn help_of(form: EventForm) -> &'static str
+    ensures { result.now ≡ help_of form }
+{
+    match form {
+        EventForm::Words => HELP,
+        EventForm::Json => JSON_HELP,
+    }
+}

@@ -8,10 +8,11 @@ ghost use Rattle.page_programs.specs.Words.{pages_of, request_of};
 ghost use Rattle.page_programs.specs.Worlds.{world};
 ghost use Rattle.page_programs.specs.declared.came.Came.{Came};
 ghost use Rattle.page_programs.specs.declared.words.Request.TheVariants.{Pages};
+ghost use Rattle.page_events.specs.help.Texts.{help_of, usage_of};
 ghost use Rattle.page_events.specs.page.Printed.{IsPrintedTo};
 ghost use Rattle.page_programs.specs.Extensions.{event_options, extensions_of};
 
-use crate::help::{HELP, USAGE, VERSION};
+use crate::help::{VERSION, help_of, usage_of};
 use crate::page::{EventForm, lines_of_page};
 use markdown_values::values::Extensions;
 use page_programs::extensions::extensions_of;
@@ -22,7 +23,8 @@ use page_programs::whole::{PrintsWholePages, Whole};
 use program_faults::{StepReader, StepWriter};
 use std::alloc::{AllocError, Global};
 
-/// Runs the program on its words, without its name, and answers its status.
+/// Runs the command that prints events in this form on its words, without its name, and answers its
+/// status.
 ///
 /// 0: done. 2: an option that is not known, and nothing is read. 3: a page that can't be opened or
 /// read, or is refused, or memory that is refused, after which it goes on with the next page; or
@@ -30,6 +32,7 @@ use std::alloc::{AllocError, Global};
 /// written.
 pub fn run_program<R: StepReader, F: OpensFiles, W: StepWriter, V: StepWriter>(
     alloc: Global,
+    form: EventForm,
     words: &[&str],
     input: &mut R,
     files: &mut F,
@@ -40,7 +43,8 @@ pub fn run_program<R: StepReader, F: OpensFiles, W: StepWriter, V: StepWriter>(
 
     // An option that is not known, the help and the version.
     ensures answered { Answers W.contents W.writes V.writes
-        (fillaqut_texts USAGE.now HELP.now VERSION.now) event_options words.now result
+        (fillaqut_texts (usage_of form) (help_of form) VERSION.now)
+        event_options words.now result
         (world input.old files.old output.old faults.old)
         (world input.new files.new output.new faults.new) }
 
@@ -48,7 +52,7 @@ pub fn run_program<R: StepReader, F: OpensFiles, W: StepWriter, V: StepWriter>(
     ensures printed { result ≢ 2 → request_of words.now ≡ Pages →
         (came : Came) × (result ≡ status_of came)
         × PrintsAll no_title
-        (IsPrintedTo (extensions_of words.now))
+        (IsPrintedTo form (extensions_of words.now))
         is_unwritten (IsRefused false)
         R.remaining R.reads F.opens F.File.remaining F.File.reads
         W.contents W.writes V.writes (codes "fillaqut") (pages_of words.now)
@@ -60,12 +64,13 @@ pub fn run_program<R: StepReader, F: OpensFiles, W: StepWriter, V: StepWriter>(
 {
     let says = Says {
         name: "fillaqut",
-        usage: USAGE,
-        help: HELP,
+        usage: usage_of(form),
+        help: help_of(form),
         version: VERSION,
     };
     let events = Whole {
         printer: Events {
+            form,
             setting: extensions_of(words),
         },
     };
@@ -88,22 +93,22 @@ pub fn run_program<R: StepReader, F: OpensFiles, W: StepWriter, V: StepWriter>(
     )
 }
 
-// What prints the events of pages, which are read in this way.
+// What prints the events of pages in this form, which are read in this way.
 #[derive(Drop)]
 struct Events {
+    form: EventForm,
     setting: Extensions,
 }
 
 impl PrintsWholePages for Events {
     ghost use Rattle.std.specs.Prelude.{[], false};
-    ghost use Rattle.page_events.specs.declared.page.EventForm.TheVariants.{Words};
     ghost use Rattle.page_events.specs.page.Printed.{AreEventLines};
 
     ghost headings = { λ _ _ _. [] };
 
     ghost mends = { λ _. false };
 
-    ghost is_printed = { λ it. AreEventLines Words it.setting };
+    ghost is_printed = { λ it. AreEventLines it.form it.setting };
 
     fn make_heading(
         &self,
@@ -119,6 +124,6 @@ impl PrintsWholePages for Events {
     }
 
     fn text_of_page(&self, alloc: Global, page: &str) -> Result<String, AllocError> {
-        lines_of_page(alloc, page, self.setting, EventForm::Words)
+        lines_of_page(alloc, page, self.setting, self.form)
     }
 }

@@ -26,7 +26,7 @@ links say rel=\"nofollow noopener\".
                    standard
   --to html        prints HTML, as where nothing is asked for
   --to events      prints the events of the page in place of HTML, as fillaqut events does
-  --to json        prints them as JSON, an object a line
+  --to json        prints them as JSON, as fillaqut json does
   -e NAME          reads pages with an extension, which is one of
 
     tables         tables of GitHub Flavored Markdown
@@ -37,22 +37,6 @@ links say rel=\"nofollow noopener\".
   --gfm            the same as -e tables -e strikethrough -e tasks
 
 An option and its value may be one word, as --to=json and -etables.
-
-As JSON each event is an object on a line of its own. All have three members: kind, which is start,
-end, text, code, html, inline html, soft break, hard break, rule or task; start, how many bytes of
-the page stand before its source; and end, how many before what follows that. After them come
-
-  text             of a text, code or HTML
-  checked          of a task: true or false
-  element          of a start and an end: the element, as the help of fillaqut events names it
-  level            of both of a heading
-  first            of the start of an ordered list: the number of its first item
-  info             of the start of a fenced code block: the info string
-  columns          of the start of a table: an array of none, left, center and right
-  type             of the start of a link or an image: how it is written, as that help has it
-  destination      of the same: where it leads, and its title
-  title
-  label            of the same, where it is a reference
 
 Of a page that is not UTF-8 no event is printed, since the bytes of the page are counted, nor any
 HTML with --strict. Standard error has its name and how many bytes stand before the first that is

@@ -24,5 +24,5 @@ pub record AreEventLines (form : EventForm) (setting : Extensions) (page text : 
   pub are_lines : text ≡ flat_map (line_in form) events
 
 -- known bytes grow by the title, which is empty, and by what is printed of the page
-abbrev pub IsPrintedTo : Extensions → List ℕ → List ℕ → Option (List ℕ) → Option (List ℕ) → Type 0
-IsPrintedTo setting = PrintsText false (AreEventLines Words setting)
+abbrev pub IsPrintedTo : EventForm → Extensions → List ℕ → List ℕ → Option (List ℕ) → Option (List ℕ) → Type 0
+IsPrintedTo form setting = PrintsText false (AreEventLines form setting)
