@@ -3,8 +3,7 @@ use Rattle.std.proofs.Common.{ℕ, true, List, ◌∷◌, ◌≡◌, ◌+◌, �
 use Rattle.std.proofs.Common.{codes, get_or, Option, Some, None, false}
 use Rattle.std.specs.Str.{IsUtf8, IsCharBoundary}
 use Rattle.std.specs.declared.ops.Range.{Range}
-use Rattle.std.proofs.lemmas.List.{drop-drop, get_or-drop, length-drop}
-use Rattle.std.proofs.Math.Seq.{drop-append_seam}
+use Rattle.std.proofs.lemmas.List.{get_or-drop, length-drop}
 use Rattle.memchr.specs.Find.{occurs_at}
 use Rattle.memchr.proofs.lemmas.MatchLemmas.{OccursAt-true}
 use Rattle.markdown_scanners_tree.specs.NoSkips.{SkipsNothing}
@@ -41,13 +40,7 @@ tail_end_low : (text : List ℕ) (place : ℕ) (title : Option (Range ℕ)) (len
 tail_end_low text place None len is =
     subst (EndsLow text) (sym is.len_is) (low_after text place is.closing (closing_low (drop place text) is.closing is.closes))
 tail_end_low text place (Some title) len is =
-    let at = place + length is.gap + is.taken in
-    let rest : drop at text ≡ drop is.taken is.rest =
-    sym (drop-drop is.taken (place + length is.gap) text)
-    ∙ ap (drop is.taken) (sym (drop-drop (length is.gap) place text) ∙ (ap (drop (length is.gap)) is.parts ∙ drop-append_seam is.gap is.rest)) in
-    let end : at + is.closing ≡ len = omega (arith, is.len_is, is.title_ends) in
-    subst (EndsLow text) end
-    (low_after text at is.closing (subst (λ (t : List ℕ). EndsLow t is.closing) (sym rest) (closing_low (drop is.taken is.rest) is.closing is.closes)))
+    subst (EndsLow text) (sym is.len_is) (low_after text (title.end + 1) is.closing (closing_low (drop (title.end + 1) text) is.closing is.closes))
 
 tail_low : (most : ℕ) (text : List ℕ) (tail : LinkTail) → IsLinkTail most text tail → EndsLow text tail.len
 tail_low most text tail (inl is) =
