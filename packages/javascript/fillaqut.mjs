@@ -21,6 +21,7 @@ import { BlockReader } from "./lib/readers.mjs";
 import { Text } from "./lib/text.mjs";
 
 export * from "./lib/errors.mjs";
+export { DEFAULT_SCHEMES } from "./lib/html_settings.mjs";
 export { HtmlScanGuard, Skips, Text } from "./lib/text.mjs";
 export { LineStart } from "./lib/line_start.mjs";
 export { BlockReader } from "./lib/readers.mjs";
@@ -65,7 +66,7 @@ export class Scanners {
      * NotUtf8 and LoneSurrogate as of `text`. (3 to 6)
      * @template {string | Uint8Array} Made
      * @param {Made} page
-     * @param {{ extensions?: import("./lib/extensions.mjs").BuiltExtension[] }} [options]
+     * @param {{ extensions?: import("./lib/extensions.mjs").BuiltExtension[] } & import("./lib/html_settings.mjs").HtmlSetting} [options]
      */
     html(page, options = {}) {
         return this.text(page).html(options);

@@ -1,6 +1,7 @@
 pub mod Buffers
 pub mod DelimiterRuns
 pub mod HtmlScans
+pub mod HtmlSettings
 pub mod KeyLemmas
 pub mod KnownLabelLemmas
 pub mod LabelLemmas

@@ -7,6 +7,7 @@ pub mod EventRecords
 pub mod Extensions
 pub mod Finds
 pub mod Guards
+pub mod HtmlSettings
 pub mod Inlines
 pub mod Keys
 pub mod KnownLabels

@@ -12,6 +12,7 @@ mod delimiter_runs;
 mod event_records;
 mod extensions;
 mod html;
+mod html_settings;
 mod inline;
 mod inlines;
 mod keys;

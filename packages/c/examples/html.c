@@ -36,7 +36,7 @@ static uint8_t *read_page(size_t *length) {
 }
 
 static struct mds_text html_of(const uint8_t *page, size_t length, bool is_unsafe, uint8_t *html, size_t capacity) {
-    return is_unsafe ? mds_html_unsafe(page, length, GITHUB, html, capacity) : mds_html(page, length, GITHUB, NULL, 0, html, capacity);
+    return is_unsafe ? mds_html_unsafe(page, length, GITHUB, html, capacity) : mds_html(page, length, GITHUB, html, capacity);
 }
 
 int main(int count, char **words) {

@@ -1,5 +1,6 @@
-/* Asks six functions for what they write of made pages: their HTML, safe HTML, events, blocks, lists and inlines. A page is pieces that
- * begin something, one after another, with parts of the texts of a file; or one of these texts, of which a few places are changed.
+/* Asks seven functions for what they write of made pages: their HTML, safe HTML, the same by a setting, events, blocks, lists and inlines.
+ * A page is pieces that begin something, one after another, with parts of the texts of a file; or one of these texts, of which a few
+ * places are changed.
  *
  * Of each call it holds that short buffers are left as they are and give the numbers that suffice, that a second call gives the same,
  * and what is promised of the answer. Pages and buffers stand beside memory that faults.
@@ -88,7 +89,12 @@ static struct answer call_html_unsafe(const struct buffers *into) {
 }
 
 static struct answer call_html(const struct buffers *into) {
-    return of_text(mds_html(text, length, built, NULL, 0, into->bytes, into->byte_count));
+    return of_text(mds_html(text, length, built, into->bytes, into->byte_count));
+}
+
+static struct answer call_html_with(const struct buffers *into) {
+    static const struct mds_html_setting setting = {.raw_html = MDS_RAW_HTML_OMITTED, .rel = MDS_REL_NONE, .images_as_links = 1};
+    return of_text(mds_html_with(text, length, built, &setting, into->bytes, into->byte_count));
 }
 
 static struct answer call_events(const struct buffers *into) {
@@ -219,6 +225,7 @@ static void check_inlines(const struct buffers *found) {
 static const struct function functions[] = {
     {"mds_html_unsafe", 0, false, call_html_unsafe, check_html},
     {"mds_html", 0, false, call_html, check_safe_html},
+    {"mds_html_with", 0, false, call_html_with, check_safe_html},
     {"mds_events", sizeof(struct mds_event), false, call_events, check_events},
     {"mds_scan_blocks", sizeof(struct mds_block), true, call_blocks, check_blocks},
     {"mds_scan_lists", sizeof(struct mds_list), true, call_lists, check_lists},

@@ -4,10 +4,10 @@
  * `markdown_scanners_tree`, and each is proved to answer what their definitions say, after CommonMark 0.31.2
  * (https://spec.commonmark.org/0.31.2/), whose sections stand in brackets below.
  *
- * mds_html and mds_html_unsafe write the HTML of a page, and mds_events its events. mds_scan_blocks returns the blocks of a page,
- * mds_scan_inlines the inlines of the text of a block. mds_block_line reads a page that comes piece by piece. The others are
- * scanners: each reads from the front of the bytes that it is given, or from an offset in them, and says what begins there. None
- * looks for the next construct, so a caller goes through its document and asks.
+ * mds_html, mds_html_with and mds_html_unsafe write the HTML of a page, and mds_events its events. mds_scan_blocks returns the
+ * blocks of a page, mds_scan_inlines the inlines of the text of a block. mds_block_line reads a page that comes piece by piece. The
+ * others are scanners: each reads from the front of the bytes that it is given, or from an offset in them, and says what begins
+ * there. None looks for the next construct, so a caller goes through its document and asks.
  *
  * Bytes and texts. A pointer and a length go together; nothing has to end in a zero byte, and zero bytes are read as
  * any other. What is read may be of any type of bytes, as `char` or `uint8_t`. The pointer may be null where the length
@@ -104,7 +104,7 @@ enum mds_status {
     MDS_NOT_RISING = 10,    /* the offset is not above the one before it */
     MDS_INSIDE_FIND = 11,   /* the offset is inside what was found before it */
     MDS_SPACE_PENDING = 12, /* columns of a tab are pending, and the call is not one that takes space */
-    MDS_BAD_KIND = 13,      /* a call or a block has no known kind, or an extension is not known, or not built */
+    MDS_BAD_KIND = 13,      /* a call or a block has no known kind, or an extension or a setting is not known, or not built */
     MDS_BAD_STATE = 14      /* a line start has numbers that none has on these bytes, or what is said to be open is no container */
 };
 
@@ -863,39 +863,78 @@ struct mds_inlines mds_scan_inlines(
 /* ---- The HTML of a page ---- */
 
 /* The HTML of a page, safe for pages by people who are not trusted: raw HTML is written as text; of links and images an address is
- * written where it is relative or has one of the `schemes`, without regard to case, and else an empty one; and links say
- * `rel="nofollow noopener"`. All else is written as in the examples of CommonMark and of GitHub Flavored Markdown.
- *
- * Schemes are texts without a colon. Null and 0 are for http, https, mailto and tel. One that no address has, as an empty text,
- * allows relative addresses alone.
+ * written where it is relative or has one of the schemes http, https, mailto and tel, without regard to case, and else an empty one; and
+ * links say `rel="nofollow noopener"`. All else is written as in the examples of CommonMark and of GitHub Flavored Markdown.
  *
  * `taken` is the length of the text. How long its HTML is at most is not known: an address is written as often as its definition is
  * referred to. Twice the text and 64 bytes are enough for most; where the status is MDS_TOO_SHORT, the same call with a buffer of
  * `length` bytes makes all of it anew, and is MDS_OK (examples/html.c).
  *
- * MDS_BAD_KIND where a bit of `extensions` is not known, or HTML is not built of it yet, and else MDS_NOT_UTF8 where the text or a scheme
- * is not UTF-8. Memory is asked for, for the list of schemes, the blocks of the page, the inlines of one block after another, and the
- * HTML: MDS_NO_MEMORY. (3 to 6)
+ * MDS_BAD_KIND where a bit of `extensions` is not known, or HTML is not built of it yet, and else MDS_NOT_UTF8. Memory is asked for, for
+ * the blocks of the page, the inlines of one block after another, and the HTML: MDS_NO_MEMORY. (3 to 6)
  *
  *     uint8_t html[72];
- *     mds_html("[a](javascript:b)", 17, 0, NULL, 0, html, 72).length == 48
+ *     mds_html("[a](javascript:b)", 17, 0, html, 72).length == 48
  *     memcmp(html, "<p><a href=\"\" rel=\"nofollow noopener\">a</a></p>\n", 48) == 0
- *     mds_html("<b>", 3, 0, NULL, 0, html, 72).length == 10 && memcmp(html, "&lt;b&gt;\n", 10) == 0
- *     struct mds_view schemes[] = {{"ftp", 3}};
- *     mds_html("<https://a>", 11, 0, schemes, 1, html, 72).length == 56
+ *     mds_html("<b>", 3, 0, html, 72).length == 10 && memcmp(html, "&lt;b&gt;\n", 10) == 0
+ *     mds_html("|a|\n|-|", 7, MDS_TABLES, NULL, 0).status == MDS_TOO_SHORT
+ *     mds_html("a", 1, MDS_FOOTNOTES, html, 72).status == MDS_BAD_KIND
  */
-struct mds_text mds_html(
-    const void *text, size_t length, uint32_t extensions, const struct mds_view *schemes, size_t scheme_count, uint8_t *buffer,
-    size_t capacity);
+struct mds_text mds_html(const void *text, size_t length, uint32_t extensions, uint8_t *buffer, size_t capacity);
 
-/* The same, as the examples write it: raw HTML stands in it as it is, and links lead anywhere. It is for text of one's own, and mds_html
- * for text by others. MDS_BAD_KIND, MDS_NOT_UTF8 and MDS_NO_MEMORY as of mds_html.
+/* What is written of the HTML that stands in a page, in blocks of its own and in texts. (4.6, 6.6) */
+enum mds_raw_html {
+    MDS_RAW_HTML_ESCAPED = 0, /* its text, with references for what would be HTML */
+    MDS_RAW_HTML_OMITTED = 1  /* nothing */
+};
+
+/* What links say of where they lead. */
+enum mds_rel {
+    MDS_REL_NOFOLLOW = 0, /* `rel="nofollow noopener"` */
+    MDS_REL_NONE = 1      /* nothing */
+};
+
+/* What safe HTML is written with. All 0, `{0}`, is what mds_html writes with. A scheme is a text without a colon; one that no address
+ * has, as an empty text, allows relative addresses alone. `reserved` is room for fields of later versions, so that the struct never
+ * grows, and 0 there will mean what is done now: set the whole struct to 0 first, or name its fields where it is made, as below. */
+struct mds_html_setting {
+    const struct mds_view *schemes; /* those that addresses may have; null and 0 for http, https, mailto and tel */
+    size_t scheme_count;
+    uint32_t raw_html;        /* of enum mds_raw_html */
+    uint32_t rel;             /* of enum mds_rel */
+    uint32_t images_as_links; /* 1 where an image is written as a link to it, whose text is its description, and in a link as that text
+                               * alone; else 0 */
+    uint32_t reserved[9];     /* 0 */
+};
+
+/* The same by a setting, to which the pointer is not null. The HTML is safe with each: raw HTML is never kept.
+ *
+ * MDS_BAD_KIND as of mds_html, and where a number of the setting has no meaning, or one of `reserved` is not 0; and else MDS_NOT_UTF8
+ * where the text or a scheme is not UTF-8. Memory is asked for as by mds_html, and for the list of schemes: MDS_NO_MEMORY.
+ *
+ *     uint8_t html[72];
+ *     struct mds_view schemes[] = {{"ftp", 3}};
+ *     struct mds_html_setting setting = {.schemes = schemes, .scheme_count = 1, .rel = MDS_REL_NONE};
+ *     mds_html_with("<ftp://a>", 9, 0, &setting, html, 72).length == 37
+ *     memcmp(html, "<p><a href=\"ftp://a\">ftp://a</a></p>\n", 37) == 0
+ *     mds_html_with("<https://a>", 11, 0, &setting, html, 72).length == 32
+ *     setting = (struct mds_html_setting){.raw_html = MDS_RAW_HTML_OMITTED, .images_as_links = 1};
+ *     mds_html_with("a<b>", 4, 0, &setting, html, 72).length == 9 && memcmp(html, "<p>a</p>\n", 9) == 0
+ *     mds_html_with("![a](b)", 7, 0, &setting, html, 72).length == 49
+ *     memcmp(html, "<p><a href=\"b\" rel=\"nofollow noopener\">a</a></p>\n", 49) == 0
+ *     setting.reserved[0] = 1;
+ *     mds_html_with("a", 1, 0, &setting, html, 72).status == MDS_BAD_KIND
+ */
+struct mds_text mds_html_with(
+    const void *text, size_t length, uint32_t extensions, const struct mds_html_setting *setting, uint8_t *buffer, size_t capacity);
+
+/* The HTML of a page as the examples write it: raw HTML stands in it as it is, and links lead anywhere. It is for text of one's own, and
+ * mds_html for text by others. MDS_BAD_KIND, MDS_NOT_UTF8 and MDS_NO_MEMORY as of mds_html.
  *
  *     uint8_t html[18];
  *     struct mds_text found = mds_html_unsafe("*a*", 3, 0, html, 18);
  *     found.status == MDS_OK && found.taken == 3 && found.length == 18 && memcmp(html, "<p><em>a</em></p>\n", 18) == 0
- *     mds_html_unsafe("|a|\n|-|", 7, MDS_TABLES, NULL, 0).status == MDS_TOO_SHORT
- *     mds_html_unsafe("a", 1, MDS_FOOTNOTES, html, 18).status == MDS_BAD_KIND
+ *     mds_html_unsafe("<b>", 3, 0, html, 18).length == 4 && memcmp(html, "<b>\n", 4) == 0
  */
 struct mds_text mds_html_unsafe(const void *text, size_t length, uint32_t extensions, uint8_t *buffer, size_t capacity);
 

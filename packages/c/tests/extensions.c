@@ -34,8 +34,10 @@ static void in_events(int line, uint32_t asked, uint32_t status) {
     struct mds_parser parser;
     const uint32_t then = status == MDS_OK ? MDS_TOO_SHORT : status;
     const size_t length = status == MDS_OK ? 9 : 0;
-    struct mds_text html = mds_html(OF("a"), asked, NULL, 0, NULL, 0), whole_html = mds_html_unsafe(OF("a"), asked, NULL, 0);
+    struct mds_text html = mds_html(OF("a"), asked, NULL, 0), whole_html = mds_html_unsafe(OF("a"), asked, NULL, 0);
+    struct mds_text html_with = mds_html_with(OF("a"), asked, &(struct mds_html_setting){0}, NULL, 0);
     same(line, "html", html.status, then), same(line, "length", html.length, length);
+    same(line, "html_with", html_with.status, then), same(line, "length", html_with.length, length);
     same(line, "html_unsafe", whole_html.status, then), same(line, "length", whole_html.length, length);
     struct mds_events events = mds_events(OF("a"), asked, NULL, 0, NULL, 0);
     same(line, "events", events.status, then), same(line, "count", events.count, status == MDS_OK ? 3 : 0);

@@ -1,27 +1,36 @@
-/* The HTML of pages, on the rows of packages/pages.tsv; extensions, texts and schemes that are refused; and made pages, in whose safe HTML no
- * other tag begins. */
+/* The HTML of pages, on the rows of packages/pages.tsv; extensions, texts, schemes and settings that are refused; and made pages, in whose
+ * safe HTML no other tag begins. */
 #include "tables.h"
 
 #include <string.h>
 
 enum { MOST = 64 };
 
-/* How HTML is asked for. */
+/* How HTML is asked for; safe HTML by a setting where there is one. */
 struct asked {
     bool is_safe;
     uint32_t extensions;
-    const char *scheme;
+    const struct mds_html_setting *setting;
 };
+
+/* The HTML by a setting with one scheme at most. */
+static struct mds_text html_with(const void *text, size_t length, const struct asked *asked, uint8_t *buffer, size_t capacity) {
+    struct mds_html_setting setting = *asked->setting;
+    if (setting.scheme_count) {
+        struct mds_view scheme = setting.schemes[0];
+        scheme.text = given(OTHER_BYTES, scheme.text, scheme.length);
+        setting.schemes = given(LIST, &scheme, sizeof(scheme));
+    }
+    return mds_html_with(text, length, asked->extensions, given(REST, &setting, sizeof(setting)), buffer, capacity);
+}
 
 static struct mds_text html_of(const char *page, size_t length, const struct asked *asked, uint8_t *buffer, size_t capacity) {
     const void *text = given(BYTES, page, length);
     if (!asked->is_safe)
         return mds_html_unsafe(text, length, asked->extensions, buffer, capacity);
-    if (!asked->scheme)
-        return mds_html(text, length, asked->extensions, NULL, 0, buffer, capacity);
-    size_t size = strlen(asked->scheme);
-    const struct mds_view scheme = {given(OTHER_BYTES, asked->scheme, size), size};
-    return mds_html(text, length, asked->extensions, given(LIST, &scheme, sizeof(scheme)), 1, buffer, capacity);
+    if (!asked->setting)
+        return mds_html(text, length, asked->extensions, buffer, capacity);
+    return html_with(text, length, asked, buffer, capacity);
 }
 
 /* It is written where there is room for it, and nowhere else. */
@@ -46,19 +55,47 @@ static void check_html_unsafe(const struct row *row) {
     is_html(row, &(struct asked){false, extensions_of(row->columns[2]), NULL});
 }
 
-/* With the one scheme that the row names, if it does. */
+static bool asks(const char *words, const char *field) {
+    return strstr(words, field) != NULL;
+}
+
+/* The setting that a row asks for, with the one scheme that it names, if it does. */
+static struct mds_html_setting setting_of(const char *words, struct mds_view *view, struct text *scheme) {
+    struct mds_html_setting setting = {0};
+    if (asks(words, "scheme=")) {
+        read_text(field_of(words, "scheme"), ' ', scheme);
+        *view = (struct mds_view){scheme->bytes, scheme->length};
+        setting.schemes = view, setting.scheme_count = 1;
+    }
+    if (asks(words, "raw_html=omitted"))
+        setting.raw_html = MDS_RAW_HTML_OMITTED;
+    if (asks(words, "rel=none"))
+        setting.rel = MDS_REL_NONE;
+    setting.images_as_links = asks(words, "images_as_links=yes");
+    return setting;
+}
+
+/* Where a row asks for the default, that is what is written without a setting. */
 static void check_html(const struct row *row) {
     static struct text scheme;
+    struct mds_view view;
     const char *words = row->columns[2];
-    bool is_named = strstr(words, "scheme=") != NULL;
-    if (is_named)
-        read_text(field_of(words, "scheme"), ' ', &scheme);
-    is_html(row, &(struct asked){true, extensions_of(words), is_named ? (const char *)scheme.bytes : NULL});
+    const struct mds_html_setting setting = setting_of(words, &view, &scheme);
+    const uint32_t extensions = extensions_of(words);
+    is_html(row, &(struct asked){true, extensions, &setting});
+    if (!asks(words, "="))
+        is_html(row, &(struct asked){true, extensions, NULL});
 }
 
 static void is_refused(int line, struct mds_text found, uint32_t status) {
     same(line, "status", found.status, status), same(line, "taken", found.taken, 0), same(line, "length", found.length, 0);
     same(line, "is_left", is_left(BUFFER, 0), true);
+}
+
+/* What a setting with these schemes comes to. */
+static struct mds_text with(const char *text, size_t length, uint32_t extensions, const struct mds_view *schemes, size_t count) {
+    const struct mds_html_setting setting = {.schemes = schemes, .scheme_count = count};
+    return mds_html_with(given(BYTES, text, length), length, extensions, &setting, writable(BUFFER, MOST), MOST);
 }
 
 /* An extension that is unknown or not built is refused before a text or a scheme that is not UTF-8. */
@@ -68,14 +105,35 @@ static void refusals(void) {
     for (uint32_t bit = 1; bit != 0; bit <<= 1) {
         bool is_built = (bit & EVERY_BUILT) != 0;
         SAME(mds_html_unsafe(OF(""), bit, NULL, 0).status, is_built ? MDS_OK : MDS_BAD_KIND);
-        SAME(mds_html(OF(""), bit | EVERY_BUILT, NULL, 0, NULL, 0).status, is_built ? MDS_OK : MDS_BAD_KIND);
+        SAME(mds_html(OF(""), bit | EVERY_BUILT, NULL, 0).status, is_built ? MDS_OK : MDS_BAD_KIND);
         is_refused(__LINE__, mds_html_unsafe(OF("\xff"), bit, buffer, MOST), is_built ? MDS_NOT_UTF8 : MDS_BAD_KIND);
-        is_refused(__LINE__, mds_html(OF("\xff"), bit, NULL, 0, buffer, MOST), is_built ? MDS_NOT_UTF8 : MDS_BAD_KIND);
-        is_refused(__LINE__, mds_html(OF("a"), bit, other, 2, buffer, MOST), is_built ? MDS_NOT_UTF8 : MDS_BAD_KIND);
+        is_refused(__LINE__, mds_html(OF("\xff"), bit, buffer, MOST), is_built ? MDS_NOT_UTF8 : MDS_BAD_KIND);
+        is_refused(__LINE__, with("\xff", 1, bit, NULL, 0), is_built ? MDS_NOT_UTF8 : MDS_BAD_KIND);
+        is_refused(__LINE__, with("a", 1, bit, other, 2), is_built ? MDS_NOT_UTF8 : MDS_BAD_KIND);
     }
     is_refused(__LINE__, mds_html_unsafe(OF("a\xc3"), 0, buffer, MOST), MDS_NOT_UTF8);
-    SAME(mds_html_unsafe(NULL, 0, 0, NULL, 0).status, MDS_OK), SAME(mds_html(NULL, 0, 0, NULL, 0, NULL, 0).status, MDS_OK);
-    SAME(mds_html_unsafe(OF("a"), 0, NULL, 0).length, 9), SAME(mds_html(OF("a"), 0, other, 1, NULL, 0).length, 9);
+    SAME(mds_html_unsafe(NULL, 0, 0, NULL, 0).status, MDS_OK), SAME(mds_html(NULL, 0, 0, NULL, 0).status, MDS_OK);
+    SAME(mds_html_unsafe(OF("a"), 0, NULL, 0).length, 9), SAME(mds_html(OF("a"), 0, NULL, 0).length, 9);
+    SAME(with("a", 1, 0, other, 1).length, 9);
+}
+
+/* A number that a setting has, here the one at this place, is refused where it is none of those with a meaning, before the text is looked
+ * at. */
+static void refused_numbers(void) {
+    enum { NUMBERS = 12, KNOWN = 3 };
+    static const uint32_t others[] = {1, 2, 3, 1u << 31, UINT32_MAX};
+    const struct mds_html_setting none = {0};
+    SAME(sizeof(none), sizeof(void *) + sizeof(size_t) + NUMBERS * sizeof(uint32_t));
+    for (size_t place = 0; place < NUMBERS; place++)
+        for (size_t i = 0; i < sizeof(others) / sizeof(*others); i++) {
+            struct mds_html_setting setting = none;
+            memcpy((char *)&setting + offsetof(struct mds_html_setting, raw_html) + place * sizeof(uint32_t), &others[i], sizeof(uint32_t));
+            const bool is_known = place < KNOWN && others[i] == 1;
+            struct mds_text found = mds_html_with(OF("\xff"), 0, &setting, writable(BUFFER, MOST), MOST);
+            is_refused(__LINE__, found, is_known ? MDS_NOT_UTF8 : MDS_BAD_KIND);
+            SAME(mds_html_with(OF("a"), 0, &setting, NULL, 0).status, is_known ? MDS_TOO_SHORT : MDS_BAD_KIND);
+        }
+    SAME(mds_html_with(NULL, 0, 0, &none, NULL, 0).status, MDS_OK);
 }
 
 static uint64_t seed = 7;
@@ -116,7 +174,10 @@ static void made_pages(void) {
     char page[MOST], html[4096];
     for (size_t i = 0; i < 20000; i++) {
         at_front = i % 2;
-        struct asked asked = {true, made(2) ? EVERY_BUILT : 0, made(2) ? "http" : NULL};
+        const struct mds_view http = {"http", 4};
+        const struct mds_html_setting setting = {
+            .schemes = &http, .scheme_count = 1, .raw_html = (uint32_t)made(2), .rel = (uint32_t)made(2), .images_as_links = (uint32_t)made(2)};
+        struct asked asked = {true, made(2) ? EVERY_BUILT : 0, made(2) ? &setting : NULL};
         size_t length = make_page(page);
         struct mds_text found = html_of(page, length, &asked, (uint8_t *)html, sizeof(html) - 1);
         SAME(found.status, MDS_OK), html[found.length] = 0;
@@ -131,9 +192,9 @@ static void made_pages(void) {
 int main(void) {
     each_row("pages.tsv", 5, "html_unsafe", check_html_unsafe);
     each_row("pages.tsv", 5, "html", check_html);
-    refusals();
+    refusals(), refused_numbers();
     at_front = true;
-    refusals();
+    refusals(), refused_numbers();
     made_pages();
     return report("html");
 }

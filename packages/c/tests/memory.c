@@ -1,7 +1,7 @@
-/* Memory refused. Fourteen functions may answer MDS_NO_MEMORY: on each of their inputs here the first, second, .. request is refused
+/* Memory refused. Fifteen functions may answer MDS_NO_MEMORY: on each of their inputs here the first, second, .. request is refused
  * until none is left, by itself and with all that follow. The call then answers MDS_NO_MEMORY, returns nothing more and writes
  * nothing, or it has the same answer as with ample memory; and it frees what it was given. The other functions make no request,
- * and neither do these fourteen where the header says so. The linker puts the functions __wrap_.. in the place of the C library's
+ * and neither do these fifteen where the header says so. The linker puts the functions __wrap_.. in the place of the C library's
  * (--wrap). */
 #include "checks.h"
 #include "fillaqut_parser.h"
@@ -286,8 +286,14 @@ static struct returned long_html_unsafe(size_t capacity) {
 }
 
 static struct returned html(size_t capacity) {
+    return of_text(mds_html(OF("<a@b> [c](https://d) <f>"), 0, writable(BUFFER, capacity), capacity));
+}
+
+static struct returned html_with(size_t capacity) {
     static const struct mds_view schemes[] = {{"https", 5}, {"mailto", 6}};
-    return of_text(mds_html(OF("<a@b> [c](d:e) <f>"), 0, schemes, 2, writable(BUFFER, capacity), capacity));
+    static const struct mds_html_setting setting = {
+        .schemes = schemes, .scheme_count = 2, .raw_html = MDS_RAW_HTML_OMITTED, .rel = MDS_REL_NONE, .images_as_links = 1};
+    return of_text(mds_html_with(OF("<a@b> [c](d:e) <f> ![g](h)"), 0, &setting, writable(BUFFER, capacity), capacity));
 }
 
 /* The events stand in front of their texts. */
@@ -337,8 +343,9 @@ static void handles(void) {
     }
 }
 
-static struct returned html_by_usual_schemes(size_t capacity) {
-    return of_text(mds_html(OF("[c](https://d)"), 0, NULL, 0, writable(BUFFER, capacity), capacity));
+static struct returned html_with_usual_schemes(size_t capacity) {
+    static const struct mds_html_setting setting = {0};
+    return of_text(mds_html_with(OF("[c](https://d)"), 0, &setting, writable(BUFFER, capacity), capacity));
 }
 
 static struct returned made(call_with *call, size_t capacity, size_t which) {
@@ -409,7 +416,7 @@ static void asking(void) {
     ASKS(line), ASKS(line_of_table), ASKS(deep_line);
     ASKS(content_in_many), ASKS(long_content);
     ASKS(inlines), ASKS(inlines_with_labels), ASKS(inlines_with_many_labels);
-    ASKS(html_unsafe), ASKS(long_html_unsafe), ASKS(html), ASKS(html_by_usual_schemes);
+    ASKS(html_unsafe), ASKS(long_html_unsafe), ASKS(html), ASKS(html_with), ASKS(html_with_usual_schemes);
     ASKS(events), ASKS(events_of_table), ASKS(long_events);
 }
 

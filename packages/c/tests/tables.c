@@ -142,10 +142,19 @@ uint32_t extension_of(const char *words) {
     return 0;
 }
 
+/* Whether the word in front is a field of the setting of HTML. */
+static bool is_of_setting(const char *words) {
+    static const char *const names[] = {"scheme", "raw_html", "rel", "images_as_links"};
+    for (size_t i = 0; i < sizeof(names) / sizeof(*names); i++)
+        if (is_word(words, names[i]))
+            return true;
+    return false;
+}
+
 uint32_t extensions_of(const char *words) {
     uint32_t asked = 0;
     for (const char *word = *words ? words : NULL; word; word = after(word, ' ')) {
-        if (!extension_of(word) && !is_word(word, "scheme"))
+        if (!extension_of(word) && !is_of_setting(word))
             stop_at_row("there is no such extension");
         asked |= extension_of(word);
     }

@@ -50,7 +50,7 @@ enum { EVERY_BUILT = MDS_TABLES | MDS_STRIKETHROUGH | MDS_TASKS | MDS_WIKILINKS 
 /* The extension that the word in front names, or 0. */
 uint32_t extension_of(const char *words);
 
-/* The extensions that these words ask for; a scheme is not one. */
+/* The extensions that these words ask for; a field of the setting of HTML is not one. */
 uint32_t extensions_of(const char *words);
 
 /* ---- What a call answers, as the tables have it ---- */

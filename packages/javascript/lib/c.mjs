@@ -84,6 +84,12 @@ export const TARGET_COLLAPSED = 3;
 export const TARGET_SHORTCUT = 4;
 export const TARGET_WIKI = 5;
 
+export const RAW_HTML_ESCAPED = 0;
+export const RAW_HTML_OMITTED = 1;
+
+export const REL_NOFOLLOW = 0;
+export const REL_NONE = 1;
+
 export const EVENT_START = 0;
 export const EVENT_END = 1;
 export const EVENT_TEXT = 2;
@@ -373,6 +379,17 @@ export const STRUCTS = {
             count: from.size(at + 8),
         }),
     },
+    htmlSetting: {
+        size: 64,
+        fields: [["schemes", 0, "size_t"], ["schemeCount", 8, "size_t"], ["rawHtml", 16, "uint32_t"], ["rel", 20, "uint32_t"], ["imagesAsLinks", 24, "uint32_t"]],
+        read: (from, at) => ({
+            schemes: from.size(at),
+            schemeCount: from.size(at + 8),
+            rawHtml: from.uint32(at + 16),
+            rel: from.uint32(at + 20),
+            imagesAsLinks: from.uint32(at + 24),
+        }),
+    },
     event: {
         size: 88,
         fields: [["kind", 0, "uint32_t"], ["element", 4, "uint32_t"], ["detail", 8, "uint32_t"], ["number", 16, "uint64_t"], ["start", 24, "size_t"], ["end", 32, "size_t"], ["textStart", 40, "size_t"], ["textLength", 48, "size_t"], ["titleStart", 56, "size_t"], ["titleLength", 64, "size_t"], ["labelStart", 72, "size_t"], ["labelLength", 80, "size_t"]],
@@ -526,7 +543,8 @@ export const FUNCTIONS = {
     blockLine: ["mds_block_line", "lineBlock", ["pointer", "size_t", "bool", "pointer", "size_t", "pointer", "pointer"]],
     scanLists: ["mds_scan_lists", "blocks", ["pointer", "size_t", "uint32_t", "pointer", "size_t"]],
     scanInlines: ["mds_scan_inlines", "inlines", ["pointer", "size_t", "pointer", "size_t", "uint32_t", "pointer", "size_t"]],
-    html: ["mds_html", "text", ["pointer", "size_t", "uint32_t", "pointer", "size_t", "pointer", "size_t"]],
+    html: ["mds_html", "text", ["pointer", "size_t", "uint32_t", "pointer", "size_t"]],
+    htmlWith: ["mds_html_with", "text", ["pointer", "size_t", "uint32_t", "pointer", "pointer", "size_t"]],
     htmlUnsafe: ["mds_html_unsafe", "text", ["pointer", "size_t", "uint32_t", "pointer", "size_t"]],
     events: ["mds_events", "events", ["pointer", "size_t", "uint32_t", "pointer", "size_t", "pointer", "size_t"]],
     scanLinkDest: ["mds_scan_link_dest", "part", ["pointer", "size_t", "size_t", "size_t"]],

@@ -88,9 +88,9 @@ export function flagOf(name, given) {
 }
 
 /**
- * @template Item
+ * @template {readonly unknown[]} List
  * @param {string} name
- * @param {Item[]} given
+ * @param {List} given
  */
 export function listOf(name, given) {
     if (!Array.isArray(given)) throw wrongType(name, given, "a list");

@@ -1,9 +1,10 @@
 /** The inlines of a text. Sections in brackets are those of CommonMark 0.31.2. */
 import * as c from "./c.mjs";
 import { Blocks } from "./blocks.mjs";
-import { Block, NONE } from "./engine.mjs";
+import { NONE } from "./engine.mjs";
 import { isAnswer } from "./errors.mjs";
-import { bitsOf, bytesOf, listOf, optionsOf } from "./given.mjs";
+import { bitsOf, listOf, optionsOf } from "./given.mjs";
+import { Views } from "./views.mjs";
 
 /** @typedef {import("./blocks.mjs").Span} Span */
 /** @typedef {"text" | "escape" | "reference" | "html" | "softBreak" | "hardBreak"} PlainKind delimiters in no emphasis and brackets of no link are text */
@@ -65,13 +66,13 @@ export class Inlines extends Blocks {
         const { labels, extensions } = optionsOf(options, "labels", "extensions");
         const bits = bitsOf(extensions);
         const [from, to] = this.limits(at, end);
-        return this.#each(from, this.#rows(from, to, new Labels(listOf("labels", labels ?? [])), bits));
+        return this.#each(from, this.#rows(from, to, new Views("a label", listOf("labels", labels ?? [])), bits));
     }
 
     /**
      * @param {number} from
      * @param {number} to
-     * @param {Labels} labels
+     * @param {Views} labels
      * @param {number} bits
      * @returns {Record<string, number>[]}
      */
@@ -79,7 +80,7 @@ export class Inlines extends Blocks {
         const { engine } = this;
         for (let capacity = Math.ceil((to - from) / 16) + 8; ; ) {
             engine.bring(this.block, labels.block);
-            const views = engine.rows("view", labels.views());
+            const views = labels.listed(engine);
             const at = engine.room(capacity * SIZE);
             const given = [this.block.address + from, to - from, views, labels.length, bits, at, capacity];
             const { status, count } = engine.calls.scanInlines(...given);
@@ -135,33 +136,5 @@ export class Inlines extends Blocks {
      */
     #span(start, length) {
         return { start: this.placeOf(start), stop: this.placeOf(start + length) };
-    }
-}
-
-/** Labels, which stand one after another in the module's memory. */
-class Labels {
-    #lengths;
-
-    /** @param {(string | Uint8Array)[]} labels */
-    constructor(labels) {
-        const bytes = labels.map((label) => bytesOf("a label", label));
-        this.length = labels.length;
-        this.#lengths = bytes.map((label) => label.length);
-        const all = new Uint8Array(this.#lengths.reduce((sum, length) => sum + length, 0));
-        let at = 0;
-        for (const label of bytes) {
-            all.set(label, at);
-            at += label.length;
-        }
-        this.block = new Block(all);
-    }
-
-    /** Where each of them stands, as C has it. */
-    views() {
-        let at = this.block.address;
-        return this.#lengths.map((length) => {
-            at += length;
-            return { text: at - length, length };
-        });
     }
 }

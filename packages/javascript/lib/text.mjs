@@ -4,6 +4,7 @@ import { Block, NONE } from "./engine.mjs";
 import { isAnswer } from "./errors.mjs";
 import { eventsOf } from "./events.mjs";
 import { builtBitsOf, flagOf, listOf, optionsOf, sizeOf, wrongType } from "./given.mjs";
+import { AskedHtml, SETTING_NAMES } from "./html_settings.mjs";
 import { Inlines } from "./inlines.mjs";
 import { ended } from "./line_start.mjs";
 
@@ -17,6 +18,7 @@ const HTML_ROOM = 64;
 /** @typedef {{ end: number, start: number, stop: number }} Part its own bytes are those from `start` to `stop` */
 /** @typedef {1 | 2 | 3 | 4 | 5 | 6 | 7} HtmlBlockKind the number of a start condition */
 /** @typedef {import("./extensions.mjs").BuiltExtension} BuiltExtension */
+/** @typedef {import("./html_settings.mjs").HtmlSetting} HtmlSetting */
 
 /**
  * A text, with the scanners of lines and blocks, and those of inline text.
@@ -249,35 +251,44 @@ export class Text extends Inlines {
      * The HTML of the text, a page, safe for pages by people who are not trusted: raw HTML is written as text, links and images lead to
      * addresses that are relative or have one of the schemes http, https, mailto and tel, others being written as empty, and links say
      * `rel="nofollow noopener"`. All else is as the examples of CommonMark have it. NotUtf8. (3 to 6)
-     * @param {{ extensions?: BuiltExtension[] }} [options]
+     *
+     * `schemes`, `rawHtml`, `rel` and `imagesAsLinks` ask for other HTML, which is as safe.
+     * @param {{ extensions?: BuiltExtension[] } & HtmlSetting} [options]
      */
     html(options = {}) {
-        return this.writtenHtml("html", builtBitsOf(optionsOf(options, "extensions").extensions), 0, 0);
+        const { extensions, ...setting } = optionsOf(options, "extensions", ...SETTING_NAMES);
+        const asked = builtBitsOf(extensions);
+        return Object.keys(setting).length > 0 ? this.#htmlBy("htmlWith", asked, new AskedHtml(setting)) : this.#htmlBy("html", asked);
     }
 
     /**
-     * The same, as the examples write it: raw HTML stands in it as it is, and links lead anywhere. It is for text of one's own, and `html`
-     * for text by others. NotUtf8. (3 to 6)
+     * The HTML of the text, a page, as the examples write it: raw HTML stands in it as it is, and links lead anywhere. It is for text of
+     * one's own, and `html` for text by others. NotUtf8. (3 to 6)
      * @param {{ extensions?: BuiltExtension[] }} [options]
      */
     htmlUnsafe(options = {}) {
-        return this.writtenHtml("htmlUnsafe", builtBitsOf(optionsOf(options, "extensions").extensions));
+        return this.#htmlBy("htmlUnsafe", builtBitsOf(optionsOf(options, "extensions").extensions));
     }
 
     /**
-     * The HTML that this call writes with these bits of extensions, and with what it takes besides.
+     * The HTML that this call writes with these bits of extensions, and with a setting where it takes one.
      * @param {string} call
      * @param {number} asked
-     * @param {number[]} schemes
+     * @param {AskedHtml | null} [setting]
      */
-    writtenHtml(call, asked, ...schemes) {
-        for (let capacity = 2 * this.bytes.length + HTML_ROOM; ; ) {
-            const [found, html] = this.written(call, 0, this.length, capacity, asked, ...schemes);
-            if (found.status !== c.TOO_SHORT) {
-                isAnswer(found.status);
-                return this.made(html);
+    #htmlBy(call, asked, setting = null) {
+        const { engine } = this;
+        const size = this.bytes.length;
+        for (let capacity = 2 * size + HTML_ROOM; ; ) {
+            engine.bring(...(setting ? [this.block, setting.block] : [this.block]));
+            const given = [this.block.address, size, asked, ...(setting ? [setting.listed(engine)] : [])];
+            const buffer = engine.room(capacity);
+            const { status, length } = engine.calls[call](...given, buffer, capacity);
+            if (status !== c.TOO_SHORT) {
+                isAnswer(status);
+                return this.made(engine.heap.bytes.subarray(buffer, buffer + length));
             }
-            capacity = found.length;
+            capacity = length;
         }
     }
 

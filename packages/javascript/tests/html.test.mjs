@@ -3,7 +3,7 @@ import assert from "node:assert/strict";
 import { test } from "node:test";
 import * as mds from "../fillaqut.mjs";
 import { MODULE } from "./module.mjs";
-import { extensionsOf, pages } from "./tables.mjs";
+import { extensionsOf, pages, settingOf } from "./tables.mjs";
 import { hold } from "./totals.mjs";
 
 const scanners = await mds.load(MODULE);
@@ -11,7 +11,7 @@ const scanners = await mds.load(MODULE);
 function areRows(rows, call) {
     for (const row of rows) {
         const { page, answer, where } = row;
-        const options = { extensions: extensionsOf(row) };
+        const options = { extensions: extensionsOf(row), ...settingOf(row) };
         assert.equal(scanners[call](page, options), answer, where);
         assert.equal(scanners.text(page, { units: "utf-16" })[call](options), answer, where);
         assert.equal(Buffer.from(scanners[call](new TextEncoder().encode(page), options)).toString(), answer, where);
@@ -24,12 +24,39 @@ test("each row of html_unsafe", () => {
     hold("html_unsafe", rows.length);
 });
 
-test("each row of html, but for those that name a scheme, as no call of the package does", () => {
-    const [ofSchemes, others] = [[], []];
-    for (const row of pages("html")) (row.words.some((word) => word.startsWith("scheme=")) ? ofSchemes : others).push(row);
-    areRows(others, "html");
-    hold("html", others.length);
-    hold("html_left_out", ofSchemes.length);
+test("each row of html", () => {
+    const rows = pages("html");
+    areRows(rows, "html");
+    hold("html", rows.length);
+});
+
+test("settings", () => {
+    const link = (address, text) => `<p><a href="${address}" rel="nofollow noopener">${text}</a></p>\n`;
+    assert.deepEqual(mds.DEFAULT_SCHEMES, ["http", "https", "mailto", "tel"]);
+    for (const schemes of [mds.DEFAULT_SCHEMES, ["ftp", "HTTPS"], undefined]) {
+        assert.equal(scanners.html("<https://a>", { schemes }), link("https://a", "https://a"));
+    }
+    for (const schemes of [["ftp"], ["https:"], [""], []]) {
+        assert.equal(scanners.html("<https://a>", { schemes }), link("", "https://a"));
+        assert.equal(scanners.text("[a](b)").html({ schemes }), link("b", "a"));
+    }
+    assert.equal(scanners.html("a<b>", { rawHtml: "escaped", schemes: ["é", ""] }), "<p>a&lt;b&gt;</p>\n");
+    assert.equal(scanners.html("[a](b)<c>", { rel: false, rawHtml: "omitted" }), '<p><a href="b">a</a></p>\n');
+});
+
+test("settings that are refused", () => {
+    for (const rawHtml of ["kept", "Escaped", "", "toString", null, 1]) {
+        assert.throws(() => scanners.html("a", { rawHtml }), { name: "TypeError", message: /`rawHtml` is .*, and not "escaped" or "omitted"/ });
+    }
+    for (const schemes of ["http", null, {}, [1], [null]]) assert.throws(() => scanners.html("a", { schemes }), { name: "TypeError", message: /scheme/ });
+    assert.throws(() => scanners.html("a", { schemes: ["\ud800"] }), mds.LoneSurrogate);
+    for (const given of [1, 0, null, "no"]) {
+        assert.throws(() => scanners.html("a", { rel: given }), { name: "TypeError", message: /`rel` is/ });
+        assert.throws(() => scanners.html("a", { imagesAsLinks: given }), { name: "TypeError", message: /`imagesAsLinks` is/ });
+    }
+    for (const name of ["schemes", "rawHtml", "rel", "imagesAsLinks"]) {
+        assert.throws(() => scanners.htmlUnsafe("a", { [name]: undefined }), { name: "TypeError", message: new RegExp(name) });
+    }
 });
 
 test("html is safe", () => {
@@ -60,7 +87,8 @@ test("pages that are refused", () => {
 
 test("HTML that is longer than its first room", () => {
     const address = `/${"b".repeat(5000)}`;
-    const link = `<a href="${address}">a</a>`;
-    const html = scanners.htmlUnsafe(`${"[a]\n".repeat(100)}\n[a]: ${address}\n`);
-    assert.equal(html, `<p>${Array(100).fill(link).join("\n")}</p>\n`);
+    const page = `${"[a]\n".repeat(100)}\n[a]: ${address}\n`;
+    const expected = `<p>${Array(100).fill(`<a href="${address}">a</a>`).join("\n")}</p>\n`;
+    assert.equal(scanners.htmlUnsafe(page), expected);
+    assert.equal(scanners.html(page, { rel: false }), expected);
 });

@@ -50,6 +50,8 @@ test("memory that is refused within a call has an error, and the next call has i
         () => [...scanners.text("> a\n".repeat(100)).scanBlocks()].map((block) => block.line),
         () => leaf.content(),
         () => scanners.text("- a\n".repeat(100)).scanLists(),
+        () => scanners.html("*a*"),
+        () => scanners.html("<ftp:a>", { schemes: ["ftp"], rawHtml: "omitted" }),
         () => [...scanners.text("*[a]*").scanInlines(0, 5, { labels: ["A"], extensions: ["strikethrough"] })],
     ];
     for (const call of calls) {

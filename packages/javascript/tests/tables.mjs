@@ -100,7 +100,20 @@ export function pages(call) {
 }
 
 /** The extensions of a page that a row asks for, by the package's names. */
-export const extensionsOf = ({ words }) => words;
+export const extensionsOf = ({ words }) => words.filter((word) => !word.includes("="));
+
+/** What a row of pages.tsv has HTML written with. */
+export function settingOf({ words }) {
+    const fields = Object.fromEntries(words.filter((word) => word.includes("=")).map((word) => word.split("=")));
+    const { scheme, raw_html: rawHtml, rel, images_as_links: imagesAsLinks, ...others } = fields;
+    assert.deepEqual([others, rel ?? "none", imagesAsLinks ?? "yes"], [{}, "none", "yes"]);
+    return {
+        ...(scheme !== undefined && { schemes: [scheme] }),
+        ...(rawHtml && { rawHtml }),
+        ...(rel && { rel: false }),
+        ...(imagesAsLinks && { imagesAsLinks: true }),
+    };
+}
 
 /** What a row of pages.tsv asks for: extensions, and definitions, each a label, a destination and a title. */
 export function asked({ words }) {

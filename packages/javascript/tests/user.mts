@@ -1,5 +1,5 @@
 /** What a user of the package writes in TypeScript; what stands after `@ts-expect-error` must have an error. */
-import { load, NotUtf8, type LineStart, type Text } from "fillaqut";
+import { DEFAULT_SCHEMES, load, NotUtf8, type LineStart, type Text } from "fillaqut";
 
 const scanners = await load();
 const page: Text<string> = scanners.text("# a\n> [b](c) &amp;");
@@ -18,6 +18,7 @@ const inlines: (string | undefined)[] = Array.from(
     (it) => ("link" in it ? it.link.target : it.kind),
 );
 const html: [string, Uint8Array] = [scanners.html("*a*"), bytes.htmlUnsafe({ extensions: ["tables", "tasks"] })];
+const madeHtml: string = scanners.html("*a*", { schemes: [...DEFAULT_SCHEMES, "ftp"], rawHtml: "omitted", rel: false, imagesAsLinks: true });
 const returned: (string | number | null)[] = scanners.events("# *a*", { extensions: ["tables"] }).map((it) => {
     if (it.kind === "start") return it.element === "heading" ? it.level : it.element === "link" ? it.destination : it.start;
     return it.kind === "text" ? it.text : null;
@@ -25,7 +26,7 @@ const returned: (string | number | null)[] = scanners.events("# *a*", { extensio
 const first: Uint8Array | null = bytes.events().reduce<Uint8Array | null>((found, it) => found ?? (it.kind === "text" ? it.text : null), null);
 const name: string = new NotUtf8("none").name;
 console.log(level, isQuote, made[0], made[1].length, label?.text, page.scanLinkDest(10, 11)?.end, name);
-console.log(returned.length, first);
+console.log(returned.length, first, madeHtml);
 console.log(html[0].length, html[1].length, contents, places, inlines, title?.start, run, page.scanCodeSpan()?.stop);
 console.log(scanners.isUnicodeWhitespace("a"), scanners.isUnicodePunctuation(33));
 
@@ -45,6 +46,10 @@ page.scanInlines(0, 3, { labels: "a" });
 page.scanBlocks(0, 3, { extensions: ["footnote"] });
 // @ts-expect-error HTML is not built of this extension
 scanners.html("a", { extensions: ["footnotes"] });
+// @ts-expect-error safe HTML keeps no raw HTML
+scanners.html("a", { rawHtml: "kept" });
+// @ts-expect-error there is no such option
+scanners.htmlUnsafe("a", { rawHtml: "escaped" });
 // @ts-expect-error extensions are names
 scanners.blockReader({ footnotes: true });
 // @ts-expect-error there is no such option

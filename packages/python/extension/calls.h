@@ -65,7 +65,8 @@ WRITER(block_content, mds_text, of_Text, 6, (void *)it[0], it[1], (void *)it[2],
 SCANNER(block_line, of_LineBlock, 7, (void *)it[0], it[1], it[2], (void *)it[3], it[4], (void *)it[5], (void *)it[6])
 SCANNER(scan_lists, of_Blocks, 5, (void *)it[0], it[1], it[2], (void *)it[3], it[4])
 SCANNER(scan_inlines, of_Inlines, 7, (void *)it[0], it[1], (void *)it[2], it[3], it[4], (void *)it[5], it[6])
-WRITER(html, mds_text, of_Text, 5, (void *)it[0], it[1], it[2], (void *)it[3], it[4])
+WRITER(html, mds_text, of_Text, 3, (void *)it[0], it[1], it[2])
+WRITER(html_with, mds_text, of_Text, 4, (void *)it[0], it[1], it[2], (void *)it[3])
 WRITER(html_unsafe, mds_text, of_Text, 3, (void *)it[0], it[1], it[2])
 SCANNER(events, of_Events, 7, (void *)it[0], it[1], it[2], (void *)it[3], it[4], (void *)it[5], it[6])
 SCANNER(scan_link_dest, of_Part, 4, (void *)it[0], it[1], it[2], it[3])
@@ -104,8 +105,8 @@ WRITER(label_key, mds_text, of_Text, 2, (void *)it[0], it[1])
     use(scan_atx_heading) use(scan_setext_heading) use(scan_code_fence) use(scan_closing_code_fence) \
     use(scan_metadata_block) use(scan_closing_metadata_block) use(interrupts_paragraph) use(scan_reference_definition) \
     use(scan_table_head) use(scan_blocks) use(block_content) use(block_line) use(scan_lists) use(scan_inlines) use(html) \
-    use(html_unsafe) use(events) use(scan_link_dest) use(scan_link_title) use(scan_autolink) use(scan_email_autolink) \
-    use(scan_code_span) use(scan_wikilink_pipe) use(scan_delimiter_run) use(check_skips) use(starts_html_block_type_6) \
-    use(scan_html_type_7) use(scan_html_block_start) use(ends_html_block) use(scan_html_tag) use(scan_html_tag_over_lines) \
-    use(scan_inline_html) use(run_inline_html) use(scan_entity) use(unescape) use(scan_link_label) use(labels_match) \
-    use(label_key)
+    use(html_with) use(html_unsafe) use(events) use(scan_link_dest) use(scan_link_title) use(scan_autolink) \
+    use(scan_email_autolink) use(scan_code_span) use(scan_wikilink_pipe) use(scan_delimiter_run) use(check_skips) \
+    use(starts_html_block_type_6) use(scan_html_type_7) use(scan_html_block_start) use(ends_html_block) use(scan_html_tag) \
+    use(scan_html_tag_over_lines) use(scan_inline_html) use(run_inline_html) use(scan_entity) use(unescape) \
+    use(scan_link_label) use(labels_match) use(label_key)

@@ -102,7 +102,7 @@ from .line_scanners import (
     scan_whitespace_in_line,
 )
 from .page_events import Element, Event, EventKind, LinkKind, Target, events
-from .page_html import html, html_unsafe
+from .page_html import DEFAULT_SCHEMES, RawHtml, html, html_unsafe
 from .pages import Block, BlockKind, BlockQuote, Container, FootnoteDefinition, Item, ListBlock, TermDefinition
 from .pages import scan_blocks, scan_lists
 from .readers import BlockReader, read_blocks
@@ -120,6 +120,7 @@ __all__ = [
     "BlockReader",
     "CallKind",
     "Container",
+    "DEFAULT_SCHEMES",
     "DelimiterRun",
     "Element",
     "EmptyError",
@@ -151,6 +152,7 @@ __all__ = [
     "NotUtf8Error",
     "Page",
     "Part",
+    "RawHtml",
     "ReferenceDefinition",
     "RefusalError",
     "Skips",

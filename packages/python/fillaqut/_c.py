@@ -87,6 +87,12 @@ TARGET_COLLAPSED = 3
 TARGET_SHORTCUT = 4
 TARGET_WIKI = 5
 
+RAW_HTML_ESCAPED = 0
+RAW_HTML_OMITTED = 1
+
+REL_NOFOLLOW = 0
+REL_NONE = 1
+
 EVENT_START = 0
 EVENT_END = 1
 EVENT_TEXT = 2
@@ -437,6 +443,23 @@ class Inlines(Structure):
     ]
 
 
+class HtmlSetting(Structure):
+    schemes: int
+    scheme_count: int
+    raw_html: int
+    rel: int
+    images_as_links: int
+    reserved: Any
+    _fields_ = [
+        ("schemes", c_void_p),
+        ("scheme_count", c_size_t),
+        ("raw_html", c_uint32),
+        ("rel", c_uint32),
+        ("images_as_links", c_uint32),
+        ("reserved", c_uint32 * 9),
+    ]
+
+
 class Event(Structure):
     kind: int
     element: int
@@ -617,7 +640,8 @@ FUNCTIONS: dict[str, tuple[Any, tuple[Any, ...]]] = {
     "block_line": (LineBlock, (c_void_p, c_size_t, c_bool, c_void_p, c_size_t, c_void_p, c_void_p)),
     "scan_lists": (Blocks, (c_void_p, c_size_t, c_uint32, c_void_p, c_size_t)),
     "scan_inlines": (Inlines, (c_void_p, c_size_t, c_void_p, c_size_t, c_uint32, c_void_p, c_size_t)),
-    "html": (Text, (c_void_p, c_size_t, c_uint32, c_void_p, c_size_t, c_void_p, c_size_t)),
+    "html": (Text, (c_void_p, c_size_t, c_uint32, c_void_p, c_size_t)),
+    "html_with": (Text, (c_void_p, c_size_t, c_uint32, c_void_p, c_void_p, c_size_t)),
     "html_unsafe": (Text, (c_void_p, c_size_t, c_uint32, c_void_p, c_size_t)),
     "events": (Events, (c_void_p, c_size_t, c_uint32, c_void_p, c_size_t, c_void_p, c_size_t)),
     "scan_link_dest": (Part, (c_void_p, c_size_t, c_size_t, c_size_t)),

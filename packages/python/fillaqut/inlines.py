@@ -8,6 +8,7 @@ from typing import Any, Callable, Iterable, Iterator, NamedTuple, Optional
 from . import _c
 from ._library import function
 from ._pages import Page, front
+from ._views import views_of
 from .blocks import Span
 from .errors import stated
 from .extensions import bits_of
@@ -98,7 +99,7 @@ def scan_inlines(
     """
     bits = bits_of(extensions)
     address, length, origin = front(data, at, end)
-    views, held = _views(labels)
+    views, held = views_of("labels", labels)
     count = length // 16 + 8
     while True:
         inlines = (_c.Inline * count)()
@@ -109,16 +110,6 @@ def scan_inlines(
     del held  # until here the labels have stayed where they are
     stated(found.status)
     return (_inline(origin, row) for row in map(inlines.__getitem__, range(found.count)))
-
-
-def _views(labels: Iterable[Page]) -> tuple[Any, list[Any]]:
-    """The labels as C has them, and what has to live as long as these are used."""
-    if isinstance(labels, (str, bytes, bytearray)):
-        raise TypeError(f"labels is of type {type(labels).__name__}, and not several labels")
-    given = list(labels)
-    found = [front(label, 0, None) for label in given]
-    rows: list[Any] = [(address, length) for address, length, _ in found]
-    return (_c.View * len(rows))(*rows), [given, found]
 
 
 def _inline(origin: int, row: Any) -> Inline:

@@ -12,17 +12,25 @@ import spec
 
 
 def asked_of(row):
-    """The extensions that a row asks for."""
-    return list(row.words)
+    """The extensions and the setting that a row asks for."""
+    fields = dict(word.split("=") for word in row.words if "=" in word)
+    asked = {"extensions": [word for word in row.words if "=" not in word]}
+    if "scheme" in fields:
+        asked["schemes"] = [fields.pop("scheme")]
+    if "images_as_links" in fields:
+        asked["images_as_links"] = {"yes": True}[fields.pop("images_as_links")]
+    if "rel" in fields:
+        asked["rel"] = {"none": False}[fields.pop("rel")]
+    return asked | fields
 
 
 class Html(unittest.TestCase):
     def are_rows(self, rows, call):
         for row in rows:
-            page, html, extensions = row.text.decode(), row.answer, asked_of(row)
-            self.assertEqual(call(page, extensions=extensions), html.decode(), row.where)
-            self.assertEqual(call(row.text, extensions=extensions), html, row.where)
-            self.assertEqual(call(bytearray(row.text), extensions=extensions), html, row.where)
+            page, html, asked = row.text.decode(), row.answer, asked_of(row)
+            self.assertEqual(call(page, **asked), html.decode(), row.where)
+            self.assertEqual(call(row.text, **asked), html, row.where)
+            self.assertEqual(call(bytearray(row.text), **asked), html, row.where)
 
     def test_rows_of_html_unsafe(self):
         rows = tables.pages("html_unsafe")
@@ -30,13 +38,9 @@ class Html(unittest.TestCase):
         hold(self, "html_unsafe", len(rows))
 
     def test_rows(self):
-        """But for those that name a scheme, as no call of the package does."""
         rows = tables.pages("html")
-        of_schemes = [row for row in rows if any(word.startswith("scheme=") for word in row.words)]
-        others = [row for row in rows if row not in of_schemes]
-        self.are_rows(others, mds.html)
-        hold(self, "html", len(others))
-        hold(self, "html_left_out", len(of_schemes))
+        self.are_rows(rows, mds.html)
+        hold(self, "html", len(rows))
 
     def test_numbers_of_rows(self):
         """A row with a number is of that example of CommonMark 0.31.2, and its HTML the one that stands there."""
@@ -67,6 +71,33 @@ class Html(unittest.TestCase):
         self.assertRaisesRegex(ValueError, "not built of the extension 'footnotes' yet", mds.html_unsafe, "a", extensions={"footnotes"})
         self.assertRaises(TypeError, mds.html, "a", extensions="tables")
         self.assertRaises(TypeError, mds.html, "a", extensions=None)
+
+    def test_settings(self):
+        def link(address, text):
+            return f'<p><a href="{address}" rel="nofollow noopener">{text}</a></p>\n'
+
+        self.assertEqual(mds.DEFAULT_SCHEMES, ("http", "https", "mailto", "tel"))
+        for schemes in (list(mds.DEFAULT_SCHEMES), ["ftp", "HTTPS"], iter(["https"])):
+            self.assertEqual(mds.html("<https://a>", schemes=schemes), link("https://a", "https://a"))
+        for schemes in (["ftp"], ["https:"], [""], []):
+            self.assertEqual(mds.html("<https://a>", schemes=schemes), link("", "https://a"))
+            self.assertEqual(mds.html(b"[a](b)", schemes=schemes), link("b", "a").encode())
+        self.assertEqual(mds.html("a<b>", raw_html="escaped", schemes=["\xe9"]), "<p>a&lt;b&gt;</p>\n")
+        self.assertEqual(mds.html("\xe9<b>c", 1, 4, raw_html="omitted"), "")
+        self.assertEqual(mds.html("[a](b)", rel=False, raw_html="omitted"), '<p><a href="b">a</a></p>\n')
+
+    def test_settings_that_are_refused(self):
+        for raw_html in ("kept", "Escaped", "", None, False):
+            with self.assertRaisesRegex(ValueError, f"raw_html is {raw_html!r}, and not one of escaped, omitted"):
+                mds.html("a", raw_html=raw_html)
+        for schemes in ("http", b"http", None, [1], [None]):
+            self.assertRaises(TypeError, mds.html, "a", schemes=schemes)
+        self.assertRaises(mds.LoneSurrogateError, mds.html, "a", schemes=["\ud800"])
+        for given in (1, 0, None, "no"):
+            self.assertRaises(TypeError, mds.html, "a", rel=given)
+            self.assertRaises(TypeError, mds.html, "a", images_as_links=given)
+        for name in ("schemes", "raw_html", "rel", "images_as_links"):
+            self.assertRaises(TypeError, mds.html_unsafe, "a", **{name: False})
 
     def test_pages(self):
         self.assertEqual((mds.html(""), mds.html(b"")), ("", b""))

@@ -16,6 +16,7 @@ def of_str(page: str) -> None:
     assert_type(mds.scan_inlines(page, labels=[page], extensions=("strikethrough", "wikilinks")), Iterator[mds.Inline])
     assert_type(mds.events(page, extensions=["tables"]), Iterator[mds.Event[str]])
     assert_type([event.target.title for event in mds.events(page) if event.target], list[str])
+    assert_type(mds.html(page, extensions=["tables"], schemes=[*mds.DEFAULT_SCHEMES, "ftp"], raw_html="omitted"), str)
 
 
 def of_bytes(page: bytes) -> None:
@@ -26,6 +27,9 @@ def of_bytes(page: bytes) -> None:
     assert_type([block.content() for block in mds.scan_blocks(page)], list[bytes])
     assert_type([block.containers for block in mds.scan_blocks(page)], list[tuple[mds.Container, ...]])
     assert_type([event.text for event in mds.events(page)], list[Optional[bytes]])
+    raw_html: mds.RawHtml = "escaped"
+    assert_type(mds.html(page, raw_html=raw_html, rel=False, images_as_links=True), bytes)
+    assert_type(mds.html_unsafe(page), bytes)
 
 
 def of_pieces(pieces: list[bytes]) -> None:

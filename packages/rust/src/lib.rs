@@ -29,7 +29,7 @@ pub use inlines::{scan_inlines, Inline, InlineKind, Inlines, Link, LinkTarget};
 pub use labels::*;
 pub use line::LineStart;
 pub use page_events::{CodeBlockKind, Event, OffsetIter, Parser, Tag, TagEnd, Target};
-pub use page_html::{html, html_unsafe, html_with_schemes};
+pub use page_html::{html, html_unsafe, html_with, HtmlSetting, RawHtml, DEFAULT_SCHEMES};
 pub use pages::{scan_blocks, scan_lists, Block, BlockKind, BlockReader, Blocks, Container, ListBlock};
 pub use raw::Skip;
 pub use runs::{line_rest, run_inline_html, run_line, HtmlRun, HtmlStop, LineAnswer, LineCall, LineRun, LineStop};

@@ -15,6 +15,40 @@ pub(crate) fn built_bits(extensions: Extensions) -> u32 {
     extensions.bits()
 }
 
+/// The schemes that addresses may have where none are named.
+pub const DEFAULT_SCHEMES: &[&str] = &["http", "https", "mailto", "tel"];
+
+/// What is written of the HTML that stands in a page, in blocks of its own and in texts. (4.6, 6.6)
+#[derive(Clone, Copy, Debug, Default, PartialEq, Eq, Hash)]
+pub enum RawHtml {
+    /// Its text, with references for what would be HTML.
+    #[default]
+    Escaped,
+    /// Nothing.
+    Omitted,
+}
+
+/// What safe HTML is written with, by [`html_with`]; by default as [`html`] has it.
+#[derive(Clone, Copy, Debug, PartialEq, Eq, Hash)]
+pub struct HtmlSetting<'a> {
+    /// The schemes that addresses may have, without a colon and without regard to case, [`DEFAULT_SCHEMES`] by default. Of others an
+    /// empty address is written. Where there are none, relative addresses are written alone.
+    pub schemes: &'a [&'a str],
+    /// What is written of raw HTML, its text by default.
+    pub raw_html: RawHtml,
+    /// Whether links say `rel="nofollow noopener"`, as they do by default.
+    pub rel: bool,
+    /// Whether an image is written as a link to it, whose text is its description, and in a link as that text alone; by default it
+    /// is not.
+    pub images_as_links: bool,
+}
+
+impl Default for HtmlSetting<'_> {
+    fn default() -> Self {
+        HtmlSetting { schemes: DEFAULT_SCHEMES, raw_html: RawHtml::Escaped, rel: true, images_as_links: false }
+    }
+}
+
 /// The HTML of a page, safe for pages by people who are not trusted: raw HTML is written as text; of links and images an address is
 /// written where it is relative or has one of the schemes `http`, `https`, `mailto` and `tel`, and else an empty one; and links say
 /// `rel="nofollow noopener"`. All else is as the examples of CommonMark and of GitHub Flavored Markdown have it. (3 to 6)
@@ -31,27 +65,37 @@ pub(crate) fn built_bits(extensions: Extensions) -> u32 {
 /// ```
 #[must_use]
 pub fn html(text: &str, extensions: Extensions) -> String {
-    written(text.len(), |buffer| raw::html(text, built_bits(extensions), &[], buffer))
+    written(text.len(), |buffer| raw::html(text, built_bits(extensions), buffer))
 }
 
-/// The same as [`html`], where addresses are written whose scheme is one of these, without regard to case, and relative ones.
-/// Schemes have no colon; where there are none, relative addresses are written alone.
+/// The same as [`html`] by a setting. The HTML is safe with each: raw HTML is never kept.
 ///
 /// # Panics
 ///
 /// As of [`html`].
 ///
 /// ```
-/// use fillaqut::{html_with_schemes, Extensions};
-/// let expected = "<p><a href=\"ftp://a\" rel=\"nofollow noopener\">ftp://a</a></p>\n";
-/// assert_eq!(html_with_schemes("<ftp://a>", Extensions::default(), &["ftp"]), expected);
-/// let expected = "<p><a href=\"\" rel=\"nofollow noopener\">ftp://a</a></p>\n";
-/// assert_eq!(html_with_schemes("<ftp://a>", Extensions::default(), &[]), expected);
+/// use fillaqut::{html_with, Extensions, HtmlSetting, RawHtml};
+/// let setting = HtmlSetting { schemes: &["ftp"], rel: false, ..HtmlSetting::default() };
+/// assert_eq!(html_with("<ftp://a>", Extensions::default(), &setting), "<p><a href=\"ftp://a\">ftp://a</a></p>\n");
+/// assert_eq!(html_with("<https://a>", Extensions::default(), &setting), "<p><a href=\"\">https://a</a></p>\n");
+///
+/// let setting = HtmlSetting { raw_html: RawHtml::Omitted, images_as_links: true, ..HtmlSetting::default() };
+/// let expected = "<p>a <a href=\"c\" rel=\"nofollow noopener\">b</a></p>\n";
+/// assert_eq!(html_with("a<i> ![b](c)", Extensions::default(), &setting), expected);
 /// ```
 #[must_use]
-pub fn html_with_schemes(text: &str, extensions: Extensions, schemes: &[&str]) -> String {
-    let schemes = if schemes.is_empty() { &[""] } else { schemes }; // no address has this one
-    written(text.len(), |buffer| raw::html(text, built_bits(extensions), schemes, buffer))
+pub fn html_with(text: &str, extensions: Extensions, setting: &HtmlSetting) -> String {
+    let asked = raw::AskedHtml {
+        schemes: if setting.schemes.is_empty() { &[""] } else { setting.schemes }, // no address has this one
+        raw_html: match setting.raw_html {
+            RawHtml::Escaped => ffi::RAW_HTML_ESCAPED,
+            RawHtml::Omitted => ffi::RAW_HTML_OMITTED,
+        },
+        rel: if setting.rel { ffi::REL_NOFOLLOW } else { ffi::REL_NONE },
+        images_as_links: setting.images_as_links,
+    };
+    written(text.len(), |buffer| raw::html_with(text, built_bits(extensions), &asked, buffer))
 }
 
 /// The HTML of a page, as the examples write it. Raw HTML stands in it as it is, and links lead anywhere: it is for text of one's own,

@@ -364,13 +364,34 @@ pub(crate) fn html_unsafe(text: &str, extensions: u32, buffer: &mut [u8]) -> Tex
     returned(unsafe { ffi::mds_html_unsafe(front(bytes), bytes.len(), extensions, buffer.as_mut_ptr(), buffer.len()) })
 }
 
-pub(crate) fn html(text: &str, extensions: u32, schemes: &[&str], buffer: &mut [u8]) -> Text {
-    let (bytes, views) = (text.as_bytes(), views_of(schemes));
+pub(crate) fn html(text: &str, extensions: u32, buffer: &mut [u8]) -> Text {
+    let bytes = text.as_bytes();
+    // SAFETY: each pointer and length are those of one slice, and what is written is a `&mut` of its own.
+    returned(unsafe { ffi::mds_html(front(bytes), bytes.len(), extensions, buffer.as_mut_ptr(), buffer.len()) })
+}
+
+/// What safe HTML is written with, by the numbers of C.
+pub(crate) struct AskedHtml<'a> {
+    pub(crate) schemes: &'a [&'a str],
+    pub(crate) raw_html: u32,
+    pub(crate) rel: u32,
+    pub(crate) images_as_links: bool,
+}
+
+pub(crate) fn html_with(text: &str, extensions: u32, asked: &AskedHtml, buffer: &mut [u8]) -> Text {
+    let (bytes, views) = (text.as_bytes(), views_of(asked.schemes));
+    let setting = ffi::HtmlSetting {
+        schemes: views.as_ptr(),
+        scheme_count: views.len(),
+        raw_html: asked.raw_html,
+        rel: asked.rel,
+        images_as_links: asked.images_as_links.into(),
+        reserved: [0; 9],
+    };
     let (out, capacity) = (buffer.as_mut_ptr(), buffer.len());
-    // SAFETY: each pointer and length are those of one slice, those of the views too, and what is written is a `&mut` of its own.
-    returned(unsafe {
-        ffi::mds_html(front(bytes), bytes.len(), extensions, views.as_ptr(), views.len(), out, capacity)
-    })
+    // SAFETY: each pointer and length are those of one slice, those of the setting and of its views too, and what is written is a
+    // `&mut` of its own.
+    returned(unsafe { ffi::mds_html_with(front(bytes), bytes.len(), extensions, &setting, out, capacity) })
 }
 
 pub(crate) fn events(text: &str, extensions: u32, events: &mut [ffi::Event], texts: &mut [u8]) -> ffi::Events {

@@ -87,6 +87,12 @@ pub const TARGET_COLLAPSED: u32 = 3;
 pub const TARGET_SHORTCUT: u32 = 4;
 pub const TARGET_WIKI: u32 = 5;
 
+pub const RAW_HTML_ESCAPED: u32 = 0;
+pub const RAW_HTML_OMITTED: u32 = 1;
+
+pub const REL_NOFOLLOW: u32 = 0;
+pub const REL_NONE: u32 = 1;
+
 pub const EVENT_START: u32 = 0;
 pub const EVENT_END: u32 = 1;
 pub const EVENT_TEXT: u32 = 2;
@@ -349,6 +355,17 @@ pub struct Inlines {
 }
 
 #[repr(C)]
+#[derive(Clone, Copy, Debug, PartialEq, Eq)]
+pub struct HtmlSetting {
+    pub schemes: *const View,
+    pub scheme_count: usize,
+    pub raw_html: u32,
+    pub rel: u32,
+    pub images_as_links: u32,
+    pub reserved: [u32; 9],
+}
+
+#[repr(C)]
 #[derive(Clone, Copy, Debug, Default, PartialEq, Eq)]
 pub struct Event {
     pub kind: u32,
@@ -542,12 +559,12 @@ extern "C" {
         inlines: *mut Inline,
         capacity: usize,
     ) -> Inlines;
-    pub fn mds_html(
+    pub fn mds_html(text: *const c_void, length: usize, extensions: u32, buffer: *mut u8, capacity: usize) -> Text;
+    pub fn mds_html_with(
         text: *const c_void,
         length: usize,
         extensions: u32,
-        schemes: *const View,
-        scheme_count: usize,
+        setting: *const HtmlSetting,
         buffer: *mut u8,
         capacity: usize,
     ) -> Text;

@@ -248,7 +248,7 @@ fn extensions_that_are_not_built() {
         let calls: [fn(Extensions); 4] = [
             |asked| drop(html("a", asked)),
             |asked| drop(html_unsafe("a", asked)),
-            |asked| drop(html_with_schemes("a", asked, &[])),
+            |asked| drop(html_with("a", asked, &HtmlSetting::default())),
             |asked| drop(Parser::new("a", asked)),
         ];
         for call in calls {
@@ -267,10 +267,27 @@ fn html_of_pages_by_others() {
     assert_eq!(html("a <b c=\"d\">&amp;", none), "<p>a &lt;b c=&quot;d&quot;&gt;&amp;</p>\n");
     assert_eq!(html("<HTTP://b>", none), link("HTTP://b", "HTTP://b"));
     assert_eq!(html("[a](java&Tab;script:b)", none), link("", "a"));
-    assert_eq!(html_with_schemes("<https://a>", none, &["ftp", "HTTPS"]), link("https://a", "https://a"));
-    assert_eq!(html_with_schemes("<https://a>", none, &["ftp"]), link("", "https://a"));
-    assert_eq!(html_with_schemes("<https://a>", none, &[]), link("", "https://a"));
-    assert_eq!(html_with_schemes("[a](b)", none, &[]), link("b", "a"));
+}
+
+#[test]
+fn settings_of_html() {
+    let link =
+        |address: &str, text: &str| format!("<p><a href=\"{address}\" rel=\"nofollow noopener\">{text}</a></p>\n");
+    let usual = HtmlSetting::default();
+    assert_eq!((usual.schemes, usual.raw_html), (DEFAULT_SCHEMES, RawHtml::default()));
+    assert_eq!((usual.rel, usual.images_as_links), (true, false));
+    for schemes in [DEFAULT_SCHEMES, &["ftp", "HTTPS"]] {
+        let setting = HtmlSetting { schemes, ..usual };
+        assert_eq!(html_with("<https://a>", NONE, &setting), link("https://a", "https://a"));
+    }
+    let others: [&[&str]; 4] = [&["ftp"], &["https:"], &[""], &[]];
+    for schemes in others {
+        let setting = HtmlSetting { schemes, ..usual };
+        assert_eq!(html_with("<https://a>", NONE, &setting), link("", "https://a"));
+        assert_eq!(html_with("[a](b)", NONE, &setting), link("b", "a"));
+    }
+    let setting = HtmlSetting { schemes: &["é"], raw_html: RawHtml::Omitted, rel: false, images_as_links: true };
+    assert_eq!(html_with("~~a<b>~~", Extensions { strikethrough: true, ..NONE }, &setting), "<p><del>a</del></p>\n");
 }
 
 /// An address is written as often as it is referred to.
@@ -279,5 +296,7 @@ fn long_html() {
     let address = format!("/{}", "b".repeat(5000));
     let page = format!("{}\n[a]: {address}\n", "[a]\n".repeat(100));
     let links = vec![format!("<a href=\"{address}\">a</a>"); 100];
-    assert_eq!(html_unsafe(&page, NONE), format!("<p>{}</p>\n", links.join("\n")));
+    let expected = format!("<p>{}</p>\n", links.join("\n"));
+    assert_eq!(html_unsafe(&page, NONE), expected);
+    assert_eq!(html_with(&page, NONE, &HtmlSetting { rel: false, ..HtmlSetting::default() }), expected);
 }

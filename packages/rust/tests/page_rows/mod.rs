@@ -145,13 +145,29 @@ fn extensions(row: &PageRow) -> Extensions {
 fn rows_of_html() {
     each_page("html_unsafe", |row| assert_eq!(html_unsafe(&row.text, extensions(row)), row.answer, "{}", row.place));
     each_page("html", |row| {
-        let scheme = row.words.iter().find(|(name, _)| name == "scheme").map(|(_, scheme)| &scheme[..]);
-        let found = match scheme {
-            Some(scheme) => html_with_schemes(&row.text, extensions(row), &[scheme]),
-            None => html(&row.text, extensions(row)),
-        };
-        assert_eq!(found, row.answer, "{}", row.place);
+        let schemes = schemes(row);
+        let setting = setting(row, &schemes);
+        assert_eq!(html_with(&row.text, extensions(row), &setting), row.answer, "{}", row.place);
+        if setting == HtmlSetting::default() {
+            assert_eq!(html(&row.text, extensions(row)), row.answer, "{}", row.place);
+        }
     });
+}
+
+/// The scheme that a row names, if it does.
+fn schemes(row: &PageRow) -> Vec<&str> {
+    row.words.iter().filter(|(name, _)| name == "scheme").map(|(_, scheme)| &scheme[..]).collect()
+}
+
+/// The setting that a row asks for.
+fn setting<'a>(row: &PageRow, schemes: &'a [&'a str]) -> HtmlSetting<'a> {
+    let is_asked = |name, field| row.words.iter().any(|word| word.0 == name && word.1 == field);
+    HtmlSetting {
+        schemes: if schemes.is_empty() { DEFAULT_SCHEMES } else { schemes },
+        raw_html: if is_asked("raw_html", "omitted") { RawHtml::Omitted } else { RawHtml::Escaped },
+        rel: !is_asked("rel", "none"),
+        images_as_links: is_asked("images_as_links", "yes"),
+    }
 }
 
 fn quoted(text: &str) -> String {
