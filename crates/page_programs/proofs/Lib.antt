@@ -6,3 +6,4 @@ mod PageRuns
 mod RunLemmas
 pub mod ReadingLemmas
 mod StopLemmas
+mod WordLemmas

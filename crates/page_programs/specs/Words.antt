@@ -1,5 +1,8 @@
 -- What the words of the command line ask for.
 use Rattle.std.specs.Prelude.{ℕ, Bool, true, false, not, ◌&&◌, ◌||◌, ◌==◌, List, [], ◌∷◌, Option, Some, None, map, codes, if◌then◌else◌}
+use Rattle.std.specs.Prelude.{drop, length, nat_eq}
+use Rattle.std.specs.List.{ends_with, starts_with}
+use Rattle.std.specs.Option.{option_or}
 use Rattle.std.specs.Str.{bytes_eq}
 use Rattle.std.specs.Borrow.{Bor}
 use Rattle.page_programs.specs.declared.words.Request.{Request}
@@ -24,10 +27,18 @@ asks_version word = bytes_eq word (codes "--version")
 abbrev pub texts : List (Bor (List ℕ)) → List (List ℕ)
 texts words = map (λ word. word.now) words
 
+-- an option that is listed with a space at its end has any value after that
+abbrev pub takes_any : List ℕ → Bool
+takes_any option = ends_with nat_eq option (codes " ")
+
+-- a word is this option
+abbrev pub is_this : List ℕ → List ℕ → Bool
+is_this option word = if takes_any option then starts_with nat_eq word option else bytes_eq word option
+
 -- one of these options
 abbrev pub is_named : List (List ℕ) → List ℕ → Bool
 is_named [] word = false
-is_named (option ∷ options) word = bytes_eq word option || is_named options word
+is_named (option ∷ options) word = is_this option word || is_named options word
 
 -- one of these options, or one that each program has
 abbrev pub is_known : List (List ℕ) → List ℕ → Bool
@@ -57,6 +68,15 @@ asks option (word ∷ words) =
     if is_last word.now then false
     else if bytes_eq word.now option then true
     else asks option words
+
+-- what stands in a word after this
+abbrev pub after : List ℕ → List ℕ → Option (List ℕ)
+after front word = if starts_with nat_eq word front then Some (drop (length front) word) else None
+
+-- the value of an option, which is listed with a space at its end, before `--`: the last one, where it has several
+abbrev pub value_of : List ℕ → List (Bor (List ℕ)) → Option (List ℕ)
+value_of option [] = None
+value_of option (word ∷ words) = if is_last word.now then None else option_or (value_of option words) (after option word.now)
 
 -- the words that are no options, and all after `--`
 abbrev pub operands : List (Bor (List ℕ)) → List (Bor (List ℕ))

@@ -1,12 +1,13 @@
 //! The words of the command line, some of which take the word after them.
-ghost use Rattle.std.specs.Prelude.{◌≡◌, ◌<◌, ◌≤◌, ◌++◌, IfOk, OnOk, codes, drop, length, map, string_bytes};
-ghost use Rattle.page_programs.specs.Values.{joined, spelled, takes_value};
+ghost use Rattle.std.specs.Prelude.{◌≡◌, ◌<◌, ◌≤◌, ◌++◌, [], ◌∷◌, IfOk, OnOk, codes, drop, length, map, string_bytes};
+ghost use Rattle.page_programs.specs.Values.{joined, respelled, spelled, takes_value, with_value};
 
+use crate::words::after;
 use std::alloc::{AllocError, Global};
 
-/// The words, where up to `--` each option that takes a value, `-e` or `--to`, is one word with it and
-/// a space between: of `-e` and `tables`, and of `-etables`, becomes `-e tables`. This is what
-/// `run_program` takes.
+/// The words, where up to `--` each option that takes a value, `-e`, `--to` or `--root`, is one word
+/// with it and a space between: of `-e` and `tables`, and of `-etables`, becomes `-e tables`. This is
+/// what `run_program` takes.
 ///
 /// # Errors
 ///
@@ -41,8 +42,17 @@ fn push_next(alloc: Global, made: &mut Vec<String>, words: &[String]) -> Result<
         made.push(with_value(alloc, word, words[1].as_str())?)?;
         return Ok(2);
     }
-    made.push(String::from_str(alloc, spelled(word))?)?;
+    push_word(alloc, made, word)?;
     Ok(1)
+}
+
+// Adds a word; where an option has its value in it, with a space between them.
+fn push_word(alloc: Global, made: &mut Vec<String>, word: &str) -> Result<(), AllocError>
+    ensures { OnOk result (map string_bytes made.new.items
+        ≡ map string_bytes made.old.items ++ respelled word.now ∷ []) }
+{
+    made.push(respelled(alloc, word)?)?;
+    Ok(())
 }
 
 // Adds all of these words.
@@ -58,8 +68,7 @@ fn push_all(made: &mut Vec<String>, words: &[String]) -> Result<(), AllocError>
 
 // An option and its value in one word.
 fn with_value(alloc: Global, option: &str, value: &str) -> Result<String, AllocError>
-    ensures { IfOk result (λ word.
-        string_bytes word ≡ option.now ++ (codes " " ++ value.now)) }
+    ensures { IfOk result (λ word. string_bytes word ≡ with_value option.now value.now) }
 {
     let mut word = String::new(alloc);
     word.push_str(option)?;
@@ -68,7 +77,17 @@ fn with_value(alloc: Global, option: &str, value: &str) -> Result<String, AllocE
     Ok(word)
 }
 
-// The word; where an option has its value in it, with a space between them.
+// The word; where an option has any value in it, or one of its values, with a space between them.
+fn respelled(alloc: Global, word: &str) -> Result<String, AllocError>
+    ensures { IfOk result (λ made. string_bytes made ≡ respelled word.now) }
+{
+    if let Some(value) = after(word, "--root=") {
+        return with_value(alloc, "--root", value);
+    }
+    String::from_str(alloc, spelled(word))
+}
+
+// The word; where an option has one of its values in it, with a space between them.
 fn spelled(word: &str) -> &str
     ensures { result.now ≡ spelled word.now }
 {
@@ -90,5 +109,5 @@ fn spelled(word: &str) -> &str
 fn takes_value(word: &str) -> bool
     ensures { result ≡ takes_value word.now }
 {
-    word == "-e" || word == "--to"
+    word == "-e" || word == "--to" || word == "--root"
 }

@@ -1,6 +1,8 @@
 //! The words of the command line.
 ghost use Rattle.std.specs.Prelude.{◌≡◌, ◌++◌, IfOk, OnOk};
-ghost use Rattle.page_programs.specs.Words.{asks, is_named, is_option, is_known, operands, pages_of, request_of, texts, unknown_of};
+ghost use Rattle.std.specs.Option.{option_map};
+ghost use Rattle.page_programs.specs.Words.{after, asks, is_named, is_option, is_known, is_this, operands, pages_of};
+ghost use Rattle.page_programs.specs.Words.{request_of, takes_any, texts, unknown_of, value_of};
 
 use std::alloc::{AllocError, Global};
 
@@ -16,7 +18,7 @@ pub enum Request {
 }
 
 /// The first option before the word `--` that is neither one of these nor one that each program
-/// has.
+/// has. One of these that ends with a space has any value after that.
 pub fn unknown_option<'a>(options: &[&str], words: &[&'a str]) -> Option<&'a str>
     ensures { result ≡ unknown_of (texts options.now) words.now }
 {
@@ -62,6 +64,28 @@ pub fn has_option(words: &[&str], option: &str) -> bool
         }
     }
     false
+}
+
+/// The value of an option that ends with a space, where that stands before the word `--`: the last
+/// one, where it has several.
+pub fn value_of<'a>(words: &[&'a str], option: &str) -> Option<&'a str>
+    ensures { option_map (λ value. value.now) result ≡ value_of option.now words.now }
+{
+    let mut value = None;
+    for word in words {
+        if *word == "--" {
+            return value;
+        }
+        value = after(word, option).or(value);
+    }
+    value
+}
+
+// What stands in a word after this.
+pub(crate) fn after<'a>(word: &'a str, front: &str) -> Option<&'a str>
+    ensures { option_map (λ rest. rest.now) result ≡ after front.now word.now }
+{
+    word.strip_prefix(front)
 }
 
 /// The names of the pages: standard input, where no word names one.
@@ -122,9 +146,26 @@ fn is_named(options: &[&str], word: &str) -> bool
     ensures { result ≡ is_named (texts options.now) word.now }
 {
     for option in options {
-        if word == *option {
+        if is_this(option, word) {
             return true;
         }
     }
     false
+}
+
+// Whether a word is this option.
+fn is_this(option: &str, word: &str) -> bool
+    ensures { result ≡ is_this option.now word.now }
+{
+    if takes_any(option) {
+        return word.as_bytes().starts_with(option.as_bytes());
+    }
+    word == option
+}
+
+// Whether an option has any value after it: it ends with a space.
+fn takes_any(option: &str) -> bool
+    ensures { result ≡ takes_any option.now }
+{
+    option.as_bytes().ends_with(b" ")
 }
