@@ -95,7 +95,8 @@ def is_option(word, commands):
     for command in commands:
         for row in command.options:
             start = f"{row.word}=" if row.word.startswith("--") else row.word
-            if word == row.word or row.values and word.startswith(start) and word.removeprefix(start) in row.values:
+            is_value = row.is_folder or word.removeprefix(start) in row.values
+            if word == row.word or word.startswith(start) and is_value:
                 return True
     return False
 

@@ -20,7 +20,7 @@ class BadTable(Exception):
 
 @dataclass
 class Row:
-    """A row of the table; `command` is a name, fillaqut or *."""
+    """A row of the table; `command` is a name, fillaqut or *; the value of an option may be one of these, or is a folder."""
 
     command: str
     word: str
@@ -28,6 +28,7 @@ class Row:
     how: str
     values: list[str]
     sentence: str
+    is_folder: bool
 
     @property
     def shown(self):
@@ -74,10 +75,10 @@ class Command:
 
 
 def words_of(cell):
-    """The words of a cell of values, where @extensions and @built stand for the names of extensions."""
+    """The words of a cell of values, where @extensions and @built stand for the names of extensions, and @folder for no word."""
     if cell in ("@extensions", "@built"):
         return [it.name for it in extensions() if it.is_built or cell == "@extensions"]
-    return cell.split()
+    return [] if cell == "@folder" else cell.split()
 
 
 def row_of(number, line):
@@ -87,7 +88,7 @@ def row_of(number, line):
     command, word, value, how, values, sentence = cells
     if word and not re.match(r"-|\d$|\$ |\.|[A-Z]+$", word):
         raise BadTable(f"{TABLE}:{number}: {word} is nothing that a row is of")
-    return Row(command, word, value, how, words_of(values), sentence)
+    return Row(command, word, value, how, words_of(values), sentence, values == "@folder")
 
 
 def rows_of_table(text):

@@ -23,6 +23,14 @@ _fillaqut_values() {{
     esac
 }}
 
+# Whether the value of this option of this command is a folder.
+_fillaqut_is_folder() {{
+    case "$1 $2" in
+{folders}
+    esac
+    return 1
+}}
+
 # Whether the word -- stands between the command and the word that is completed.
 _fillaqut_only_files() {{
     local word
@@ -44,6 +52,10 @@ _fillaqut() {{
     if [ "$COMP_CWORD" = 1 ]; then
         words='{commands}'
         [[ $word != -* ]] || words=$(_fillaqut_options fillaqut)
+    elif ! _fillaqut_only_files && _fillaqut_is_folder "$command" "$option"; then
+        compopt -o filenames
+        mapfile -t COMPREPLY < <(compgen -d -- "$word")
+        return
     elif ! _fillaqut_only_files; then
         words=$(_fillaqut_values "$command" "$option")
         if [ -z "$words" ]; then
@@ -126,16 +138,18 @@ def of_commands(commands):
 def bash(commands):
     options = [f"        {command.name}) echo '{' '.join(row.word for row in completed(command))}' ;;" for command in commands]
     values = [f"        '{command.name} {row.word}') echo '{' '.join(row.values)}' ;;" for command in commands for row in completed(command) if row.values]
+    folders = [f"        '{command.name} {row.word}') return 0 ;;" for command in commands for row in completed(command) if row.is_folder]
     names = " ".join(command.name for command in of_commands(commands))
-    return BASH.format(by=BY, options="\n".join(options), values="\n".join(values), commands=names)
+    return BASH.format(by=BY, options="\n".join(options), values="\n".join(values), folders="\n".join(folders), commands=names)
 
 
 def zsh_option(row, others):
     """What _arguments takes of an option: with which others it doesn't stand, how its value follows, and its sentence."""
     repeated = "*" if row.how == ".." else f"({' '.join(others)})" if others else ""
     excluded = "(- : *)" if row.how == "alone" else repeated
-    follows = ("=" if row.word.startswith("--") else "+") if row.values else ""
-    value = f":{row.value or 'value'}:({' '.join(row.values)})" if row.values else ""
+    follows = ("=" if row.word.startswith("--") else "+") if row.values or row.is_folder else ""
+    offered = "_files -/" if row.is_folder else f"({' '.join(row.values)})"
+    value = f":{row.value or 'value'}:{offered}" if follows else ""
     said = phrase(row).replace("[", r"\[").replace("]", r"\]")
     return quote(f"{excluded}{row.word}{follows}[{said}]{value}")
 
@@ -168,7 +182,8 @@ def fish_option(command, row):
     is_program = command.name == PROGRAM
     condition = "not __fillaqut_command" if is_program else f"__fillaqut_command {command.name}"
     name = f"-l {row.word[2:]}" if row.word.startswith("--") else f"-s {row.word[1:]}"
-    value = f" -x -a {quote(' '.join(row.values))}" if row.values else ""
+    offered = "(__fish_complete_directories)" if row.is_folder else " ".join(row.values)
+    value = f" -x -a {quote(offered)}" if offered else ""
     return f"complete -c {PROGRAM} -n {quote(condition)} {name}{value} -d {fish_quoted(phrase(row))}"
 
 

@@ -18,7 +18,7 @@ def under(name, shown):
     return re.sub(rb"(?m)^-:", lambda _: name.encode() + b":", shown)
 
 
-FORMS = b"usage: fillaqut links [--json] [--check] [-e NAME].. [--gfm] [--] [FILE ..]\n       fillaqut links -h | --help | --version\n"
+FORMS = b"usage: fillaqut links [--json] [--check] [--root DIR] [-e NAME].. [--gfm] [--] [FILE ..]\n       fillaqut links -h | --help | --version\n"
 USAGE, COMPLAINTS = usage_of(FORMS), complaints_of(FORMS)
 UNREAD, NAMED = unread_of(Links), named_of(Links, b"", under)
 

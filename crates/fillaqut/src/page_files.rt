@@ -31,11 +31,27 @@ impl FindsFiles for PageFiles<'_> {
 
     ghost finds = { λ _ _ _. ⊤ };
 
+    ghost reads = { λ _ _ _. ⊤ };
+
     fn look_for(&self, path: &str) -> Result<FileState, AllocError> {
         match fs::exists(self.0, path) {
             Ok(true) => Ok(FileState::There),
             Ok(false) => Ok(FileState::Missing),
             Err(error) => unseen_state(error.kind()),
+        }
+    }
+
+    fn real_path(&self, path: &str) -> Result<String, AllocError> {
+        match fs::canonicalize(self.0, path) {
+            Ok(real) => Ok(real.into_string()),
+            Err(_) => String::from_str(self.0.alloc(), path),
+        }
+    }
+
+    fn read_file(&self, path: &str) -> Result<Vec<u8>, Reason> {
+        match fs::read(self.0, path) {
+            Ok(bytes) => Ok(bytes),
+            Err(error) => Err(reason_of(error.kind())),
         }
     }
 }

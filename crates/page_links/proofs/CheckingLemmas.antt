@@ -4,7 +4,6 @@ use Rattle.std.specs.Prelude.{⊤}
 use Rattle.std.proofs.Common.{inl, refl, sym, subst}
 use Rattle.std.proofs.KnownBytes.{Appends-nil}
 use Rattle.std.specs.Io.KnownBytes.{Appends, IsAtEnd}
-use Rattle.markdown_values.specs.declared.values.extensions.Extensions.{Extensions}
 use Rattle.program_faults.specs.Faults.{AppendsPrefix}
 use Rattle.program_faults.specs.Steps.{AreReads, HasEnded, HasFailed}
 use Rattle.program_faults.specs.declared.reasons.Reason.{Reason}
@@ -21,23 +20,21 @@ use Rattle.page_programs.specs.declared.came.Came.{Came}
 use Rattle.page_programs.specs.declared.stops.Stop.{Stop}
 use Rattle.page_programs.specs.declared.stops.Stop.TheVariants.{Read, NotText, Write, Memory}
 use Rattle.page_links.specs.checking.Checking.{ChecksAll, IsTried, is_done, not_done}
-use Rattle.page_links.specs.declared.checks.FileState.{FileState}
-use Rattle.page_links.specs.declared.printing.LinkForm.{LinkForm}
-use Rattle.page_links.specs.page.Printed.{IsChecked, IsCheckedTo, by_name}
+use Rattle.page_links.specs.page.Printed.{IsCheckedTo, by_name}
 
 -- a writer that stays as it was
 nothing_written : {W : Type 0} (contents : W → Option (List ℕ)) (out longer : W) → longer ≡ out → Appends (contents out) (contents longer) []
 nothing_written contents out longer same = subst (λ w. Appends (contents out) (contents w) []) (sym same) (Appends-nil (contents out))
 
-module _ {R : Type 0} (finds : List ℕ → FileState → Type 0) (form : LinkForm) (setting : Extensions) (remaining : R → Option (List ℕ))
+module _ {R : Type 0} (checks : List ℕ → List ℕ → List ℕ → Type 0) (remaining : R → Option (List ℕ))
     (reads : R → Result (List ℕ) Reason → R → Type 0) (name : List ℕ) (old new : R) where
   -- the page that a reader gives is checked, or it stopped: this text is printed of it
   abbrev pub Checks : List ℕ → Option Stop → Type 0
   Checks text stop =
-      Prints by_name (IsCheckedTo finds form setting) is_unwritten (IsRefused false) remaining reads name old new (Some []) (Some text) stop
+      Prints by_name (IsCheckedTo checks) is_unwritten (IsRefused false) remaining reads name old new (Some []) (Some text) stop
 
   pub page_checked : (Writes : List ℕ → Type 0) (r : Result Bool Stop)
-      → IfOk r (λ found. (page : List ℕ) × (text : List ℕ) × IsAllOf (remaining old) page × IsChecked finds form setting name page text
+      → IfOk r (λ found. (page : List ℕ) × (text : List ℕ) × IsAllOf (remaining old) page × checks name page text
       × (found ≡ is_reported text) × Writes text)
       → IfOk r (λ _. IsAtEnd (remaining new)) → IfOk r (λ _. HasEnded reads new) → (count : ℕ) × AreReads reads count old new
       → IfOk r (λ found. (text : List ℕ) × Checks text None × (found ≡ is_reported text) × Writes text)
@@ -52,7 +49,7 @@ module _ {R : Type 0} (finds : List ℕ → FileState → Type 0) (form : LinkFo
   -- It stopped: where a write of its text failed, a part at the front of that is printed.
   pub page_stopped : {W : Type 0} (contents : W → Option (List ℕ)) (out longer : W) (r : Result Bool Stop)
       → IfErr r (λ stop. ¬ IsWrite stop → longer ≡ out)
-      → IfErr r (λ stop. IsWrite stop → (page : List ℕ) × (text : List ℕ) × IsAllOf (remaining old) page × IsChecked finds form setting name page text
+      → IfErr r (λ stop. IsWrite stop → (page : List ℕ) × (text : List ℕ) × IsAllOf (remaining old) page × checks name page text
       × AppendsPrefix (contents out) (contents longer) text)
       → IfErr r (λ stop. (why : Reason) → stop ≡ Read why → HasFailed reads why new ⊎ AreReads reads 281474976710655 old new)
       → IfErr r (λ stop. (offset : ℕ) → stop ≡ NotText offset → RefusesAllOf (IsRefused false) (remaining old) offset × HasEnded reads new)
@@ -85,14 +82,14 @@ ends_of : (A : Type 0) (found : Bool) → A → Ends ⊤ (came_of found) A
 ends_of A true a = (tt, a)
 ends_of A false a = a
 
-module _ {R O F W V : Type 0} (finds : List ℕ → FileState → Type 0) (form : LinkForm) (setting : Extensions)
+module _ {R O F W V : Type 0} (checks : List ℕ → List ℕ → List ℕ → Type 0)
     (remaining : R → Option (List ℕ)) (reads : R → Result (List ℕ) Reason → R → Type 0)
     (opens : F → List ℕ → Result O Reason → F → Type 0)
     (file_remaining : O → Option (List ℕ)) (file_reads : O → Result (List ℕ) Reason → O → Type 0)
     (contents : W → Option (List ℕ)) (writes : W → List ℕ → Result ℕ Reason → W → Type 0)
     (fault_writes : V → List ℕ → Result ℕ Reason → V → Type 0) where
   abbrev Tries : List ℕ → World R F W V → World R F W V → Came → Type 0
-  Tries = IsTried finds form setting remaining reads opens file_remaining file_reads contents writes fault_writes
+  Tries = IsTried checks remaining reads opens file_remaining file_reads contents writes fault_writes
 
   -- where a page is done nothing is said of it
   ends_one : (name : List ℕ) (old new : World R F W V) (came : Came) → Tries name old new came → Ends ⊤ came (new.rest.faults ≡ old.rest.faults)
@@ -100,7 +97,7 @@ module _ {R O F W V : Type 0} (finds : List ℕ → FileState → Type 0) (form 
   ends_one name old new came (not_done text stop checked refused given) = ends_at ⊤ _ stop
 
   pub checks_end : (names : List (List ℕ)) (old new : World R F W V) (came : Came)
-      → ChecksAll finds form setting remaining reads opens file_remaining file_reads contents writes fault_writes names old new came
+      → ChecksAll checks remaining reads opens file_remaining file_reads contents writes fault_writes names old new came
       → Ends ⊤ came (new.rest.faults ≡ old.rest.faults)
   checks_end names old new came (in_turn _ all) = ends_all Tries ⊤ ends_one names old new came all
   checks_end names old new came (not_begun reported) = tt

@@ -4,5 +4,6 @@ mod DefinitionLemmas
 mod LabelSetLemmas
 mod LawLemmas
 mod LinkLemmas
+mod PageLemmas
 mod TargetLemmas
 mod TextLemmas

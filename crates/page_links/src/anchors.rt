@@ -3,6 +3,7 @@ ghost use Rattle.std.specs.Prelude.{◌≡◌, ◌++◌, ◌+◌, ◌<◌, ◌^�
 ghost use Rattle.std.specs.BTreeMap.{get_by_text};
 ghost use Rattle.std.specs.Map.{count_at};
 ghost use Rattle.std.specs.Option.{option_map};
+ghost use Rattle.std.specs.Str.Lossy.{utf8_lossy};
 ghost use Rattle.html_attributes.specs.StartTags.{seen_tag};
 ghost use Rattle.page_links.specs.anchors.Anchors.{AreOfTag, AreOfTags, AreOfValue, name_of};
 ghost use Rattle.page_links.specs.anchors.Anchors.{AreAnchorsOf, HasAnchors, anchor_of, anchors_of, counted, is_among};
@@ -52,6 +53,19 @@ impl Anchors {
         let tags = start_tags(alloc, &html)?;
         anchors.add_tags(alloc, &tags)?;
         Ok(anchors)
+    }
+
+    /// The same of a page of these bytes, where what is not UTF-8 is U+FFFD.
+    ///
+    /// # Errors
+    ///
+    /// `AllocError` where memory is refused.
+    pub fn of_bytes(alloc: Global, page: &[u8], setting: Extensions) -> Result<Anchors, AllocError>
+        ensures { IfOk result (λ kept. (anchors : List (List ℕ))
+            × AreAnchorsOf (utf8_lossy page.now) setting anchors × HasAnchors kept anchors) }
+    {
+        let text = String::from_utf8_lossy(alloc, page)?;
+        Anchors::of_page(alloc, text.as_str(), setting)
     }
 
     /// Whether a text is one of them.

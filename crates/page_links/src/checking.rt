@@ -10,11 +10,11 @@ ghost use Rattle.page_programs.specs.Stops.{IfWrite, IsWrite};
 ghost use Rattle.page_programs.specs.Texts.{IsRefused};
 ghost use Rattle.page_programs.specs.declared.stops.Stop.{Stop};
 ghost use Rattle.page_links.specs.checking.Checking.{ChecksNamed, IsTried};
+ghost use Rattle.page_links.specs.checks.Checks.{given};
 ghost use Rattle.page_links.specs.page.Printed.{IsChecked};
 
-use crate::checks::FindsFiles;
-use crate::page::{LinkForm, check_of_page};
-use markdown_values::values::Extensions;
+use crate::checks::{Checks, FindsFiles};
+use crate::page::check_of_page;
 use page_programs::came::{Came, came_at, came_of, is_reported};
 use page_programs::files::OpensFiles;
 use page_programs::names::shown_name;
@@ -25,15 +25,6 @@ use page_programs::writing::write_text;
 use program_faults::{Reason, StepReader, StepWriter};
 use std::alloc::Global;
 
-/// What pages are checked with: what finds files, the form of what is printed, and how they are
-/// read.
-#[derive(Drop)]
-pub(crate) struct Checks<'l, L> {
-    pub(crate) finder: &'l L,
-    pub(crate) form: LinkForm,
-    pub(crate) setting: Extensions,
-}
-
 impl<L: FindsFiles, R: StepReader, F: OpensFiles, W: StepWriter, V: StepWriter> TriesPages<
     R,
     F,
@@ -43,7 +34,8 @@ impl<L: FindsFiles, R: StepReader, F: OpensFiles, W: StepWriter, V: StepWriter> 
 where
     F::File: StepReader,
 {
-    ghost tries = { λ it _. IsTried (L.finds it.finder.now) it.form it.setting
+    ghost tries = { λ it _. IsTried (IsChecked (L.reads it.finder.now) it.setting
+        (L.finds it.finder.now) (given it.root) it.form)
         R.remaining R.reads F.opens F.File.remaining F.File.reads
         W.contents W.writes V.writes };
 
@@ -81,13 +73,15 @@ fn check_named<L: FindsFiles, R: StepReader, F: OpensFiles, W: StepWriter>(
     output: &mut W,
 ) -> Result<bool, Stop>
     ensures checked { IfOk result (λ found. (text : List ℕ)
-        × ChecksNamed (L.finds checks.now.finder.now) checks.now.form checks.now.setting
+        × ChecksNamed (IsChecked (L.reads checks.now.finder.now) checks.now.setting
+        (L.finds checks.now.finder.now) (given checks.now.root) checks.now.form)
         R.remaining R.reads F.opens F.File.remaining F.File.reads name.now
         input.old files.old input.new files.new text None
         × (found ≡ is_reported text)
         × Appends (W.contents output.old) (W.contents output.new) text) }
     ensures stopped { IfErr result (λ stop. (text : List ℕ)
-        × ChecksNamed (L.finds checks.now.finder.now) checks.now.form checks.now.setting
+        × ChecksNamed (IsChecked (L.reads checks.now.finder.now) checks.now.setting
+        (L.finds checks.now.finder.now) (given checks.now.root) checks.now.form)
         R.remaining R.reads F.opens F.File.remaining F.File.reads name.now
         input.old files.old input.new files.new text (Some stop)
         × Appends (W.contents output.old) (W.contents output.new) text) }
@@ -114,8 +108,8 @@ fn check_page<L: FindsFiles, R: StepReader, W: StepWriter>(
 ) -> Result<bool, Stop>
     ensures printed { IfOk result (λ found. (page : List ℕ) × (text : List ℕ)
         × IsAllOf (R.remaining input.old) page
-        × IsChecked (L.finds checks.now.finder.now) checks.now.form checks.now.setting name.now
-        page text
+        × IsChecked (L.reads checks.now.finder.now) checks.now.setting
+        (L.finds checks.now.finder.now) (given checks.now.root) checks.now.form name.now page text
         × (found ≡ is_reported text)
         × Appends (W.contents output.old) (W.contents output.new) text) }
     ensures read { IfOk result (λ _. IsAtEnd (R.remaining input.new)) }
@@ -123,8 +117,8 @@ fn check_page<L: FindsFiles, R: StepReader, W: StepWriter>(
     ensures unwritten { IfErr result (λ stop. ¬ IsWrite stop → output.new ≡ output.old) }
     ensures cut { IfErr result (λ stop. IsWrite stop → (page : List ℕ) × (text : List ℕ)
         × IsAllOf (R.remaining input.old) page
-        × IsChecked (L.finds checks.now.finder.now) checks.now.form checks.now.setting name.now
-        page text
+        × IsChecked (L.reads checks.now.finder.now) checks.now.setting
+        (L.finds checks.now.finder.now) (given checks.now.root) checks.now.form name.now page text
         × AppendsPrefix (W.contents output.old) (W.contents output.new) text) }
     ensures reads { (count : ℕ) × AreReads R.reads count input.old input.new }
     ensures failed { IfErr result (λ stop. (why : Reason) → stop ≡ Stop.Read why →
@@ -137,14 +131,7 @@ fn check_page<L: FindsFiles, R: StepReader, W: StepWriter>(
         IfWrite stop (λ why. CantWrite W.writes why output.new)) }
 {
     let page = read_text(alloc, input)?;
-    let text = check_of_page(
-        alloc,
-        checks.finder,
-        name,
-        page.as_str(),
-        checks.setting,
-        checks.form,
-    )?;
+    let text = check_of_page(alloc, checks, name, page.as_str())?;
     write_text(output, text.as_str())?;
     Ok(is_reported(text.as_str()))
 }

@@ -2,7 +2,7 @@
 
 /// What is written on standard error after the name of an option that is not known.
 pub const USAGE: &str = "
-usage: fillaqut links [--json] [--check] [-e NAME].. [--gfm] [--] [FILE ..]
+usage: fillaqut links [--json] [--check] [--root DIR] [-e NAME].. [--gfm] [--] [FILE ..]
        fillaqut links -h | --help | --version
 ";
 
@@ -11,7 +11,7 @@ pub const VERSION: &str = "fillaqut 0.1.0\n";
 
 /// What `--help` prints.
 pub const HELP: &str = "\
-usage: fillaqut links [--json] [--check] [-e NAME].. [--gfm] [--] [FILE ..]
+usage: fillaqut links [--json] [--check] [--root DIR] [-e NAME].. [--gfm] [--] [FILE ..]
        fillaqut links -h | --help | --version
 
 Prints a line for each link, image and autolink of a page of Markdown, in order:
@@ -55,9 +55,11 @@ label //, which is a comment.
   --check          prints only what is wrong, and no links: the labels, and then the links that lead
                    nowhere, those of raw HTML after all others; as no such file \"DESTINATION\" where
                    that is relative and its file is not there, as permission denied \"DESTINATION\"
-                   where a folder on the way to it may not be searched, and as no such heading
-                   \"DESTINATION\" where that is a #FRAGMENT alone that no heading and no raw HTML of
-                   the page makes, and not #top, the front of the page
+                   where a folder on the way to it may not be searched, or its page not be read, as
+                   can't be read \"DESTINATION\" where its page can't be for another reason, and as no
+                   such heading \"DESTINATION\" where that has a #FRAGMENT that no heading and no raw
+                   HTML of its page makes, and not #top, the front of the page
+  --root DIR       with --check, looks in DIR for destinations that begin with one slash
   -e NAME          reads pages with an extension, which is one of
 
     tables         tables of GitHub Flavored Markdown
@@ -67,16 +69,22 @@ label //, which is a comment.
 
   --gfm            the same as -e tables -e strikethrough -e tasks
 
-An option and its value may be one word, as -etables.
+An option and its value may be one word, as -etables and --root=DIR.
 
-A relative destination leads from the folder of its page, without its query and fragment, and with
-its percent-encoded bytes decoded. Destinations with a scheme or a slash at the front, autolinks and
-wikilinks are not looked for, and the network is never asked. A heading makes the fragment that it
-makes on GitHub: its text, without that of images, in lower case, each space a hyphen, and no other
-characters but alphabetic ones, marks, digits, hyphens and underscores; one that was made before has
--1 after it, then -2, and so on. Raw HTML makes the id of each element and the name of each <a>, and
-its links and images are the href of each <a> and the src of each <img>. Its tags are read as
-browsers read them, with their character references decoded, and a link begins where its tag does.
+A relative destination leads from the folder of its page, and where --root is given one with a slash
+at the front from DIR, which is put before it; both without their query and fragment, and with their
+percent-encoded bytes decoded. Destinations with a scheme or two slashes at the front, or one and no
+--root, autolinks and wikilinks are not looked for, and the network is never asked.
+
+A #FRAGMENT alone is one of the page itself. One after the name of a page of Markdown, a file that
+ends in .md or .markdown, is one of that page, which is read in the same way, and once for each page
+that leads to it; what is not UTF-8 in it is U+FFFD. Those of other files are not looked for. A
+heading makes the fragment that it makes on GitHub: its text, without that of images, in lower case,
+each space a hyphen, and no other characters but alphabetic ones, marks, digits, hyphens and
+underscores; one that was made before has -1 after it, then -2, and so on. Raw HTML makes the id of
+each element and the name of each <a>, and its links and images are the href of each <a> and the src
+of each <img>. Its tags are read as browsers read them, with their character references decoded, and
+a link begins where its tag does.
 
 FILE is a page; - is standard input, and so is no FILE. The lines of the pages follow one another.
 After the word -- all words are files.

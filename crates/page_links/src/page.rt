@@ -1,13 +1,14 @@
 //! What is printed of a page.
 ghost use Rattle.std.specs.Prelude.{◌≡◌, ◌++◌, IfOk, List, OnOk, map, string_bytes};
 ghost use Rattle.page_links.specs.links.Links.{seen_link};
-ghost use Rattle.page_links.specs.page.Printed.{IsChecked, IsList, line_of, list_of, name_in, report_line_of, reports_of};
+ghost use Rattle.page_links.specs.checks.Checks.{given};
+ghost use Rattle.page_links.specs.page.Printed.{AreReports, IsChecked, IsList, line_of, list_of, name_in, report_line_of, reports_of};
 ghost use Rattle.markdown_blocks.specs.byte_order_mark.ByteOrderMark.{text_of};
 ghost use Rattle.page_positions.specs.private.Lines.{IsLineOf};
 ghost use Rattle.page_links.specs.reports.Reports.{seen_report};
 
 use crate::anchors::Anchors;
-use crate::checks::{FindsFiles, push_target_reports};
+use crate::checks::{Checks, FindsFiles, push_target_reports};
 use crate::html::html_of_page;
 use crate::html_links::html_links;
 use crate::labels::label_reports;
@@ -20,6 +21,7 @@ use markdown_values::values::Extensions;
 use page_positions::{Line, text_position_at};
 use page_programs::names::shown;
 use std::alloc::{AllocError, Global};
+use std::collections::BTreeMap;
 
 /// What is printed of a page of this name: a line for each of its links and images, and then for each
 /// report of its labels, as `HELP` has them. All are in this form.
@@ -120,43 +122,61 @@ fn push_reported(
     push_fault(alloc, text, form, name, position, report)
 }
 
-/// What is printed of a page of this name where it is checked: a line for each report of its labels,
-/// and then for each of its links, and of those that are raw HTML, that leads to a file that is not
-/// there, or to an anchor that nothing in the page makes. All are in this form.
+/// What is printed of a page of this name where it is checked in this way: a line for each report of
+/// its labels, and then for each of its links, and of those that are raw HTML, that leads to a file
+/// that is not there, or to an anchor that nothing in the page, or in another page, makes.
+///
+/// Each other page is read once, and its anchors are kept until this one is checked.
 ///
 /// # Errors
 ///
 /// `AllocError` where memory is refused.
 pub fn check_of_page<L: FindsFiles>(
     alloc: Global,
-    finder: &L,
+    checks: &Checks<L>,
     name: &str,
     page: &str,
-    setting: Extensions,
-    form: LinkForm,
 ) -> Result<String, AllocError>
-    ensures { IfOk result (λ text.
-        IsChecked (L.finds finder.now) form setting name.now page.now (string_bytes text)) }
+    ensures { IfOk result (λ text. IsChecked (L.reads checks.now.finder.now) checks.now.setting
+        (L.finds checks.now.finder.now) (given checks.now.root) checks.now.form
+        name.now page.now (string_bytes text)) }
 {
-    let links = links_of_page(alloc, page, setting)?;
-    let anchors = Anchors::of_page(alloc, page, setting)?;
-    let mut reports = label_reports(alloc, page, setting, &links)?;
-    push_target_reports(alloc, &mut reports, finder, name, &anchors, &links)?;
-    let html = html_of_page(alloc, page, setting)?;
-    let tags = start_tags(alloc, &html)?;
-    let shown = html_links(alloc, &tags)?;
-    push_target_reports(alloc, &mut reports, finder, name, &anchors, &shown)?;
-    let called = name_in(alloc, form, name)?;
+    let reports = reports_of_page(alloc, checks, name, page)?;
+    let called = name_in(alloc, checks.form, name)?;
     let mut text = String::new(alloc);
     push_reports(
         alloc,
         &mut text,
-        form,
+        checks.form,
         called.as_str(),
         page.as_bytes(),
         &reports,
     )?;
     Ok(text)
+}
+
+// What is reported of a page of this name where it is checked in this way.
+fn reports_of_page<L: FindsFiles>(
+    alloc: Global,
+    checks: &Checks<L>,
+    name: &str,
+    page: &str,
+) -> Result<Vec<Report>, AllocError>
+    ensures { IfOk result (λ reports. AreReports (L.reads checks.now.finder.now)
+        checks.now.setting (L.finds checks.now.finder.now) (given checks.now.root)
+        name.now page.now (map seen_report reports.items)) }
+{
+    let setting = checks.setting;
+    let links = links_of_page(alloc, page, setting)?;
+    let anchors = Anchors::of_page(alloc, page, setting)?;
+    let mut kept = BTreeMap::new(alloc);
+    let mut made = label_reports(alloc, page, setting, &links)?;
+    push_target_reports(alloc, &mut made, checks, name, &anchors, &mut kept, &links)?;
+    let html = html_of_page(alloc, page, setting)?;
+    let tags = start_tags(alloc, &html)?;
+    let shown = html_links(alloc, &tags)?;
+    push_target_reports(alloc, &mut made, checks, name, &anchors, &mut kept, &shown)?;
+    Ok(made)
 }
 
 /// The name of a page as lines in this form have it.

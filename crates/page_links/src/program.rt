@@ -9,15 +9,14 @@ ghost use Rattle.page_programs.specs.Worlds.{world};
 ghost use Rattle.page_programs.specs.declared.came.Came.{Came};
 ghost use Rattle.page_programs.specs.declared.words.Request.TheVariants.{Pages};
 ghost use Rattle.page_links.specs.checking.Checking.{ChecksAll};
-ghost use Rattle.page_links.specs.page.Printed.{IsPrintedTo, name_in};
+ghost use Rattle.page_links.specs.page.Printed.{IsChecked, IsPrintedTo, name_in};
 ghost use Rattle.page_programs.specs.Extensions.{extensions_of};
-ghost use Rattle.page_links.specs.words.Words.{form_of, is_check, own_options};
+ghost use Rattle.page_links.specs.words.Words.{form_of, is_check, own_options, root_of};
 
-use crate::checking::Checks;
-use crate::checks::FindsFiles;
+use crate::checks::{Checks, FindsFiles};
 use crate::help::{HELP, USAGE, VERSION};
 use crate::page::{LinkForm, list_of_page, name_in};
-use crate::words::{OPTIONS, form_of, is_check};
+use crate::words::{OPTIONS, form_of, is_check, root_of};
 use markdown_values::values::Extensions;
 use page_programs::extensions::extensions_of;
 use page_programs::files::OpensFiles;
@@ -68,7 +67,8 @@ pub fn run_program<L: FindsFiles, R: StepReader, F: OpensFiles, W: StepWriter, V
     // Pages that are checked: all that is reported of them; the status says whether anything is.
     ensures checked { result ≢ 2 → request_of words.now ≡ Pages → is_check words.now ≡ true →
         (came : Came) × (result ≡ status_of came)
-        × ChecksAll (L.finds finder.now) (form_of words.now) (extensions_of words.now)
+        × ChecksAll (IsChecked (L.reads finder.now) (extensions_of words.now)
+        (L.finds finder.now) (root_of words.now) (form_of words.now))
         R.remaining R.reads F.opens F.File.remaining F.File.reads
         W.contents W.writes V.writes (pages_of words.now)
         (world input.old files.old output.old faults.old)
@@ -90,6 +90,7 @@ pub fn run_program<L: FindsFiles, R: StepReader, F: OpensFiles, W: StepWriter, V
     if is_check(words) {
         let checks = Checks {
             finder,
+            root: root_of(words),
             form,
             setting,
         };

@@ -11,9 +11,11 @@ pub enum Fault {
     DefinedBefore,
     /// A link leads to a file that is not there.
     NoFile,
-    /// A link leads to a file that may not be looked for.
+    /// A link leads to a file that may not be looked for, or read.
     Denied,
-    /// A link leads to an anchor of its page that no heading makes.
+    /// A link leads to an anchor of a page that can't be read.
+    Unread,
+    /// A link leads to an anchor that no heading of its page, or of another, makes.
     NoAnchor,
 }
 

@@ -1,19 +1,39 @@
 //! The parts of a destination. (RFC 3986, sections 3 and 4)
 ghost use Rattle.std.specs.Prelude.{◌≡◌, ◌++◌, IfOk, drop, string_bytes, take};
 ghost use Rattle.std.specs.Option.{option_map};
+ghost use Rattle.std.specs.Str.{str_eq_ignore_ascii_case};
 ghost use Rattle.std.specs.Str.Lossy.{utf8_lossy};
 ghost use Rattle.percent_encoding.specs.Percent as percent;
-ghost use Rattle.page_links.specs.targets.Targets.{ends_path, folder_of, fragment_of, fragment_text, has_scheme, is_elsewhere};
+ghost use Rattle.page_links.specs.targets.Targets.{base_of, ends_as, ends_path, folder_of, fragment_of, fragment_text};
+ghost use Rattle.page_links.specs.targets.Targets.{has_host, has_scheme, is_elsewhere, is_from_root, is_page};
 ghost use Rattle.page_links.specs.targets.Targets.{is_scheme_byte, opened_path, path_of};
 
 use percent_encoding::percent_decode;
 use std::alloc::{AllocError, Global};
 
-/// Whether a destination is not one relative to the page: it has a scheme, or begins with a slash.
-pub(crate) fn is_elsewhere(destination: &[u8]) -> bool
-    ensures { result ≡ is_elsewhere destination.now }
+/// Whether a destination is not looked for where this folder is the root: it has a scheme or a host;
+/// or it begins with a slash, where no folder is the root.
+pub(crate) fn is_elsewhere(root: Option<&str>, destination: &[u8]) -> bool
+    ensures { result ≡ is_elsewhere (option_map (λ root. root.now) root.entry) destination.now }
 {
-    has_scheme(destination) || matches!(destination, [b'/', ..])
+    match root {
+        Some(_) => has_scheme(destination) || has_host(destination),
+        None => has_scheme(destination) || is_from_root(destination),
+    }
+}
+
+// Whether it begins with a slash.
+fn is_from_root(destination: &[u8]) -> bool
+    ensures { result ≡ is_from_root destination.now }
+{
+    matches!(destination, [b'/', ..])
+}
+
+// Whether it begins with two slashes, after which a host stands.
+fn has_host(destination: &[u8]) -> bool
+    ensures { result ≡ has_host destination.now }
+{
+    destination.starts_with(b"//")
 }
 
 // Whether it begins with a scheme.
@@ -71,12 +91,50 @@ pub(crate) fn fragment_of(destination: &[u8]) -> Option<&[u8]>
     None
 }
 
-/// The path of the file that a relative path of the page of this name means: from the folder of
-/// that page on, its percent-encoded bytes decoded. What is not UTF-8 in it is U+FFFD.
-pub(crate) fn opened_path(alloc: Global, name: &str, path: &[u8]) -> Result<String, AllocError>
-    ensures { IfOk result (λ opened. string_bytes opened ≡ opened_path name.now path.now) }
+/// The path of the file that a path of the page of this name means: from the folder of that page on,
+/// or from the root where it begins with a slash, its percent-encoded bytes decoded. What is not UTF-8
+/// in it is U+FFFD.
+pub(crate) fn opened_path(
+    alloc: Global,
+    root: Option<&str>,
+    name: &str,
+    path: &[u8],
+) -> Result<String, AllocError>
+    ensures { IfOk result (λ opened. string_bytes opened
+        ≡ opened_path (option_map (λ root. root.now) root.entry) name.now path.now) }
 {
-    decoded_after(alloc, folder_of(name.as_bytes()), path)
+    decoded_after(alloc, base_of(root, name.as_bytes(), path), path)
+}
+
+// Where a path of the page of this name leads from.
+fn base_of<'a>(root: Option<&'a str>, name: &'a [u8], path: &[u8]) -> &'a [u8]
+    ensures { result.now ≡ base_of (option_map (λ root. root.now) root.entry) name.now path.now }
+{
+    if is_from_root(path) {
+        return root.unwrap_or("").as_bytes();
+    }
+    folder_of(name)
+}
+
+/// Whether the file of this path is a page of Markdown, by its name.
+pub(crate) fn is_page(path: &[u8]) -> bool
+    ensures { result ≡ is_page path.now }
+{
+    ends_as(path, b".md") || ends_as(path, b".markdown")
+}
+
+// Whether a text ends so, in ASCII letters of any case.
+fn ends_as(text: &[u8], last: &[u8]) -> bool
+    ensures { result ≡ ends_as last.now text.now }
+{
+    are_alike(&text[text.len().saturating_sub(last.len())..], last)
+}
+
+// Whether two texts are the same but for the case of ASCII letters.
+fn are_alike(one: &[u8], other: &[u8]) -> bool
+    ensures { result ≡ str_eq_ignore_ascii_case one.now other.now }
+{
+    one.eq_ignore_ascii_case(other)
 }
 
 /// The text that a fragment means: its percent-encoded bytes decoded. What is not UTF-8 in it is

@@ -10,7 +10,7 @@ _fillaqut_options() {
         json) echo '-e --gfm -h --help --version' ;;
         blocks) echo '--json -e --gfm -h --help --version' ;;
         inlines) echo '-e --gfm -h --help --version' ;;
-        links) echo '--json --check -e --gfm -h --help --version' ;;
+        links) echo '--json --check --root -e --gfm -h --help --version' ;;
         tables) echo '--check --write -h --help --version' ;;
     esac
 }
@@ -26,6 +26,14 @@ _fillaqut_values() {
         'inlines -e') echo 'tables footnotes strikethrough tasks definition-lists wikilinks' ;;
         'links -e') echo 'tables strikethrough tasks wikilinks' ;;
     esac
+}
+
+# Whether the value of this option of this command is a folder.
+_fillaqut_is_folder() {
+    case "$1 $2" in
+        'links --root') return 0 ;;
+    esac
+    return 1
 }
 
 # Whether the word -- stands between the command and the word that is completed.
@@ -49,6 +57,10 @@ _fillaqut() {
     if [ "$COMP_CWORD" = 1 ]; then
         words='html events json blocks inlines links tables'
         [[ $word != -* ]] || words=$(_fillaqut_options fillaqut)
+    elif ! _fillaqut_only_files && _fillaqut_is_folder "$command" "$option"; then
+        compopt -o filenames
+        mapfile -t COMPREPLY < <(compgen -d -- "$word")
+        return
     elif ! _fillaqut_only_files; then
         words=$(_fillaqut_values "$command" "$option")
         if [ -z "$words" ]; then

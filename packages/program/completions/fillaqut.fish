@@ -49,6 +49,7 @@ complete -c fillaqut -n '__fillaqut_command inlines' -l help -d 'Prints the help
 complete -c fillaqut -n '__fillaqut_command inlines' -l version -d 'Prints the name of the program and its version'
 complete -c fillaqut -n '__fillaqut_command links' -l json -d 'Prints each line as a JSON object'
 complete -c fillaqut -n '__fillaqut_command links' -l check -d 'Prints only what is wrong with labels, and links that lead nowhere'
+complete -c fillaqut -n '__fillaqut_command links' -l root -x -a '(__fish_complete_directories)' -d 'With --check, looks in this folder for destinations that begin with one slash'
 complete -c fillaqut -n '__fillaqut_command links' -s e -x -a 'tables strikethrough tasks wikilinks' -d 'Reads pages with an extension of CommonMark'
 complete -c fillaqut -n '__fillaqut_command links' -l gfm -d 'The same as -e tables -e strikethrough -e tasks'
 complete -c fillaqut -n '__fillaqut_command links' -s h -d 'Prints the help of the command'

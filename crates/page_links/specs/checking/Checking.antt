@@ -1,7 +1,6 @@
 -- What checking pages comes to.
 use Rattle.std.specs.Prelude.{ℕ, false, ◌≡◌, List, [], Option, Some, None, Result, codes}
 use Rattle.std.specs.Io.KnownBytes.{Appends}
-use Rattle.markdown_values.specs.declared.values.extensions.Extensions.{Extensions}
 use Rattle.program_faults.specs.Steps.{AreGiven, CantWrite}
 use Rattle.program_faults.specs.declared.reasons.Reason.{Reason}
 use Rattle.page_programs.specs.Came.{came_at, came_of, is_reported}
@@ -12,18 +11,17 @@ use Rattle.page_programs.specs.Tried.{AreHandled}
 use Rattle.page_programs.specs.Worlds.{World}
 use Rattle.page_programs.specs.declared.came.Came.{Came}
 use Rattle.page_programs.specs.declared.stops.Stop.{Stop}
-use Rattle.page_links.specs.declared.checks.FileState.{FileState}
-use Rattle.page_links.specs.declared.printing.LinkForm.{LinkForm}
 use Rattle.page_links.specs.page.Printed.{IsCheckedTo, by_name}
 
-module _ {R O F : Type 0} (finds : List ℕ → FileState → Type 0) (form : LinkForm) (setting : Extensions)
+-- where this holds of the name of a page that is checked, the page, and what is printed of it
+module _ {R O F : Type 0} (checks : List ℕ → List ℕ → List ℕ → Type 0)
     (remaining : R → Option (List ℕ)) (reads : R → Result (List ℕ) Reason → R → Type 0)
     (opens : F → List ℕ → Result O Reason → F → Type 0)
     (file_remaining : O → Option (List ℕ)) (file_reads : O → Result (List ℕ) Reason → O → Type 0) where
   -- the page of this name is checked, or it stopped: this text is printed of it
   abbrev pub ChecksNamed : List ℕ → R → F → R → F → List ℕ → Option Stop → Type 0
   ChecksNamed name input files last most text stop =
-      PrintsNamed by_name (IsCheckedTo finds form setting) is_unwritten (IsRefused false) remaining reads opens file_remaining file_reads
+      PrintsNamed by_name (IsCheckedTo checks) is_unwritten (IsRefused false) remaining reads opens file_remaining file_reads
       name input files (Some []) last most (Some text) stop
 
   module _ {W V : Type 0} (contents : W → Option (List ℕ)) (writes : W → List ℕ → Result ℕ Reason → W → Type 0)

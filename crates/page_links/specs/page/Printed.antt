@@ -1,10 +1,11 @@
 -- What the program prints of a page: a line for each of its links and images, and of what is reported of its labels, in words or as JSON.
-use Rattle.std.specs.Prelude.{ℕ, ◌≡◌, List, ◌++◌, Option}
+use Rattle.std.specs.Prelude.{ℕ, ◌≡◌, List, ◌++◌, Option, Result}
 use Rattle.std.specs.Io.KnownBytes.{Appends}
 use Rattle.std.specs.List.{flat_map}
 use Rattle.std.specs.Str.{IsUtf8}
 use Rattle.markdown_values.specs.declared.values.extensions.Extensions.{Extensions}
 use Rattle.page_links.specs.declared.checks.FileState.{FileState}
+use Rattle.program_faults.specs.declared.reasons.Reason.{Reason}
 use Rattle.page_programs.specs.Names.{shown}
 use Rattle.page_links.specs.declared.printing.LinkForm.{LinkForm}
 use Rattle.page_links.specs.declared.printing.LinkForm.TheVariants.{Words, Json}
@@ -50,24 +51,33 @@ pub record IsList (form : LinkForm) (setting : Extensions) (name page text : Lis
   pub are_reports : AreLabelReports page setting links reports
   pub is_list : text ≡ list_of form name page links ++ reports_of form name page reports
 
--- The text is the lines of what is reported of the page of this name where it is checked, and files may be found or not.
-pub record IsChecked (finds : List ℕ → FileState → Type 0) (form : LinkForm) (setting : Extensions) (name page text : List ℕ) : Type 0 where
-  pub is_text : IsUtf8 page
-  pub links : List Seen
-  pub are_links : AreLinksOf page setting links
-  pub anchors : List (List ℕ)
-  pub are_anchors : AreAnchorsOf page setting anchors
-  pub labels : List Reported
-  pub are_labels : AreLabelReports page setting links labels
-  pub targets : List Reported
-  pub are_targets : AreTargetReports finds name anchors links targets
-  pub tags : List WrittenTag
-  pub are_tags : AreTagsOf page setting tags
-  pub html_links : List Seen
-  pub are_html_links : AreHtmlLinks tags html_links
-  pub html_targets : List Reported
-  pub are_html_targets : AreTargetReports finds name anchors html_links html_targets
-  pub is_list : text ≡ reports_of form (name_in form name) page ((labels ++ targets) ++ html_targets)
+-- where files may be read and found, and this folder is the root of destinations from a slash on
+module _ (reads : List ℕ → Result (List ℕ) Reason → Type 0) (setting : Extensions) (finds : List ℕ → FileState → Type 0)
+    (root : Option (List ℕ)) where
+  -- This is reported of the page of this name where it is checked.
+  pub record AreReports (name page : List ℕ) (reports : List Reported) : Type 0 where
+    pub links : List Seen
+    pub are_links : AreLinksOf page setting links
+    pub anchors : List (List ℕ)
+    pub are_anchors : AreAnchorsOf page setting anchors
+    pub labels : List Reported
+    pub are_labels : AreLabelReports page setting links labels
+    pub targets : List Reported
+    pub are_targets : AreTargetReports reads setting finds root name anchors links targets
+    pub tags : List WrittenTag
+    pub are_tags : AreTagsOf page setting tags
+    pub html_links : List Seen
+    pub are_html_links : AreHtmlLinks tags html_links
+    pub html_targets : List Reported
+    pub are_html_targets : AreTargetReports reads setting finds root name anchors html_links html_targets
+    pub are_reports : reports ≡ (labels ++ targets) ++ html_targets
+
+  -- The text is the lines of that.
+  pub record IsChecked (form : LinkForm) (name page text : List ℕ) : Type 0 where
+    pub is_text : IsUtf8 page
+    pub reports : List Reported
+    pub are_reports : AreReports name page reports
+    pub is_list : text ≡ reports_of form (name_in form name) page reports
 
 -- each line begins with the name of the page that is checked, and nothing else is printed before it
 abbrev pub by_name : List ℕ → List ℕ
@@ -77,6 +87,6 @@ by_name name = name
 abbrev pub IsPrintedTo : LinkForm → Extensions → List ℕ → List ℕ → Option (List ℕ) → Option (List ℕ) → Type 0
 IsPrintedTo form setting name page old new = (text : List ℕ) × IsList form setting name page text × Appends old new text
 
--- known bytes grow by what is printed of the page of this name where it is checked
-abbrev pub IsCheckedTo : (List ℕ → FileState → Type 0) → LinkForm → Extensions → List ℕ → List ℕ → Option (List ℕ) → Option (List ℕ) → Type 0
-IsCheckedTo finds form setting name page old new = (text : List ℕ) × IsChecked finds form setting name page text × Appends old new text
+-- known bytes grow by what is printed of the page of this name where it is checked: a text of which this holds
+abbrev pub IsCheckedTo : (List ℕ → List ℕ → List ℕ → Type 0) → List ℕ → List ℕ → Option (List ℕ) → Option (List ℕ) → Type 0
+IsCheckedTo checks name page old new = (text : List ℕ) × checks name page text × Appends old new text

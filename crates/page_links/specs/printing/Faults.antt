@@ -7,7 +7,7 @@ use Rattle.page_positions.specs.declared.Position.{Position}
 use Rattle.page_links.specs.declared.printing.LinkForm.{LinkForm}
 use Rattle.page_links.specs.declared.printing.LinkForm.TheVariants.{Words, Json}
 use Rattle.page_links.specs.declared.reports.Fault.{Fault}
-use Rattle.page_links.specs.declared.reports.Fault.TheVariants.{NotDefined, NotUsed, DefinedBefore, NoFile, Denied, NoAnchor}
+use Rattle.page_links.specs.declared.reports.Fault.TheVariants.{NotDefined, NotUsed, DefinedBefore, NoFile, Denied, Unread, NoAnchor}
 use Rattle.page_links.specs.printing.Lines.{file_member, position_members, position_words}
 use Rattle.page_links.specs.reports.Reports.{Reported}
 
@@ -17,6 +17,7 @@ fault_words NotUsed = codes "label not used"
 fault_words DefinedBefore = codes "label defined before"
 fault_words NoFile = codes "no such file"
 fault_words Denied = codes "permission denied"
+fault_words Unread = codes "can't be read"
 fault_words NoAnchor = codes "no such heading"
 
 -- the line of a fault that is there in the page of this name

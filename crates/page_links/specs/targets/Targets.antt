@@ -1,6 +1,9 @@
 -- The parts of a destination. (RFC 3986, sections 3 and 4)
 use Rattle.std.specs.Prelude.{ℕ, Bool, true, false, not, ◌&&◌, ◌||◌, ◌==◌, ◌-◌, List, [], ◌∷◌, ◌++◌, length, take, Option, Some, None, if◌then◌else◌}
-use Rattle.std.specs.List.{prefix_len, suffix_len}
+use Rattle.std.specs.Prelude.{codes, drop, nat_eq}
+use Rattle.std.specs.List.{prefix_len, starts_with, suffix_len}
+use Rattle.std.specs.Option.{unwrap_or}
+use Rattle.std.specs.Str.{str_eq_ignore_ascii_case}
 use Rattle.std.specs.Str.Lossy.{utf8_lossy}
 use Rattle.markdown_scanners_tree.specs.Ascii.{colon, full_stop}
 use Rattle.markdown_scanners_tree.specs.Bytes.{begins_with, is_between}
@@ -22,9 +25,18 @@ ends_scheme (b ∷ bytes) = if b == colon then true else is_scheme_byte b && end
 abbrev pub has_scheme : List ℕ → Bool
 has_scheme destination = begins_with is_letter destination && ends_scheme destination
 
--- It has a scheme, or begins with a slash, as `//host` does: it is not relative to the page. (4.2)
-abbrev pub is_elsewhere : List ℕ → Bool
-is_elsewhere destination = has_scheme destination || begins_with (λ b. b == 47) destination
+-- it begins with a slash (4.2)
+abbrev pub is_from_root : List ℕ → Bool
+is_from_root destination = begins_with (λ b. b == 47) destination
+
+-- it begins with two, after which a host stands (4.2)
+abbrev pub has_host : List ℕ → Bool
+has_host destination = starts_with nat_eq destination (codes "//")
+
+-- It is not looked for where this folder is the root: it has a scheme or a host; or begins with a slash, where no folder is.
+abbrev pub is_elsewhere : Option (List ℕ) → List ℕ → Bool
+is_elsewhere None destination = has_scheme destination || is_from_root destination
+is_elsewhere (Some root) destination = has_scheme destination || has_host destination
 
 -- a query or a fragment begins (3.3)
 abbrev pub ends_path : ℕ → Bool
@@ -43,10 +55,21 @@ fragment_of (b ∷ bytes) = if b == 35 then Some bytes else fragment_of bytes
 abbrev pub folder_of : List ℕ → List ℕ
 folder_of name = take (length name - suffix_len (λ b. not (b == 47)) name) name
 
--- the path that a relative path means in the page of this name: from its folder on, percent-encoded bytes decoded (2.1), and U+FFFD for what
--- is not UTF-8 then
-abbrev pub opened_path : List ℕ → List ℕ → List ℕ
-opened_path name path = utf8_lossy (folder_of name ++ percent_decode path)
+-- where a path leads from in the page of this name: from the root where it begins with a slash, and else from the folder of the page
+abbrev pub base_of : Option (List ℕ) → List ℕ → List ℕ → List ℕ
+base_of root name path = if is_from_root path then unwrap_or root [] else folder_of name
+
+-- the path that it means: from there on, percent-encoded bytes decoded (2.1), and U+FFFD for what is not UTF-8 then
+abbrev pub opened_path : Option (List ℕ) → List ℕ → List ℕ → List ℕ
+opened_path root name path = utf8_lossy (base_of root name path ++ percent_decode path)
+
+-- a text ends so, in ASCII letters of any case
+abbrev pub ends_as : List ℕ → List ℕ → Bool
+ends_as last text = str_eq_ignore_ascii_case (drop (length text - length last) text) last
+
+-- the file of this path is a page of Markdown, by its name
+abbrev pub is_page : List ℕ → Bool
+is_page path = ends_as (codes ".md") path || ends_as (codes ".markdown") path
 
 -- the text that a fragment means
 abbrev pub fragment_text : List ℕ → List ℕ

@@ -1,7 +1,7 @@
 -- What the words of the command line ask for, beside what those of each program ask for.
-use Rattle.std.specs.Prelude.{ℕ, Bool, List, ◌∷◌, codes, if◌then◌else◌}
+use Rattle.std.specs.Prelude.{ℕ, Bool, List, ◌∷◌, Option, codes, if◌then◌else◌}
 use Rattle.std.specs.Borrow.{Bor}
-use Rattle.page_programs.specs.Words.{asks}
+use Rattle.page_programs.specs.Words.{asks, value_of}
 use Rattle.page_programs.specs.Extensions.{event_options}
 use Rattle.page_links.specs.declared.printing.LinkForm.{LinkForm}
 use Rattle.page_links.specs.declared.printing.LinkForm.TheVariants as Form
@@ -12,9 +12,13 @@ json = codes "--json"
 abbrev pub check : List ℕ
 check = codes "--check"
 
+-- with a folder after it
+abbrev pub root : List ℕ
+root = codes "--root "
+
 -- the options that the program has of its own
 abbrev pub own_options : List (List ℕ)
-own_options = json ∷ check ∷ event_options
+own_options = json ∷ check ∷ root ∷ event_options
 
 -- a line is a JSON object where `--json` asks for that
 abbrev pub form_of : List (Bor (List ℕ)) → LinkForm
@@ -23,3 +27,7 @@ form_of words = if asks json words then Form.Json else Form.Words
 -- pages are checked where `--check` asks for that
 abbrev pub is_check : List (Bor (List ℕ)) → Bool
 is_check words = asks check words
+
+-- the folder that the words give, from which destinations lead that begin with a slash
+abbrev pub root_of : List (Bor (List ℕ)) → Option (List ℕ)
+root_of words = value_of root words

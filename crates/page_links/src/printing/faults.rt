@@ -45,6 +45,7 @@ pub(crate) fn fault_words(fault: Fault) -> &'static str
         Fault::DefinedBefore => "label defined before",
         Fault::NoFile => "no such file",
         Fault::Denied => "permission denied",
+        Fault::Unread => "can't be read",
         Fault::NoAnchor => "no such heading",
     }
 }

@@ -3,6 +3,8 @@ use Rattle.std.proofs.KnownBytes.{Appends-nil}
 use Rattle.std.proofs.lemmas.Result.{IfOk-weaker, IfErr-weaker}
 use Rattle.page_programs.specs.Runs.{from_input, from_file, not_opened}
 use Rattle.std.specs.Io.KnownBytes.{Appends}
+use Rattle.page_links.specs.checks.Checks.{given}
+use Rattle.page_links.specs.page.Printed.{IsChecked}
 use Rattle.page_links.proofs.CheckingLemmas.{page_checked, page_stopped}
 use Rattle.page_links.proofs.checking.check_named.Goals as goal
 
@@ -15,7 +17,8 @@ returns-then-eq-clause-checked g c =
       all.2,
       all.3,
     ))
-    (page_checked (g.L.FindsFiles.finds c.args.checks.now.finder.now) c.args.checks.now.form c.args.checks.now.setting g.R.Read.remaining
+    (page_checked (IsChecked (g.L.FindsFiles.reads c.args.checks.now.finder.now) c.args.checks.now.setting
+    (g.L.FindsFiles.finds c.args.checks.now.finder.now) (given c.args.checks.now.root) c.args.checks.now.form) g.R.Read.remaining
     g.R.StepReader.reads c.args.name.now c.args.input.now c.check_page.new.input
     (λ text. Appends (g.W.Write.contents c.args.output.now) (g.W.Write.contents c.check_page.new.output) text) c.check_page.result
     c.check_page.ensures.printed c.check_page.ensures.read c.check_page.ensures.ended c.check_page.ensures.reads)
@@ -24,7 +27,8 @@ pub returns-then-eq-clause-stopped : goal.returns-then-eq-clause-stopped
 returns-then-eq-clause-stopped g c =
     IfErr-weaker c.check_page.result _ _
     (λ stop all. (all.0, from_input _ _ _ _ _ _ _ (sym c.eq.ensures ∙ c.if-eq.true) all.1, all.2))
-    (page_stopped (g.L.FindsFiles.finds c.args.checks.now.finder.now) c.args.checks.now.form c.args.checks.now.setting g.R.Read.remaining
+    (page_stopped (IsChecked (g.L.FindsFiles.reads c.args.checks.now.finder.now) c.args.checks.now.setting
+    (g.L.FindsFiles.finds c.args.checks.now.finder.now) (given c.args.checks.now.root) c.args.checks.now.form) g.R.Read.remaining
     g.R.StepReader.reads c.args.name.now c.args.input.now c.check_page.new.input g.W.Write.contents c.args.output.now c.check_page.new.output
     c.check_page.result c.check_page.ensures.unwritten c.check_page.ensures.cut c.check_page.ensures.failed
     c.check_page.ensures.not_text c.check_page.ensures.reads)
@@ -45,7 +49,8 @@ returns-clause-checked g c =
       all.2,
       all.3,
     ))
-    (page_checked (g.L.FindsFiles.finds c.args.checks.now.finder.now) c.args.checks.now.form c.args.checks.now.setting g.F.File.Read.remaining
+    (page_checked (IsChecked (g.L.FindsFiles.reads c.args.checks.now.finder.now) c.args.checks.now.setting
+    (g.L.FindsFiles.finds c.args.checks.now.finder.now) (given c.args.checks.now.root) c.args.checks.now.form) g.F.File.Read.remaining
     g.F.File.StepReader.reads c.args.name.now c.in-Ok.file c.check_page-2.new.input
     (λ text. Appends (g.W.Write.contents c.args.output.now) (g.W.Write.contents c.check_page-2.new.output) text) c.check_page-2.result
     c.check_page-2.ensures.printed c.check_page-2.ensures.read c.check_page-2.ensures.ended c.check_page-2.ensures.reads)
@@ -58,7 +63,8 @@ returns-clause-stopped g c =
       from_file _ _ _ _ _ _ _ c.in-Ok.file c.check_page-2.new.input (sym c.eq.ensures ∙ c.if-eq.false) c.in-Ok.ensures all.1,
       all.2,
     ))
-    (page_stopped (g.L.FindsFiles.finds c.args.checks.now.finder.now) c.args.checks.now.form c.args.checks.now.setting g.F.File.Read.remaining
+    (page_stopped (IsChecked (g.L.FindsFiles.reads c.args.checks.now.finder.now) c.args.checks.now.setting
+    (g.L.FindsFiles.finds c.args.checks.now.finder.now) (given c.args.checks.now.root) c.args.checks.now.form) g.F.File.Read.remaining
     g.F.File.StepReader.reads c.args.name.now c.in-Ok.file c.check_page-2.new.input g.W.Write.contents c.args.output.now c.check_page-2.new.output
     c.check_page-2.result c.check_page-2.ensures.unwritten c.check_page-2.ensures.cut c.check_page-2.ensures.failed
     c.check_page-2.ensures.not_text c.check_page-2.ensures.reads)

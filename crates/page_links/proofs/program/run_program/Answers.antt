@@ -5,6 +5,8 @@ use Rattle.page_programs.proofs.AnswerLemmas.{own_silent}
 use Rattle.page_programs.proofs.EndLemmas.{by_request, ends_done, not_pages}
 use Rattle.page_programs.specs.Words.{pages_of, request_of}
 use Rattle.page_programs.specs.Worlds.{world}
+use Rattle.page_links.specs.checks.Checks.{given}
+use Rattle.page_links.specs.page.Printed.{IsChecked}
 use Rattle.page_links.proofs.CheckingLemmas.{checks_end}
 use Rattle.page_links.proofs.program.run_program.Goals as goal
 
@@ -14,7 +16,8 @@ returns-then-is_check-clause-printed g c = λ known pages unchecked.
 
 pub returns-then-is_check-clause-checked : goal.returns-then-is_check-clause-checked
 returns-then-is_check-clause-checked g c =
-    rw (← c.form_of-form.ensures) (rw (← c.extensions_of-setting.ensures) (λ known pages so. c.run_pages.ensures.handled known pages))
+    rw (← c.form_of-form.ensures) (rw (← c.extensions_of-setting.ensures) (rw (← c.root_of.ensures)
+    (λ known pages so. c.run_pages.ensures.handled known pages)))
 
 pub returns-then-is_check-clause-only_checked : goal.returns-then-is_check-clause-only_checked
 returns-then-is_check-clause-only_checked g c = λ one. (c.run_pages.ensures.only_pages one, sym c.is_check.ensures ∙ c.if-is_check.true)
@@ -26,7 +29,8 @@ returns-then-is_check-clause-done g c = λ done.
       | inl none ↦ absurd (omega (arith, none, two))
       | inr one ↦ absurd (omega (arith, one, two))
     ]) pages in
-    let ends = checks_end (g.L.FindsFiles.finds c.args.finder.now) c.form_of-form.result c.extensions_of-setting.result
+    let ends = checks_end (IsChecked (g.L.FindsFiles.reads c.args.finder.now) c.extensions_of-setting.result (g.L.FindsFiles.finds c.args.finder.now)
+    (given c.root_of.result) c.form_of-form.result)
     g.R.Read.remaining g.R.StepReader.reads g.F.OpensFiles.opens g.F.File.Read.remaining g.F.File.StepReader.reads
     g.W.Write.contents g.W.StepWriter.writes g.V.StepWriter.writes (pages_of c.args.words.now)
     (world c.args.input.now c.args.files.now c.args.output.now c.args.faults.now)
