@@ -1,13 +1,12 @@
 /* What takes any bytes and answers by offsets in them, on all short strings over a few bytes, and on long ones of which only the
  * front can be read. The rows of these functions are in packages/rows.tsv. The expected values are worked out by hand from
  * CommonMark 0.31.2, or computed here in its words. */
-#define _DEFAULT_SOURCE
 #include "checks.h"
+#include "machine.h"
 
 #include <stdio.h>
 #include <stdlib.h>
 #include <string.h>
-#include <sys/mman.h>
 
 /* A line: what stands before the first LF or CR, and that ending; CR LF is one. (2.1) */
 static size_t length_of_line(const char *bytes, size_t length) {
@@ -201,8 +200,8 @@ static void no_run(int line, struct mds_delimiter_run run, uint32_t status) {
 enum { FAR = 1 << 20 };
 
 static const uint8_t *before_far(const char *front, size_t length) {
-    uint8_t *pages = mmap(NULL, ROOM_SIZE + FAR, PROT_NONE, MAP_PRIVATE | MAP_ANONYMOUS, -1, 0);
-    if (length > ROOM_SIZE || pages == MAP_FAILED || mprotect(pages, ROOM_SIZE, PROT_READ | PROT_WRITE)) {
+    uint8_t *pages = reserved(ROOM_SIZE + FAR);
+    if (length > ROOM_SIZE || !pages || !allow(pages, ROOM_SIZE, USABLE)) {
         fprintf(stderr, "bytes: there is no room\n");
         exit(2);
     }

@@ -1,13 +1,9 @@
-#define _DEFAULT_SOURCE
 #include "checks.h"
+#include "machine.h"
 
-#include <signal.h>
 #include <stdio.h>
 #include <stdlib.h>
 #include <string.h>
-#include <sys/mman.h>
-#include <sys/wait.h>
-#include <unistd.h>
 
 bool at_front;
 const char *checked_file;
@@ -36,19 +32,19 @@ static void stop(const char *why) {
     exit(2);
 }
 
-static void protect(uint8_t *room, int protection) {
-    if (mprotect(room, ROOM_SIZE, protection))
-        stop("mprotect is refused");
+static void protect(uint8_t *room, enum access access) {
+    if (!allow(room, ROOM_SIZE, access))
+        stop("a room can't be protected");
 }
 
 /* A room that can be written, between two pages that are no one's. */
 static uint8_t *new_room(void) {
-    size_t page = (size_t)sysconf(_SC_PAGESIZE);
+    size_t page = page_size();
     if (ROOM_SIZE % page)
         stop("a room is not made of whole pages");
-    uint8_t *pages = mmap(NULL, ROOM_SIZE + 2 * page, PROT_NONE, MAP_PRIVATE | MAP_ANONYMOUS, -1, 0);
-    if (pages == MAP_FAILED)
-        stop("mmap is refused");
+    uint8_t *pages = reserved(ROOM_SIZE + 2 * page);
+    if (!pages)
+        stop("memory is refused");
     return pages + page;
 }
 
@@ -58,7 +54,7 @@ static uint8_t *place_in(enum room room, size_t size) {
         stop("what is put in a room is larger");
     if (!rooms[room])
         rooms[room] = new_room();
-    protect(rooms[room], PROT_READ | PROT_WRITE);
+    protect(rooms[room], USABLE);
     memset(rooms[room], UNTOUCHED, ROOM_SIZE);
     puts_at[room] = at_front ? 0 : ROOM_SIZE - size;
     return rooms[room] + puts_at[room];
@@ -68,7 +64,7 @@ const void *given(enum room room, const void *bytes, size_t size) {
     uint8_t *place = place_in(room, size);
     if (size)
         memcpy(place, bytes, size);
-    protect(rooms[room], PROT_READ);
+    protect(rooms[room], READABLE);
     return place;
 }
 
@@ -88,32 +84,34 @@ const uint8_t *whole(enum room room) {
     return rooms[room];
 }
 
-/* Whether a child that reads or writes the byte is ended for it. */
-static bool is_guarded(volatile uint8_t *byte, bool writes) {
-    pid_t child = fork();
-    if (child < 0)
-        stop("fork is refused");
-    if (child == 0) {
-        signal(SIGSEGV, SIG_DFL);
-        if (writes)
-            *byte = 0;
-        else
-            (void)*byte;
-        _exit(0);
-    }
-    int status;
-    if (waitpid(child, &status, 0) != child)
-        stop("a child is lost");
-    return WIFSIGNALED(status) && WTERMSIG(status) == SIGSEGV;
+static bool reads(void *byte) {
+    (void)*(volatile uint8_t *)byte;
+    return true;
+}
+
+static bool writes(void *byte) {
+    *(volatile uint8_t *)byte = 0;
+    return true;
+}
+
+/* Whether it is a fault to read or write the byte. What is written there is mended. */
+static bool is_guarded(uint8_t *byte, bool call(void *byte)) {
+    uint8_t before = ending_of(reads, byte) == HOLDS ? *byte : 0;
+    enum ending ending = ending_of(call, byte);
+    if (ending == LOST)
+        stop("a call is lost");
+    if (call == writes && ending == HOLDS)
+        *byte = before;
+    return ending == FAULTS;
 }
 
 void check_rooms(void) {
     uint8_t *buffer = writable(BUFFER, 8), *input = (uint8_t *)given(BYTES, "12345678", 8);
     uint8_t *past_buffer = at_front ? buffer - 1 : buffer + 8, *past_input = at_front ? input - 1 : input + 8;
-    SAME(is_guarded(past_buffer, false), true), SAME(is_guarded(past_buffer, true), true);
-    SAME(is_guarded(buffer, false), false), SAME(is_guarded(buffer, true), false);
-    SAME(is_guarded(past_input, false), true);
-    SAME(is_guarded(input, false), false), SAME(is_guarded(input, true), true);
+    SAME(is_guarded(past_buffer, reads), true), SAME(is_guarded(past_buffer, writes), true);
+    SAME(is_guarded(buffer, reads), false), SAME(is_guarded(buffer, writes), false);
+    SAME(is_guarded(past_input, reads), true);
+    SAME(is_guarded(input, reads), false), SAME(is_guarded(input, writes), true);
     SAME(is_left(BUFFER, 0), true), buffer[3] = 0;
     SAME(is_left(BUFFER, 3), false), SAME(is_left(BUFFER, 4), true);
 }

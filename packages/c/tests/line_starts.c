@@ -1,14 +1,10 @@
 /* Line starts: what is known of thematic breaks, numbers that no call has left, lines that are scanned call by call, by one run and by
  * two, and how far a line of many bullets is read. The rows of their calls are in packages/rows.tsv and packages/lines.tsv. */
-#define _DEFAULT_SOURCE
 #include "checks.h"
+#include "machine.h"
 
-#include <signal.h>
 #include <stdlib.h>
 #include <string.h>
-#include <sys/mman.h>
-#include <sys/wait.h>
-#include <unistd.h>
 
 /* What one bullet shows of those after it. (5.2) */
 static void items(void) {
@@ -273,8 +269,8 @@ static void as_runs(void) {
 enum { BULLETS = 10000, EACH = 2, ALL = EACH * BULLETS + 1, NEAR = 16 };
 
 static uint8_t *many_bullets(uint8_t bullet, uint8_t last) {
-    uint8_t *line = mmap(NULL, ALL, PROT_READ | PROT_WRITE, MAP_PRIVATE | MAP_ANONYMOUS, -1, 0);
-    if (line == MAP_FAILED)
+    uint8_t *line = reserved(ALL);
+    if (!line || !allow(line, ALL, USABLE))
         abort();
     for (size_t i = 0; i < BULLETS; i++)
         line[EACH * i] = bullet, line[EACH * i + 1] = ' ';
@@ -284,10 +280,8 @@ static uint8_t *many_bullets(uint8_t bullet, uint8_t last) {
 
 /* No bytes can be read but those of the pages that what is near to the place stands in. */
 static void show_near(uint8_t *line, size_t place) {
-    size_t page = (size_t)sysconf(_SC_PAGESIZE), begin = place / page * page, end = (place + NEAR + page - 1) / page * page;
-    if (mprotect(line, ALL, PROT_NONE))
-        abort();
-    if (mprotect(line + begin, (end < ALL ? end : ALL) - begin, PROT_READ))
+    size_t page = page_size(), begin = place / page * page, end = (place + NEAR + page - 1) / page * page;
+    if (!allow(line, ALL, UNUSABLE) || !allow(line + begin, (end < ALL ? end : ALL) - begin, READABLE))
         abort();
 }
 
@@ -322,24 +316,26 @@ static bool is_break(uint8_t *line, bool is_kept) {
 
 typedef bool reading(uint8_t *line, bool is_kept);
 
-/* The signal that ends a child which reads the line so, or 0 where it ends well. */
-static int signal_of(reading *read, uint8_t bullet, uint8_t last, bool is_kept) {
-    pid_t child = fork();
-    if (child < 0)
-        abort();
-    if (child == 0) {
-        signal(SIGSEGV, SIG_DFL);
-        _exit(read(many_bullets(bullet, last), is_kept) ? 0 : 1);
-    }
-    int status;
-    if (waitpid(child, &status, 0) != child || (WIFEXITED(status) && WEXITSTATUS(status) != 0))
-        return -1;
-    return WIFSIGNALED(status) ? WTERMSIG(status) : 0;
+/* How a line is read. */
+struct line {
+    reading *read;
+    uint8_t bullet, last;
+    bool is_kept;
+};
+
+static bool is_read(void *of) {
+    const struct line *line = of;
+    return line->read(many_bullets(line->bullet, line->last), line->is_kept);
+}
+
+static enum ending ending(reading *read, uint8_t bullet, uint8_t last, bool is_kept) {
+    struct line line = {read, bullet, last, is_kept};
+    return ending_of(is_read, &line);
 }
 
 static void many_are_read_once(void) {
-    SAME(signal_of(are_items, '-', 'x', true), 0), SAME(signal_of(are_items, '-', 'x', false), SIGSEGV);
-    SAME(signal_of(is_break, '*', '*', true), 0), SAME(signal_of(is_break, '*', '*', false), SIGSEGV);
+    SAME(ending(are_items, '-', 'x', true), HOLDS), SAME(ending(are_items, '-', 'x', false), FAULTS);
+    SAME(ending(is_break, '*', '*', true), HOLDS), SAME(ending(is_break, '*', '*', false), FAULTS);
 }
 
 static void rows(void) {
