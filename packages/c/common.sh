@@ -7,6 +7,7 @@ header=packages/c/include/fillaqut.h
 crate=crates/markdown_scanners_c
 made=$crate/out/libmarkdown_scanners_c.a # as the kit makes it, of the crate alone
 proof=$crate/out/proof.txt               # what was said when that was made, after its checksum
+code=out/fillaqut.ll # the LLVM code that other machines' archives are made of
 archive=out/libfillaqut.a
 shared_name=libfillaqut.so.${version%%.*}
 shared=out/$shared_name

@@ -2,9 +2,17 @@
 #include "machine.h"
 
 #ifdef _WIN32
+#include <fcntl.h>
+#include <io.h>
 #include <windows.h>
 
 static void *before_call[5];
+
+/* What is read and printed are bytes. */
+__attribute__((constructor)) static void take_bytes(void) {
+    _setmode(0, _O_BINARY);
+    _setmode(1, _O_BINARY);
+}
 
 size_t page_size(void) {
     SYSTEM_INFO system;
