@@ -261,7 +261,7 @@ static struct returned inlines(size_t capacity) {
 /* Keys are made of the labels that are defined, and of those that are looked up. */
 static struct returned inlines_with_labels(size_t capacity) {
     static const struct mds_view labels[] = {{"\xc3\x84", 2}, {"B  c", 4}, {"b c", 3}};
-    return of_inlines("[\xc3\xa4][] ![a][B\nC] [d]", 22, labels, 3, capacity);
+    return of_inlines("[\xc3\xa4][] ![a][B\nC] [d]", 20, labels, 3, capacity);
 }
 
 static struct returned inlines_with_many_labels(size_t capacity) {
