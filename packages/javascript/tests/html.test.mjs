@@ -86,9 +86,9 @@ test("pages that are refused", () => {
 });
 
 test("HTML that is longer than its first room", () => {
-    const address = `/${"b".repeat(5000)}`;
-    const page = `${"[a]\n".repeat(100)}\n[a]: ${address}\n`;
-    const expected = `<p>${Array(100).fill(`<a href="${address}">a</a>`).join("\n")}</p>\n`;
+    const address = `/${"b".repeat(4999)}`;
+    const page = `${"[a]\n".repeat(20)}\n[a]: ${address}\n`;
+    const expected = `<p>${Array(20).fill(`<a href="${address}">a</a>`).join("\n")}</p>\n`;
     assert.equal(scanners.htmlUnsafe(page), expected);
     assert.equal(scanners.html(page, { rel: false }), expected);
 });

@@ -108,10 +108,10 @@ class Html(unittest.TestCase):
         self.assertRaises(TypeError, mds.html, None)
 
     def test_long_html(self):
-        """More than a first buffer holds: an address is written as often as it is referred to."""
-        address = "/" + "b" * 5000
-        expected = "\n".join([f'<a href="{address}">a</a>'] * 100)
-        self.assertEqual(mds.html_unsafe("[a]\n" * 100 + f"\n[a]: {address}\n"), f"<p>{expected}</p>\n")
+        """More than a first buffer holds: an address is written as often as it is referred to, up to 100,000 bytes."""
+        address = "/" + "b" * 4999
+        expected = "\n".join([f'<a href="{address}">a</a>'] * 20)
+        self.assertEqual(mds.html_unsafe("[a]\n" * 20 + f"\n[a]: {address}\n"), f"<p>{expected}</p>\n")
 
 
 if __name__ == "__main__":

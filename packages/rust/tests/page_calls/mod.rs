@@ -290,12 +290,12 @@ fn settings_of_html() {
     assert_eq!(html_with("~~a<b>~~", Extensions { strikethrough: true, ..NONE }, &setting), "<p><del>a</del></p>\n");
 }
 
-/// An address is written as often as it is referred to.
+/// An address is written as often as it is referred to, up to 100,000 bytes.
 #[test]
 fn long_html() {
-    let address = format!("/{}", "b".repeat(5000));
-    let page = format!("{}\n[a]: {address}\n", "[a]\n".repeat(100));
-    let links = vec![format!("<a href=\"{address}\">a</a>"); 100];
+    let address = format!("/{}", "b".repeat(4999));
+    let page = format!("{}\n[a]: {address}\n", "[a]\n".repeat(20));
+    let links = vec![format!("<a href=\"{address}\">a</a>"); 20];
     let expected = format!("<p>{}</p>\n", links.join("\n"));
     assert_eq!(html_unsafe(&page, NONE), expected);
     assert_eq!(html_with(&page, NONE, &HtmlSetting { rel: false, ..HtmlSetting::default() }), expected);

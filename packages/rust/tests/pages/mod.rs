@@ -107,9 +107,9 @@ fn links() {
 #[test]
 fn many() {
     assert_eq!(Parser::new(&"a\n".repeat(5000), every()).filter(|it| *it == Event::SoftBreak).count(), 4999);
-    let page = format!("{}\n[a]: {}\n", "[a]\n".repeat(100), "b".repeat(5000));
+    let page = format!("{}\n[a]: {}\n", "[a]\n".repeat(20), "b".repeat(5000));
     let links = tags(&page).into_iter().filter(|(it, _)| matches!(it, Tag::Link(to) if to.dest_url.len() == 5000));
-    assert_eq!(links.count(), 100);
+    assert_eq!(links.count(), 20);
     let page = "a *b*";
     let lent = Parser::new(page, every()).filter_map(|it| match it {
         Event::Text(std::borrow::Cow::Borrowed(words)) => Some(words),
