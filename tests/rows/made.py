@@ -113,9 +113,43 @@ def names():
     yield named(["fillaqut", "tables", "--check", ODD], shown + b":1:1: table is not laid out\n", 1, b"")
 
 
+def table_of(columns, cell):
+    """A table of so many columns whose row has this cell and empty ones, and the same laid out. A character that is not ASCII is two wide."""
+    page = b"|a%s\n%s|\n|%s%s\n" % (b"|" * columns, b"|-" * columns, cell, b"|" * columns)
+    width = len(cell) if cell.isascii() else 2 * len(cell.decode())
+    lines = [(b"| a" + b" " * (width - 1), b" |    "), (b"| " + b"-" * width, b" | ---"), (b"| " + cell, b" |    ")]
+    return page, b"".join(first + later * (columns - 1) + b" |\n" for first, later in lines)
+
+
+def on_table(name, words, page, printed, status=0, said=b""):
+    return Row("tests/rows/made.py", name, ["fillaqut", "tables", *words], "", page, printed, status, said)
+
+
+# Of 2000 columns a row of one cell has four besides its text, and each further empty cell takes six.
+WIDEST = [(1, b"b" * 1996), (1, "\u65e5".encode() * 998), (2, b"b" * 1990), (333, b"b" * 4)]
+WIDER = [(1, b"b" * 1997), (1, "\u65e5".encode() * 999), (2, b"b" * 1991), (333, b"b" * 5), (334, b"bbb")]
+
+
+def wide_tables():
+    """A table is laid out in rows of 2000 columns at most: one that would have wider rows is left as it is, and named."""
+    too_wide = b"-:%d:1: table would be wider than 2000 columns, and is left as it is\n"
+    for page, laid in (table_of(*one) for one in WIDEST):
+        yield on_table("rows_have_2000_columns_at_most", [], page, laid)
+        yield on_table("rows_of_2000_columns_are_laid_out", ["--check"], laid, b"")
+    for page, _ in (table_of(*one) for one in WIDER):
+        yield on_table("a_table_of_wider_rows_is_left", [], page, page, said=too_wide % 1)
+        yield on_table("a_table_of_wider_rows_is_named", ["--check"], page, too_wide % 1, 1)
+    page, laid = table_of(1, b"bbb")
+    large = table_of(1, b"b" * 40_000)[0] + b"b\n" * 10_000
+    yield on_table("one_long_cell_is_not_added_to_each_row", [], large, large, said=too_wide % 1)
+    around = [b"\n".join([one, large, one]) for one in (page, laid)]
+    yield on_table("the_other_tables_of_a_page_are_laid_out", [], *around, said=too_wide % 5)
+
+
 # The rows by the names under which they are counted, and the files that some are run with.
 MADE = {
-    "answers": answers, "stored": stored, "definitions_made": definitions, "references": references, "large": large, "names": names,
+    "answers": answers, "stored": stored, "definitions_made": definitions, "references": references, "large": large,
+    "wide_tables": wide_tables, "names": names,
     COMMONMARK.stem: of_specification,
 }
 FILES = {"names": {ODD: b"|a|\n|-|\n[a](gone)\n"}}

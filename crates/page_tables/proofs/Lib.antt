@@ -1,5 +1,9 @@
+mod ColumnLemmas
 mod FilledLemmas
+mod LayoutLemmas
 mod LookLemmas
 mod MarkLemmas
+mod OrderLemmas
 mod RunLemmas
 mod SettledLemmas
+mod SizeLemmas

@@ -1,5 +1,5 @@
 -- What a formatter makes of a page, it leaves as it is.
-use Rattle.std.proofs.Common.{ℕ, Bool, true, false, List, ◌≡◌, ◌∙◌, ap, sym, subst, refl, inl, inr}
+use Rattle.std.proofs.Common.{ℕ, Bool, false, List, ◌≡◌, ◌∙◌, ap, sym, subst, refl, inl, inr}
 use Rattle.std.proofs.lemmas.Bool.{false≢true}
 use Rattle.std.specs.Str.{IsUtf8}
 use Rattle.page_tables.specs.Formatted.{HaveSameTables, IsFormatted, IsLaidOut, IsSettled, seen_tables}

@@ -1,23 +1,18 @@
 -- Which tables of a page change where they are laid out.
-use Rattle.std.specs.Prelude.{ℕ, Bool, true, not, ◌&&◌, ◌≡◌, List, [], ◌∷◌, ◌++◌, if◌then◌else◌}
+use Rattle.std.specs.Prelude.{ℕ, Bool, true, ◌&&◌, ◌≡◌, List, [], ◌∷◌, ◌++◌, if◌then◌else◌}
 use Rattle.std.specs.Str.{bytes_eq}
-use Rattle.std.specs.declared.ops.Range.{Range}
 use Rattle.page_tables.specs.Cells.{row_text}
 use Rattle.page_tables.specs.Columns.{columns_of}
 use Rattle.page_tables.specs.Formatted.{IsFormatted}
 use Rattle.page_tables.specs.Layout.{delimiter_row, delimiters_at, row_in}
-use Rattle.page_tables.specs.Marks.{AreMarksOf, MarkView, begins, head, row}
+use Rattle.page_tables.specs.Marks.{AreMarksOf, MarkView, begins, head, row, head_start}
 use Rattle.page_tables.specs.declared.columns.Column.{Column}
 
 -- the delimiter row after this head is laid out in these columns
 abbrev pub delimiters_stay : List ℕ → List Column → List MarkView → Bool
-delimiters_stay page columns (head range ∷ later) = bytes_eq (delimiter_row columns) (row_text page (delimiters_at page range.end))
+delimiters_stay page columns (head range ∷ later) =
+    bytes_eq (delimiter_row columns) (row_text page (delimiters_at page range.end later))
 delimiters_stay page columns marks = true
-
--- where the head of a table begins
-abbrev pub head_start : List MarkView → List ℕ
-head_start (head range ∷ later) = range.start ∷ []
-head_start marks = []
 
 -- the heads that are found, or else the front of the page
 abbrev pub or_front : List ℕ → List ℕ

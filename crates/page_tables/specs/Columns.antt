@@ -1,5 +1,5 @@
 -- How wide the columns of a table are.
-use Rattle.std.specs.Prelude.{ℕ, Bool, true, ◌&&◌, max, nat_le, List, [], ◌∷◌, length, map, if◌then◌else◌}
+use Rattle.std.specs.Prelude.{ℕ, Bool, true, ◌+◌, ◌&&◌, not, max, nat_le, List, [], ◌∷◌, length, map, if◌then◌else◌}
 use Rattle.markdown_values.specs.declared.values.Alignment.{Alignment}
 use Rattle.markdown_blocks.specs.blocks.Tables.{cells}
 use Rattle.page_tables.specs.Cells.{cell_texts, row_text}
@@ -38,7 +38,33 @@ all_fit page columns (head range ∷ later) = fits columns (row_text page range)
 all_fit page columns (row range ∷ later) = fits columns (row_text page range) && all_fit page columns later
 all_fit page columns marks = true
 
--- The columns of a table, each as wide as its widest cell. A table has none where a row doesn't fit: it is left as it is.
-abbrev pub columns_of : (List ℕ → ℕ) → List ℕ → List Alignment → List MarkView → List Column
-columns_of width page alignments later =
-    if all_fit page (length alignments) later then widened_to width page (map narrowest alignments) later else []
+-- how many columns of a line the cells of a row take: each with a space on each side and a pipe after it
+abbrev pub cells_width : List Column → ℕ
+cells_width [] = 0
+cells_width (column ∷ later) = column.width + 3 + cells_width later
+
+-- and the row, which begins with a pipe
+abbrev pub row_width : List Column → ℕ
+row_width columns = 1 + cells_width columns
+
+-- how many a row may take that is laid out
+abbrev pub widest : ℕ
+widest = 2000
+
+-- the rows of these columns take no more
+abbrev pub is_narrow : List Column → Bool
+is_narrow columns = nat_le (row_width columns) widest
+
+module _ (width : List ℕ → ℕ) (page : List ℕ) where
+  -- the columns of a table, each as wide as its widest cell
+  abbrev pub wide_columns : List Alignment → List MarkView → List Column
+  wide_columns alignments later = widened_to width page (map narrowest alignments) later
+
+  -- Each row of a table fits it, but laid out they would be too wide.
+  abbrev pub is_too_wide : List Alignment → List MarkView → Bool
+  is_too_wide alignments later = all_fit page (length alignments) later && not (is_narrow (wide_columns alignments later))
+
+  -- The columns in which a table is laid out. It has none where a row doesn't fit, or the rows would be too wide: it is left as it is.
+  abbrev pub columns_of : List Alignment → List MarkView → List Column
+  columns_of alignments later =
+      if all_fit page (length alignments) later && is_narrow (wide_columns alignments later) then wide_columns alignments later else []

@@ -18,12 +18,20 @@ use Rattle.page_tables.specs.declared.columns.Column.{Column}
 abbrev pub is_before_row : ℕ → Bool
 is_before_row b = (b == space) || (b == tab) || (b == greater_than_sign)
 
--- Where the delimiter row stands in the page: in the line after the head, which ends here.
-abbrev pub delimiters_at : List ℕ → ℕ → Range ℕ
-delimiters_at page head_end =
-    let line = head_end + line_length (drop head_end page) in
-    let start = line + prefix_len is_before_row (drop line page) in
-    record { start = start; end = start + length (without_end (line_head (drop start page))) }
+-- where the next of these heads and rows begins, or the page ends
+abbrev pub next_start : List ℕ → List MarkView → ℕ
+next_start page [] = length page
+next_start page (head range ∷ later) = range.start
+next_start page (row range ∷ later) = range.start
+next_start page (mark ∷ later) = next_start page later
+
+-- Where the delimiter row stands in the page: between the head, which ends here, and what comes next of these, in the line after the head.
+abbrev pub delimiters_at : List ℕ → ℕ → List MarkView → Range ℕ
+delimiters_at page head_end later =
+    let between = slice_range page head_end (next_start page later) in
+    let line = line_length between in
+    let start = line + prefix_len is_before_row (drop line between) in
+    record { start = head_end + start; end = head_end + start + length (without_end (line_head (drop start between))) }
 
 -- a cell of it: at least three bytes, with a colon at each side to which it aligns
 abbrev pub delimiter : Alignment → ℕ → List ℕ
@@ -78,7 +86,7 @@ module _ (width : List ℕ → ℕ) where
       laid_out_from page from (columns_of width page alignments later) later
   laid_out_from page from [] (mark ∷ later) = laid_out_from page from [] later
   laid_out_from page from columns (head range ∷ later) =
-      let below = delimiters_at page range.end in
+      let below = delimiters_at page range.end later in
       slice_range page from range.start ++ row_in columns (row_text page range)
       ++ slice_range page range.end below.start ++ delimiter_row columns ++ laid_out_from page below.end columns later
   laid_out_from page from columns (row range ∷ later) =

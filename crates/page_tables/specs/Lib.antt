@@ -11,5 +11,6 @@ pub mod Misfits
 pub mod Printed
 pub mod Reports
 pub mod Runs
+pub mod Sizes
 pub mod Widths
 pub mod Words

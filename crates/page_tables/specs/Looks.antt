@@ -42,6 +42,6 @@ pub record IsLook (checks : Bool) (name page text notes lines : List ℕ) : Type
   pub are_marks : AreMarksOf page marks
   pub left : Bool
   pub is_made : IsMade display_width page marks text left
-  pub are_notes : notes ≡ (if checks then [] else misfit_lines name page (misfits page marks)) ++ (if left then left_line name else [])
+  pub are_notes : notes ≡ (if checks then [] else misfit_lines name page (misfits display_width page marks)) ++ (if left then left_line name else [])
   pub are_lines : lines ≡
-      (if checks then misfit_lines name page (misfits page marks) ++ change_lines name page (changes_of display_width page marks text) else [])
+      (if checks then misfit_lines name page (misfits display_width page marks) ++ change_lines name page (changes_of display_width page marks text) else [])

@@ -34,6 +34,11 @@ marks_of (start table_row, range) = row range ∷ []
 marks_of (end End.Table, range) = ends ∷ []
 marks_of event = []
 
+-- where the head of a table begins, which has what comes next of these
+abbrev pub head_start : List MarkView → List ℕ
+head_start (head range ∷ later) = range.start ∷ []
+head_start marks = []
+
 -- CommonMark with tables
 abbrev pub with_tables : Extensions
 with_tables = record commonmark { tables = true }

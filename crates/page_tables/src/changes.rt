@@ -1,9 +1,9 @@
 //! Which tables of a page change where they are laid out.
 ghost use Rattle.std.specs.Prelude.{◌≡◌, ◌++◌, IfOk, OnOk, map, not};
 ghost use Rattle.std.specs.Str.{bytes_eq};
-ghost use Rattle.page_tables.specs.Changes.{AreChanges, changed_at, changed_heads, changes_of, delimiters_stay, head_start, row_stays, rows_stay, table_stays};
+ghost use Rattle.page_tables.specs.Changes.{AreChanges, changed_at, changed_heads, changes_of, delimiters_stay, row_stays, rows_stay, table_stays};
 ghost use Rattle.page_tables.specs.Looks.{becomes_other, made_text};
-ghost use Rattle.page_tables.specs.Marks.{mark_view};
+ghost use Rattle.page_tables.specs.Marks.{head_start, mark_view};
 
 use crate::cells::{are_equal, row_text};
 use crate::columns::{Column, columns_of};
@@ -138,12 +138,12 @@ fn delimiters_stay(
     ensures { IfOk result (λ stays. stays
         ≡ delimiters_stay page.now columns.now (map mark_view later.now)) }
 {
-    let [Mark::Head(range), ..] = later else {
+    let [Mark::Head(range), rows @ ..] = later else {
         return Ok(true);
     };
     let mut row = Vec::new(alloc);
     push_delimiter_row(&mut row, columns)?;
-    let below = delimiters_at(page, range.end);
+    let below = delimiters_at(page, range.end, rows);
     Ok(are_equal(&row, row_text(page, &below)))
 }
 

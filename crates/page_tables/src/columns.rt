@@ -1,7 +1,8 @@
 //! How wide the columns of a table are.
-ghost use Rattle.std.specs.Prelude.{◌≡◌, ◌∷◌, ◌++◌, List, map, IfOk, OnOk};
+ghost use Rattle.std.specs.Prelude.{◌≡◌, ◌∷◌, ◌++◌, List, false, true, map, IfOk, IfSome, IfNone, OnOk};
 ghost use Rattle.page_tables.specs.Cells.{cell_text, cell_texts};
-ghost use Rattle.page_tables.specs.Columns.{all_fit, columns_of, fits, narrowest, widened, widened_by, widened_to};
+ghost use Rattle.page_tables.specs.Columns.{all_fit, columns_of, fits, is_narrow, is_too_wide, narrowest, wide_columns};
+ghost use Rattle.page_tables.specs.Columns.{widened, widened_by, widened_to};
 ghost use Rattle.page_tables.specs.Marks.{mark_view};
 
 use crate::cells::{count_cells, next_cell, row_text};
@@ -10,6 +11,11 @@ use crate::widths::CellWidths;
 use markdown_blocks::cells::{Cells, cells_of};
 use markdown_values::values::Alignment;
 use std::alloc::{AllocError, Global};
+
+/// How many columns of a line a row may take that is laid out, with its pipes and spaces. A table whose
+/// rows would take more is left as it is: each row is as wide as the widest, so that one long cell would
+/// add its length to all of them.
+pub const WIDEST: usize = 2000;
 
 /// A column of a table.
 #[derive(Clone, Copy)]
@@ -20,8 +26,9 @@ pub struct Column {
     pub width: usize,
 }
 
-/// The columns of a table of the page, whose columns are aligned so, and which has what comes next of
-/// these. It has none where a row has too many cells, or none.
+/// The columns in which a table of the page is laid out, whose columns are aligned so, and which has
+/// what comes next of these. It has none where a row has too many cells, or none, and where its rows
+/// would be too wide.
 pub(crate) fn columns_of<W: CellWidths>(
     alloc: Global,
     page: &[u8],
@@ -35,8 +42,75 @@ pub(crate) fn columns_of<W: CellWidths>(
     if !all_fit(page, alignments.len(), later) {
         return Ok(Vec::new(alloc));
     }
+    match narrow_columns(alloc, page, widths, alignments, later)? {
+        Some(columns) => Ok(columns),
+        None => Ok(Vec::new(alloc)),
+    }
+}
+
+/// Whether each row of a table fits it, but laid out they would be wider than `WIDEST`.
+pub(crate) fn is_too_wide<W: CellWidths>(
+    alloc: Global,
+    page: &[u8],
+    widths: &W,
+    alignments: &[Alignment],
+    later: &[Mark],
+) -> Result<bool, AllocError>
+    ensures { IfOk result (λ wide. wide
+        ≡ is_too_wide (W.width widths.now) page.now alignments.now (map mark_view later.now)) }
+{
+    if !all_fit(page, alignments.len(), later) {
+        return Ok(false);
+    }
+    let found = narrow_columns(alloc, page, widths, alignments, later)?;
+    Ok(found.is_none())
+}
+
+// The columns of a table, each as wide as its widest cell, unless they are too wide. Where they are
+// before they have cells, no row is read.
+fn narrow_columns<W: CellWidths>(
+    alloc: Global,
+    page: &[u8],
+    widths: &W,
+    alignments: &[Alignment],
+    later: &[Mark],
+) -> Result<Option<Vec<Column>>, AllocError>
+    ensures columns { IfOk result (λ found. IfSome found (λ columns. columns.items
+        ≡ wide_columns (W.width widths.now) page.now alignments.now (map mark_view later.now))) }
+    ensures narrow { IfOk result (λ found. IfSome found (λ _. is_narrow
+        (wide_columns (W.width widths.now) page.now alignments.now (map mark_view later.now))
+        ≡ true)) }
+    ensures wide { IfOk result (λ found. IfNone found (is_narrow
+        (wide_columns (W.width widths.now) page.now alignments.now (map mark_view later.now))
+        ≡ false)) }
+{
     let columns = narrowest_columns(alloc, alignments)?;
-    widened_to(alloc, page, widths, columns, later)
+    if !is_narrow(&columns) {
+        return Ok(None);
+    }
+    let columns = widened_to(alloc, page, widths, columns, later)?;
+    if is_narrow(&columns) {
+        return Ok(Some(columns));
+    }
+    Ok(None)
+}
+
+// Whether the rows of these columns are no wider than `WIDEST`.
+fn is_narrow(columns: &[Column]) -> bool
+    ensures { result ≡ is_narrow columns.now }
+{
+    let mut room = WIDEST - 1;
+    for column in columns {
+        if room < column.width {
+            return false;
+        }
+        room -= column.width;
+        if room < 3 {
+            return false;
+        }
+        room -= 3;
+    }
+    true
 }
 
 // Whether each row up to the end of the table has a cell, and no more than there are columns.

@@ -4,6 +4,7 @@ ghost use Rattle.std.specs.Str.{IsUtf8, bytes_eq};
 ghost use Rattle.page_tables.specs.Formatted.{HaveSameTables, IsFormatted, IsSettled};
 ghost use Rattle.page_tables.specs.Looks.{IsMade, becomes_other, is_left, made_text};
 ghost use Rattle.page_tables.specs.Marks.{AreMarksOf, mark_view};
+ghost use Rattle.page_tables.specs.Sizes.{IsBounded};
 
 use crate::cells::are_equal;
 use crate::layout::laid_out;
@@ -24,8 +25,8 @@ pub enum Made {
     IsLeft,
 }
 
-/// A page with its tables laid out, or None where it stays as it is: they are laid out, or would not
-/// be the same then. A page without tables is read once.
+/// A page with its tables laid out, or None where it stays as it is: they are laid out or too wide, have
+/// a row that doesn't fit, or would not be the same then. A page without tables is read once.
 ///
 /// # Errors
 ///
@@ -44,6 +45,8 @@ pub fn formatted<W: CellWidths>(
     ensures again { IfOk result (λ found. IfSome found (λ text. (other : List ℕ)
         → IsFormatted (W.width widths.now) (string_bytes text) other
         → other ≡ string_bytes text)) }
+    ensures bounded { IfOk result (λ found. IfSome found (λ text.
+        IsBounded page.now (string_bytes text))) }
 {
     let marks = marks_of_page(alloc, page)?;
     match made_of(alloc, page, widths, &marks)? {

@@ -5,7 +5,7 @@ ghost use Rattle.markdown_scanners_tree.specs.Ascii.{space};
 ghost use Rattle.markdown_blocks.specs.info.Info.{without_end};
 ghost use Rattle.page_tables.specs.Cells.{cell_text, cell_texts, row_text};
 ghost use Rattle.page_tables.specs.Layout.{aligned, before_cell, delimiter, delimiter_row, delimiters, delimiters_at, enclosed};
-ghost use Rattle.page_tables.specs.Layout.{is_before_row, laid_out, laid_out_from, row_cells, row_in};
+ghost use Rattle.page_tables.specs.Layout.{is_before_row, laid_out, laid_out_from, next_start, row_cells, row_in};
 ghost use Rattle.page_tables.specs.Marks.{MarkView, head, mark_view, row};
 ghost use Rattle.page_tables.specs.declared.columns.Column.{Column};
 
@@ -79,7 +79,7 @@ impl Layout {
                 self.columns = columns_of(alloc, page, widths, alignments, later)?;
                 Ok(())
             }
-            Mark::Head(range) => self.add_head(page, widths, range),
+            Mark::Head(range) => self.add_head(page, widths, range, later),
             Mark::Row(range) => self.add_row(page, widths, range),
             Mark::End => {
                 self.columns.clear();
@@ -88,25 +88,27 @@ impl Layout {
         }
     }
 
-    // Adds the page up to the end of the delimiter row after this head, unless its table is left as it
-    // is.
+    // Adds the page up to the end of the delimiter row after this head, before these, unless its table
+    // is left as it is.
     fn add_head<W: CellWidths>(
         &mut self,
         page: &[u8],
         widths: &W,
         range: &Range<usize>,
+        later: &[Mark],
     ) -> Result<(), AllocError>
-        ensures { OnOk result ((later : List MarkView) → self.new.out.items
-            ++ laid_out_from (W.width widths.now) page.now self.new.from self.new.columns.items later
+        ensures { OnOk result (self.new.out.items
+            ++ laid_out_from (W.width widths.now) page.now self.new.from self.new.columns.items
+            (map mark_view later.now)
             ≡ self.old.out.items
             ++ laid_out_from (W.width widths.now) page.now self.old.from self.old.columns.items
-            (head range.now ∷ later)) }
+            (head range.now ∷ map mark_view later.now)) }
     {
         if self.columns.is_empty() {
             return Ok(());
         }
         self.push_row(page, widths, range)?;
-        let below = delimiters_at(page, range.end);
+        let below = delimiters_at(page, range.end, later);
         self.out
             .extend_from_slice(part(page, range.end, below.start))?;
         push_delimiter_row(&mut self.out, &self.columns)?;
@@ -154,14 +156,30 @@ impl Layout {
     }
 }
 
-/// Where the delimiter row stands in the page: in the line after the head, which ends here.
-pub(crate) fn delimiters_at(page: &[u8], head_end: usize) -> Range<usize>
-    ensures { result ≡ delimiters_at page.now head_end }
+/// Where the delimiter row stands in the page: between the head, which ends here, and what comes next
+/// of these, in the line after the head.
+pub(crate) fn delimiters_at(page: &[u8], head_end: usize, later: &[Mark]) -> Range<usize>
+    ensures { result ≡ delimiters_at page.now head_end (map mark_view later.now) }
 {
-    let line = head_end + scan_line(part(page, head_end, page.len()));
-    let start = line + space_len(part(page, line, page.len()));
-    let row = without_end(line_head(part(page, start, page.len())));
-    start..start + row.len()
+    let between = part(page, head_end, next_start(page, later));
+    let line = scan_line(between);
+    let start = line + space_len(part(between, line, between.len()));
+    let row = without_end(line_head(part(between, start, between.len())));
+    head_end + start..head_end + start + row.len()
+}
+
+// Where the next of these heads and rows begins, or the page ends.
+fn next_start(page: &[u8], later: &[Mark]) -> usize
+    ensures { result ≡ next_start page.now (map mark_view later.now) }
+{
+    let mut rest = later;
+    while let [mark, more @ ..] = rest {
+        if let Mark::Head(range) | Mark::Row(range) = mark {
+            return range.start;
+        }
+        rest = more;
+    }
+    page.len()
 }
 
 // How many bytes stand at the front that may stand before a row.

@@ -7,6 +7,7 @@ ghost use Rattle.page_tables.specs.Marks.{mark_view};
 ghost use Rattle.page_tables.specs.Misfits.{misfits};
 ghost use Rattle.page_tables.specs.Printed.{IsPrinted};
 ghost use Rattle.page_tables.specs.Reports.{change_lines, left_line, misfit_lines};
+ghost use Rattle.page_tables.specs.Sizes.{IsBounded};
 ghost use Rattle.page_tables.specs.Widths.{display_width};
 
 use crate::changes::changes_of;
@@ -59,6 +60,7 @@ pub fn look_at_page(alloc: Global, name: &str, page: &str, checks: bool) -> Resu
         (made_text page.now look.made)
         (string_bytes look.notes) (string_bytes look.lines)) }
     ensures printed { IfOk result (λ look. IsPrinted page.now (made_text page.now look.made)) }
+    ensures bounded { IfOk result (λ look. IsBounded page.now (made_text page.now look.made)) }
     ensures changes { IfOk result (λ look. becomes_other look.made
         ≡ not (bytes_eq (made_text page.now look.made) page.now)) }
 {
@@ -75,7 +77,7 @@ fn look_at_text(alloc: Global, name: &str, page: &str, checks: bool) -> Result<L
 {
     let marks = marks_of_page(alloc, page)?;
     let made = made_of(alloc, page, &DisplayWidths, &marks)?;
-    let rows = misfits(alloc, page.as_bytes(), &marks)?;
+    let rows = misfits(alloc, page.as_bytes(), &DisplayWidths, &marks)?;
     let notes = notes_of(alloc, name, page.as_bytes(), &rows, is_left(&made), checks)?;
     let lines = lines_of(alloc, name, page, &marks, &rows, &made, checks)?;
     Ok(Look { made, notes, lines })

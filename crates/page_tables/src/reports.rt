@@ -4,7 +4,7 @@ ghost use Rattle.markdown_blocks.specs.byte_order_mark.ByteOrderMark.{text_of};
 ghost use Rattle.page_positions.specs.private.Lines.{IsLineOf};
 ghost use Rattle.page_tables.specs.Reports.{change_line, change_lines, left_line, line_at, misfit_line, misfit_lines, misfit_words};
 
-use crate::misfits::Misfit;
+use crate::misfits::{Misfit, Unfit};
 use page_positions::{Line, Position, text_position_at};
 use std::alloc::AllocError;
 
@@ -42,7 +42,7 @@ fn push_change(
     push_line(text, name, position, "table is not laid out")
 }
 
-/// Adds a line for each of these rows of the page, which don't fit their tables.
+/// Adds a line for each of these rows of the page, for which tables are left as they are.
 pub(crate) fn push_misfits(
     text: &mut String,
     name: &str,
@@ -59,7 +59,7 @@ pub(crate) fn push_misfits(
     Ok(())
 }
 
-// Adds the line of a row that doesn't fit its table.
+// Adds the line of a row for which its table is left as it is.
 fn push_misfit(
     text: &mut String,
     name: &str,
@@ -73,17 +73,19 @@ fn push_misfit(
         ≡ string_bytes text.old ++ misfit_line name.now page.now row) }
 {
     let position = text_position_at(page, line, row.start);
-    push_line(text, name, position, misfit_words(row.has_cell))
+    push_line(text, name, position, misfit_words(row.why))
 }
 
-// Why a row doesn't fit its table.
-fn misfit_words(has_cell: bool) -> &'static str
-    ensures { result.now ≡ misfit_words has_cell }
+// Why a table is left as it is.
+fn misfit_words(why: Unfit) -> &'static str
+    ensures { result.now ≡ misfit_words why }
 {
-    if has_cell {
-        "row has more cells than its table has columns, and the table is left as it is"
-    } else {
-        "row has no cell, and its table is left as it is"
+    match why {
+        Unfit::TooManyCells => {
+            "row has more cells than its table has columns, and the table is left as it is"
+        }
+        Unfit::NoCell => "row has no cell, and its table is left as it is",
+        Unfit::TooWide => "table would be wider than 2000 columns, and is left as it is",
     }
 }
 
