@@ -2,6 +2,7 @@
 ghost use Rattle.std.specs.Prelude.{◌≡◌, ◌==◌, ◌||◌, true, IfOk, map};
 ghost use Rattle.std.specs.List.{list_all};
 ghost use Rattle.std.specs.Str.{is_utf8};
+ghost use Rattle.markdown_html.specs.SafeSetting.{IsSafeSetting};
 ghost use Rattle.markdown_html.specs.Settings.{seen_setting};
 ghost use Rattle.markdown_scanners_c.specs.HtmlSettings.{allowed_schemes, is_known, setting_of};
 ghost use Rattle.markdown_scanners_c.specs.KnownLabels.{AreTexts};
@@ -60,13 +61,16 @@ fn are_zero(numbers: &[u32]) -> bool
 }
 
 /// What HTML is then written with, where these are the schemes that addresses may have.
+#[tactic(auto, using(crate::proofs::HtmlSettings::asked_is_safe))]
 pub(crate) fn setting_of<'a>(
     asked: &AskedHtml<'_>,
     schemes: &'a [&'a str],
 ) -> HtmlSetting<AllowedSchemes<'a>>
     requires { map (λ scheme. scheme.now) schemes.now ≡ allowed_schemes asked.now.schemes.now }
-    ensures { seen_setting ⟦<AllowedSchemes<'a> as AllowedAddresses>⟧.allows result
+    ensures setting { seen_setting ⟦<AllowedSchemes<'a> as AllowedAddresses>⟧.allows result
         ≡ setting_of asked.now }
+    ensures safe { IsSafeSetting (allowed_schemes asked.now.schemes.now)
+        (seen_setting ⟦<AllowedSchemes<'a> as AllowedAddresses>⟧.allows result) }
 {
     let raw = if asked.raw_html == OMITTED {
         RawHtml::LeftOut
