@@ -24,8 +24,8 @@ parts_ok total at rest (start ∷ starts) (part ∷ parts) =
 
 module _ (text : List ℕ) where
   boundary : (rest : List ℕ) (at : ℕ) → rest ≡ drop at text → begins rest ≡ true → at ≤ length text → IsCharBoundary text at
-  boundary rest at behind ok inside =
-      let first : slice_index rest 0 ≡ slice_index text (at + 0) = ap (λ l. slice_index l 0) behind ∙ get_or-drop at text 0 0 in
+  boundary rest at following ok inside =
+      let first : slice_index rest 0 ≡ slice_index text (at + 0) = ap (λ l. slice_index l 0) following ∙ get_or-drop at text 0 0 in
       let here : at + 0 ≡ at = omega arith in
       let same : slice_index rest 0 ≡ slice_index text at = first ∙ ap (slice_index text) here in (
         inside,
@@ -37,24 +37,24 @@ module _ (text : List ℕ) where
 
   first_part : (at n start next : ℕ) (rest part : List ℕ) → rest ≡ drop at text → n ≡ length part → start ≡ at → next ≡ at + n
       → at + n ≤ length text → begins rest ≡ true → begins (drop n rest) ≡ true → take n rest ≡ part → IsPart text start next part
-  first_part at n start next rest part behind _ starts ends inside begun after is =
+  first_part at n start next rest part following _ starts ends inside begun after is =
       let more : at ≤ length text = omega arith in
       let gap : next - start ≡ n = omega arith in
-      let further : drop n rest ≡ drop (at + n) text = ap (drop n) behind ∙ drop-drop n at text in
+      let further : drop n rest ≡ drop (at + n) text = ap (drop n) following ∙ drop-drop n at text in
       record {
         in_order = omega arith;
-        starts = rw starts (boundary rest at behind begun more);
+        starts = rw starts (boundary rest at following begun more);
         ends = rw ends (boundary (drop n rest) (at + n) further after inside);
-        is = rw (gap, starts, ← behind) is;
+        is = rw (gap, starts, ← following) is;
       }
 
   parts_ok-at : (at : ℕ) (rest starts : List ℕ) (parts : List (List ℕ)) → rest ≡ drop at text
       → parts_ok (length text) at rest starts parts ≡ true → (k : ℕ) → k < length parts
       → IsPart text (slice_index starts k) (slice_index starts (suc k)) (get_or parts k [])
   unfolding parts_ok
-  parts_ok-at at rest starts [] behind ok k less = absurd (not-suc-le-zero less)
-  parts_ok-at at rest [] (part ∷ parts) behind ok k less = absurd (false≢true ok)
-  parts_ok-at at rest (start ∷ starts) (part ∷ parts) behind ok zero less =
+  parts_ok-at at rest starts [] following ok k less = absurd (not-suc-le-zero less)
+  parts_ok-at at rest [] (part ∷ parts) following ok k less = absurd (false≢true ok)
+  parts_ok-at at rest (start ∷ starts) (part ∷ parts) following ok zero less =
       let n = length part in
       let halves = and_parts ((start == at) && (slice_index starts 0 == at + n)) _ ok in
       let places = and_parts (start == at) (slice_index starts 0 == at + n) halves.0 in
@@ -62,14 +62,14 @@ module _ (text : List ℕ) where
       let edges = and_parts (nat_le (at + n) (length text)) (begins rest && begins (drop n rest)) tests.0 in
       let sides = and_parts (begins rest) (begins (drop n rest)) edges.1 in
       let same = and_parts (bytes_eq (take n rest) part) (parts_ok (length text) (at + n) (drop n rest) starts parts) tests.1 in
-      first_part at n start (slice_index starts 0) rest part behind refl (eqb-true start at places.0) (eqb-true (slice_index starts 0) (at + n) places.1)
+      first_part at n start (slice_index starts 0) rest part following refl (eqb-true start at places.0) (eqb-true (slice_index starts 0) (at + n) places.1)
       (leb-true (at + n) (length text) edges.0) sides.0 sides.1 ((bytes_eq-Decides (take n rest) part).0 same.0)
-  parts_ok-at at rest (start ∷ starts) (part ∷ parts) behind ok (suc k) less =
+  parts_ok-at at rest (start ∷ starts) (part ∷ parts) following ok (suc k) less =
       let n = length part in
       let halves = and_parts ((start == at) && (slice_index starts 0 == at + n)) _ ok in
       let tests = and_parts (nat_le (at + n) (length text) && (begins rest && begins (drop n rest))) _ halves.1 in
       let same = and_parts (bytes_eq (take n rest) part) (parts_ok (length text) (at + n) (drop n rest) starts parts) tests.1 in
-      parts_ok-at (at + n) (drop n rest) starts parts (ap (drop n) behind ∙ drop-drop n at text) same.1 k (le_of_suc-le-suc less)
+      parts_ok-at (at + n) (drop n rest) starts parts (ap (drop n) following ∙ drop-drop n at text) same.1 k (le_of_suc-le-suc less)
 
   parts_ok-enough : (at : ℕ) (rest starts : List ℕ) (parts : List (List ℕ)) → parts_ok (length text) at rest starts parts ≡ true → length parts < length starts
   unfolding parts_ok

@@ -1,5 +1,5 @@
 -- Lemmas that other crates cite.
-pub use Rattle.markdown_scanners_tree.proofs.HandlerLemmas.{cut_behind_ascii, cut_behind_front, front_found, steady_at_ascii, ascii_fronts}
+pub use Rattle.markdown_scanners_tree.proofs.HandlerLemmas.{cut_after_ascii, cut_after_front, front_found, steady_at_ascii, ascii_fronts}
 pub use Rattle.markdown_scanners_tree.proofs.HandlerLemmas.{callable_after_line_endings}
 pub use Rattle.markdown_scanners_tree.proofs.LabelHandlers.{label_of_more}
 pub use Rattle.markdown_scanners_tree.proofs.PrefixLemmas.{prefix_alike}
@@ -16,7 +16,7 @@ pub use Rattle.markdown_scanners_tree.proofs.line.RestLemmas.{rest_within}
 pub use Rattle.markdown_scanners_tree.proofs.line.run.StateRunLemmas.{run_at_front, run_in_parts, run_stopped}
 pub use Rattle.markdown_scanners_tree.proofs.linklabel.LabelLengths.{one_label_unskipped}
 pub use Rattle.markdown_scanners_tree.proofs.linklabel.OneLabel.{one_label, one_label_in_bytes}
-pub use Rattle.markdown_scanners_tree.proofs.scanners.Scanned.{same_pieces, thematic_breaks, blank_lines, place_of_rest}
+pub use Rattle.markdown_scanners_tree.proofs.scanners.Scanned.{same_pieces, thematic_breaks, blank_lines, offset_of_rest}
 pub use Rattle.markdown_scanners_tree.proofs.scanners.Scanned.{one_atx_heading, one_blank_line, one_closing_fence, one_closing_metadata, one_code_fence}
 pub use Rattle.markdown_scanners_tree.proofs.scanners.Scanned.{one_destination}
 pub use Rattle.markdown_scanners_tree.proofs.scanners.Scanned.{one_html_block_start, one_html_kind, one_indent, one_item}
@@ -26,9 +26,9 @@ pub use Rattle.markdown_scanners_tree.proofs.scanners.breaks.BreakLemmas.{is_the
 pub use Rattle.markdown_scanners_tree.proofs.scanners.html_kinds.StartLemmas.{none_unopened}
 pub use Rattle.markdown_scanners_tree.proofs.scanners.lines.BlankLemmas.{first-line_ending}
 pub use Rattle.markdown_scanners_tree.proofs.scanners.lines.LaneLemmas.{at_most, ends_within, goes_past}
-pub use Rattle.markdown_scanners_tree.proofs.scanners.reference_definitions.DefinitionLemmas.{raw_place}
+pub use Rattle.markdown_scanners_tree.proofs.scanners.reference_definitions.DefinitionLemmas.{raw_offset}
 pub use Rattle.markdown_scanners_tree.proofs.scanners.reference_definitions.GapLemmas.{IsSolid, destination_solid, title_solid, gap_only, one_gap, gap_there}
-pub use Rattle.markdown_scanners_tree.proofs.scanners.reference_definitions.GapLemmas.{gap_scanned, cut_behind_gap, cut_behind_rest}
+pub use Rattle.markdown_scanners_tree.proofs.scanners.reference_definitions.GapLemmas.{gap_scanned, cut_after_gap, cut_after_rest}
 pub use Rattle.markdown_scanners_tree.proofs.scanners.runs.CallableLemmas.{callable_in_turn}
 pub use Rattle.markdown_scanners_tree.proofs.scanners.text_lines.LineSteps.{first_line-taken, lines_joined}
 

@@ -17,9 +17,9 @@ use denote.Param.Always.{always_fn}
 use denote.Ref.{Bor}
 
 -- after an ASCII byte a text may be cut
-pub cut_behind_ascii : (rest : List ℕ) (skip : ℕ) → IsUtf8 rest → skip ≤ length rest → 0 < skip
+pub cut_after_ascii : (rest : List ℕ) (skip : ℕ) → IsUtf8 rest → skip ≤ length rest → 0 < skip
     → get_or rest (skip - 1) 0 < 128 → IsCharBoundary rest skip
-cut_behind_ascii rest skip utf8 within some ascii =
+cut_after_ascii rest skip utf8 within some ascii =
     subst (IsCharBoundary rest) (omega (arith, some)) (IsCharBoundary-after_ascii rest (skip - 1) utf8 (omega (arith, some, within)) ascii)
 
 pub last_ascii : (rest : List ℕ) (k : ℕ) → k < length rest → list_all (λ b. nat_lt b 128) (take (suc k) rest) ≡ true
@@ -30,9 +30,9 @@ last_ascii (b ∷ rest) (suc k) inside all =
     last_ascii rest k (omega (arith, inside)) (both_true (nat_lt b 128) (list_all (λ c. nat_lt c 128) (take (suc k) rest)) all).1
 
 -- and after an ASCII front
-pub cut_behind_front : (rest : List ℕ) (skip : ℕ) → IsUtf8 rest → IsAsciiFront rest skip → IsCharBoundary rest skip
-cut_behind_front rest zero utf8 front = IsCharBoundary-start rest utf8
-cut_behind_front rest (suc k) utf8 front =
+pub cut_after_front : (rest : List ℕ) (skip : ℕ) → IsUtf8 rest → IsAsciiFront rest skip → IsCharBoundary rest skip
+cut_after_front rest zero utf8 front = IsCharBoundary-start rest utf8
+cut_after_front rest (suc k) utf8 front =
     subst (IsCharBoundary rest) (omega arith) (IsCharBoundary-after_ascii rest k utf8 (omega (arith, front.0))
     (last_ascii rest k (omega (arith, front.0)) front.1))
 
@@ -55,11 +55,11 @@ pub steady_at_ascii : {F : Type 0} (g : Shared F (Bor (List ℕ) × Unit {0}) (O
     → IsSteadyAtChars g f
 steady_at_ascii g f one ascii = record {
   one_answer = one;
-  inside = λ rest skip utf8 answers some. cut_behind_front rest skip utf8 (ascii rest skip utf8 answers);
+  inside = λ rest skip utf8 answers some. cut_after_front rest skip utf8 (ascii rest skip utf8 answers);
 }
 
 -- an ASCII front, and that a text may be cut after it
-pub ruleset ascii_fronts = (cut_behind_ascii, cut_behind_front, front_found)
+pub ruleset ascii_fronts = (cut_after_ascii, cut_after_front, front_found)
 
 -- a handler that may always be called may be called after the line endings of a text
 pub callable_after_line_endings : {F R : Type 0} (g : Shared F (Bor (List ℕ) × Unit {0}) R) (f : F) (text : List ℕ)
@@ -76,15 +76,15 @@ ending_len false true false n h = (refl, omega arith)
 ending_len false false next n h = absurd (let none : false ≡ true = h in cc)
 
 -- after a line ending that stands next in a label
-pub after_label_line : (source : List ℕ) (place len : ℕ) → IsEnding (drop place source) len
-    → IsAfterLineEnding source (drop (place + len) source)
-after_label_line source place len h =
+pub after_label_line : (source : List ℕ) (offset len : ℕ) → IsEnding (drop offset source) len
+    → IsAfterLineEnding source (drop (offset + len) source)
+after_label_line source offset len h =
     let b = h.byte in
     let some = ending_len (b == line_feed) (b == carriage_return) (begins_with (λ c. c == line_feed) h.others)
     (suc (line_len h.others)) h.ends in
     let size : len ≡ line_len (b ∷ h.others) = h.takes ∙ ap line_len h.parts in
     record {
-      place = place;
+      offset = offset;
       taken = len;
       some = rw size some.1;
       ending = ap line_ending h.parts ∙ some.0 ∙ ap Some (sym size);

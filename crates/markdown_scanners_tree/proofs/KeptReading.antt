@@ -1,4 +1,4 @@
--- A kept text is read from one place of its source to the next.
+-- A kept text is read from one offset of its source to the next.
 use Rattle.std.proofs.Common.{ℕ, suc, List, [], ◌∷◌, ◌++◌, ◌+◌, ◌≡◌, Bool, true, false, not, ◌==◌, drop, refl, sym, ap, ◌∙◌, subst, inl, inr, arith}
 use Rattle.std.proofs.lemmas.Bool.{cases_Bool, eqb-true}
 use Rattle.markdown_scanners_tree.specs.Ascii.{line_feed, carriage_return}
@@ -8,23 +8,23 @@ use Rattle.markdown_scanners_tree.specs.scanners.tag_state.private.TagMachine.{e
 use Rattle.markdown_scanners_tree.proofs.KeptStep.{Reads, reads_more, reads_less, reads_end, reads_from_end, kept_from-return}
 use Rattle.markdown_scanners_tree.proofs.RunLemmas.{not_true}
 
--- The byte at the place is kept, and what follows it is read from the next place.
-pub record Step (answers : List ℕ → ℕ → Type 0) (place : ℕ) (source : List ℕ) (kept : KeptByte) (next : ℕ) (rest : List ℕ) : Type 0 where
+-- The byte at the offset is kept, and what follows it is read from the next offset.
+pub record Step (answers : List ℕ → ℕ → Type 0) (offset : ℕ) (source : List ℕ) (kept : KeptByte) (next : ℕ) (rest : List ℕ) : Type 0 where
   pub forth : (c : KeptByte) (t : List KeptByte) → Reads answers next rest (c ∷ t)
-      → Reads answers place source (kept ∷ c ∷ t)
-  pub back : (c : KeptByte) (t : List KeptByte) → Reads answers place source (c ∷ t)
+      → Reads answers offset source (kept ∷ c ∷ t)
+  pub back : (c : KeptByte) (t : List KeptByte) → Reads answers offset source (c ∷ t)
       → (c ≡ kept) × Reads answers next rest t
 
 -- LF, and a CR that no LF follows, end a line alone
-pub ends_alone : (place b : ℕ) (bs : List ℕ) → ends_source_line (b ∷ bs) ≡ true
-    → (is_line_ending b ≡ true) × (kept_line place (b ∷ bs) ≡ at_line_end b place ∷ []) × (line_len (b ∷ bs) ≡ 1)
-ends_alone place b bs h =
+pub ends_alone : (offset b : ℕ) (bs : List ℕ) → ends_source_line (b ∷ bs) ≡ true
+    → (is_line_ending b ≡ true) × (kept_line offset (b ∷ bs) ≡ at_line_end b offset ∷ []) × (line_len (b ∷ bs) ≡ 1)
+ends_alone offset b bs h =
     elim (cases_Bool (b == line_feed)) [
       | inl lf ↦ (rw lf refl, rw lf refl, rw lf refl)
       | inr no_lf ↦ elim (cases_Bool (b == carriage_return)) [
         | inl cr ↦ (
             let alone : begins_with (λ c. c == line_feed) bs ≡ false = not_true _ (rw (no_lf, cr) at h) in
-            (rw (no_lf, cr) refl, rw (no_lf, cr, alone) (ap (λ z. at_line_end z place ∷ []) (sym (eqb-true b carriage_return cr))), rw (no_lf, cr, alone) refl)
+            (rw (no_lf, cr) refl, rw (no_lf, cr, alone) (ap (λ z. at_line_end z offset ∷ []) (sym (eqb-true b carriage_return cr))), rw (no_lf, cr, alone) refl)
             )
         | inr no_cr ↦ absurd (let none = rw (no_lf, no_cr) at h in cc)
       ]
@@ -52,12 +52,12 @@ return_before b bs e h =
         by true k = refl
         by false k = cc
 
-module _ (answers : List ℕ → ℕ → Type 0) (place : ℕ) where
+module _ (answers : List ℕ → ℕ → Type 0) (offset : ℕ) where
   plain_step : (b : ℕ) (bs : List ℕ) → is_line_ending b ≡ false
-      → Step answers place (b ∷ bs) (in_line b place) (place + 1) bs
+      → Step answers offset (b ∷ bs) (in_line b offset) (offset + 1) bs
   plain_step b bs plain = record {
-    forth = λ c t r. reads_more answers place b bs plain (c ∷ t) r;
-    back = λ c t r. reads_less answers place b bs plain c t r;
+    forth = λ c t r. reads_more answers offset b bs plain (c ∷ t) r;
+    back = λ c t r. reads_less answers offset b bs plain c t r;
   }
 
   AreSkips-return : (bs : List ℕ) (skip : ℕ) (skips : List ℕ)
@@ -67,30 +67,30 @@ module _ (answers : List ℕ → ℕ → Type 0) (place : ℕ) where
       let d : 2 + skip ≡ suc (1 + skip) = omega arith in ap (λ z. (true ≡ true) × answers bs skip × AreSkips answers (drop z (carriage_return ∷ line_feed ∷ bs)) skips) d
 
   return_forth : (bs : List ℕ) (c : KeptByte) (t rest : List KeptByte) (skips : List ℕ)
-      → AreSkips answers (line_feed ∷ bs) skips → kept_from (place + 1) (line_feed ∷ bs) skips ≡ c ∷ (t ++ rest)
-      → Reads answers place (carriage_return ∷ line_feed ∷ bs) (in_line carriage_return place ∷ c ∷ t)
+      → AreSkips answers (line_feed ∷ bs) skips → kept_from (offset + 1) (line_feed ∷ bs) skips ≡ c ∷ (t ++ rest)
+      → Reads answers offset (carriage_return ∷ line_feed ∷ bs) (in_line carriage_return offset ∷ c ∷ t)
   return_forth bs c t rest [] s e = cc
   return_forth bs c t rest (skip ∷ skips) s e = record {
     skips = skip ∷ skips;
     rest = rest;
     answered = subst (λ X. X) (sym (AreSkips-return bs skip skips)) s;
-    begins = kept_from-return place bs skip skips ∙ ap (λ z. in_line carriage_return place ∷ z) e;
+    begins = kept_from-return offset bs skip skips ∙ ap (λ z. in_line carriage_return offset ∷ z) e;
   }
 
   return_back : (bs : List ℕ) (c : KeptByte) (t rest : List KeptByte) (skips : List ℕ)
       → AreSkips answers (carriage_return ∷ line_feed ∷ bs) skips
-      → kept_from place (carriage_return ∷ line_feed ∷ bs) skips ≡ c ∷ (t ++ rest)
-      → (c ≡ in_line carriage_return place) × Reads answers (place + 1) (line_feed ∷ bs) t
+      → kept_from offset (carriage_return ∷ line_feed ∷ bs) skips ≡ c ∷ (t ++ rest)
+      → (c ≡ in_line carriage_return offset) × Reads answers (offset + 1) (line_feed ∷ bs) t
   return_back bs c t rest [] s e = cc
   return_back bs c t rest (skip ∷ skips) s e =
-      let f : in_line carriage_return place ∷ kept_from (place + 1) (line_feed ∷ bs) (skip ∷ skips) ≡ c ∷ (t ++ rest) =
-      sym (kept_from-return place bs skip skips) ∙ e in
-      let head : c ≡ in_line carriage_return place = cc in
-      let tail : kept_from (place + 1) (line_feed ∷ bs) (skip ∷ skips) ≡ t ++ rest = cc in
+      let f : in_line carriage_return offset ∷ kept_from (offset + 1) (line_feed ∷ bs) (skip ∷ skips) ≡ c ∷ (t ++ rest) =
+      sym (kept_from-return offset bs skip skips) ∙ e in
+      let head : c ≡ in_line carriage_return offset = cc in
+      let tail : kept_from (offset + 1) (line_feed ∷ bs) (skip ∷ skips) ≡ t ++ rest = cc in
       (head, record { skips = skip ∷ skips; rest = rest; answered = subst (λ X. X) (AreSkips-return bs skip skips) s; begins = tail })
 
   return_step : (bs : List ℕ)
-      → Step answers place (carriage_return ∷ line_feed ∷ bs) (in_line carriage_return place) (place + 1) (line_feed ∷ bs)
+      → Step answers offset (carriage_return ∷ line_feed ∷ bs) (in_line carriage_return offset) (offset + 1) (line_feed ∷ bs)
   return_step bs = record {
     forth = λ c t r. return_forth bs c t r.rest r.skips r.answered r.begins;
     back = λ c t r. return_back bs c t r.rest r.skips r.answered r.begins;
@@ -98,7 +98,7 @@ module _ (answers : List ℕ → ℕ → Type 0) (place : ℕ) where
 
   -- a byte that ends no line
   pub step_in_line : (b : ℕ) (bs : List ℕ) → ends_source_line (b ∷ bs) ≡ false
-      → Step answers place (b ∷ bs) (in_line b place) (place + 1) bs
+      → Step answers offset (b ∷ bs) (in_line b offset) (offset + 1) bs
   step_in_line b bs h =
       elim (cases_Bool (is_line_ending b)) [
         | inr plain ↦ plain_step b bs plain
@@ -111,32 +111,32 @@ module _ (answers : List ℕ → ℕ → Type 0) (place : ℕ) where
   -- a byte that ends a line, and the one skip after it
   pub step_at_end : (b : ℕ) (bs : List ℕ) (skip : ℕ) → ends_source_line (b ∷ bs) ≡ true → answers bs skip
       → ((n : ℕ) → answers bs n → n ≡ skip)
-      → Step answers place (b ∷ bs) (at_line_end b place) (place + (1 + skip)) (drop skip bs)
+      → Step answers offset (b ∷ bs) (at_line_end b offset) (offset + (1 + skip)) (drop skip bs)
   step_at_end b bs skip h a only =
-      let ends = ends_alone place b bs h in
+      let ends = ends_alone offset b bs h in
       record {
-        forth = λ c t r. reads_end answers place b bs ends.0 ends.1 ends.2 skip (c ∷ t) a r;
+        forth = λ c t r. reads_end answers offset b bs ends.0 ends.1 ends.2 skip (c ∷ t) a r;
         back = λ c t r. (
-            let read = reads_from_end answers place b bs ends.0 ends.1 ends.2 c t r in
-            (read.0, subst (λ n. Reads answers (place + (1 + n)) (drop n bs) t) (only read.1 read.2) read.3)
+            let read = reads_from_end answers offset b bs ends.0 ends.1 ends.2 c t r in
+            (read.0, subst (λ n. Reads answers (offset + (1 + n)) (drop n bs) t) (only read.1 read.2) read.3)
             );
       }
 
   -- where no skip is answered nothing is read
   pub no_step : (b : ℕ) (bs : List ℕ) → ends_source_line (b ∷ bs) ≡ true → ((n : ℕ) → answers bs n → ⊥)
-      → (c : KeptByte) (t : List KeptByte) → Reads answers place (b ∷ bs) (c ∷ t) → ⊥
+      → (c : KeptByte) (t : List KeptByte) → Reads answers offset (b ∷ bs) (c ∷ t) → ⊥
   no_step b bs h none c t r =
-      let ends = ends_alone place b bs h in
-      let read = reads_from_end answers place b bs ends.0 ends.1 ends.2 c t r in
+      let ends = ends_alone offset b bs h in
+      let read = reads_from_end answers offset b bs ends.0 ends.1 ends.2 c t r in
       none read.1 read.2
 
-  pub nothing_read : (c : KeptByte) (t : List KeptByte) → Reads answers place [] (c ∷ t) → ⊥
+  pub nothing_read : (c : KeptByte) (t : List KeptByte) → Reads answers offset [] (c ∷ t) → ⊥
   nothing_read c t r = by r.skips r.answered r.begins
     where
-      by : (skips : List ℕ) → AreSkips answers [] skips → kept_from place [] skips ≡ c ∷ (t ++ r.rest) → ⊥
+      by : (skips : List ℕ) → AreSkips answers [] skips → kept_from offset [] skips ≡ c ∷ (t ++ r.rest) → ⊥
       by [] s e = cc
       by (skip ∷ skips) s e = let none : false ≡ true = s.0 in cc
 
-  pub last_read : (b : ℕ) (bs : List ℕ) → is_line_ending b ≡ false → Reads answers place (b ∷ bs) (in_line b place ∷ [])
+  pub last_read : (b : ℕ) (bs : List ℕ) → is_line_ending b ≡ false → Reads answers offset (b ∷ bs) (in_line b offset ∷ [])
   last_read b bs plain =
-      reads_more answers place b bs plain [] (record { skips = []; rest = _; answered = tt; begins = refl })
+      reads_more answers offset b bs plain [] (record { skips = []; rest = _; answered = tt; begins = refl })

@@ -22,26 +22,26 @@ two_fronts (x ∷ xs) (y ∷ ys) us vs same =
     ]
 
 -- a line begins with its head
-line_begins : (place : ℕ) (source : List ℕ) → Extends (kept_line place source) (kept_head place source)
-line_begins place [] = ([], refl)
-line_begins place (b ∷ bs) = elim (cases_Bool (is_line_ending b)) [
+line_begins : (offset : ℕ) (source : List ℕ) → Extends (kept_line offset source) (kept_head offset source)
+line_begins offset [] = ([], refl)
+line_begins offset (b ∷ bs) = elim (cases_Bool (is_line_ending b)) [
   | inl ends ↦ (
-      let none : kept_head place (b ∷ bs) ≡ [] = rw ends refl in
-      (kept_line place (b ∷ bs), sym (ap (λ head. head ++ kept_line place (b ∷ bs)) none))
+      let none : kept_head offset (b ∷ bs) ≡ [] = rw ends refl in
+      (kept_line offset (b ∷ bs), sym (ap (λ head. head ++ kept_line offset (b ∷ bs)) none))
       )
   | inr plain ↦ (
       let others = or_parts (b == line_feed) (b == carriage_return) plain in
-      let more = line_begins (place + 1) bs in
-      (more.0, rw (others.0, others.1) (ap (λ line. in_line b place ∷ line) more.1))
+      let more = line_begins (offset + 1) bs in
+      (more.0, rw (others.0, others.1) (ap (λ line. in_line b offset ∷ line) more.1))
       )
 ]
 
 -- what a head goes on to, where its line is followed by others
-head_goes_on : (place : ℕ) (source : List ℕ) (others : List KeptByte)
-    → Extends (kept_line place source ++ others) (kept_head place source)
-head_goes_on place source others =
-    let more = line_begins place source in
-    (more.0 ++ others, ap (λ line. line ++ others) more.1 ∙ append_assoc (kept_head place source) more.0 others)
+head_goes_on : (offset : ℕ) (source : List ℕ) (others : List KeptByte)
+    → Extends (kept_line offset source ++ others) (kept_head offset source)
+head_goes_on offset source others =
+    let more = line_begins offset source in
+    (more.0 ++ others, ap (λ line. line ++ others) more.1 ∙ append_assoc (kept_head offset source) more.0 others)
 
 line_goes_on : (line xs ys : List KeptByte) → Extends xs ys → Extends (line ++ xs) (line ++ ys)
 line_goes_on line xs ys more = (more.0, ap (λ others. line ++ others) more.1 ∙ sym (append_assoc line ys more.0))
@@ -49,22 +49,22 @@ line_goes_on line xs ys more = (more.0, ap (λ others. line ++ others) more.1 �
 module _ (answers : List ℕ → ℕ → Type 0)
     (one_answer : (rest : List ℕ) (m n : ℕ) → answers rest m → answers rest n → m ≡ n) where
   -- of two kept texts of a source, one begins with the other
-  pub one_kept_text : (place : ℕ) (source skips skips' : List ℕ) → AreSkips answers source skips
+  pub one_kept_text : (offset : ℕ) (source skips skips' : List ℕ) → AreSkips answers source skips
       → AreSkips answers source skips'
-      → Extends (kept_from place source skips') (kept_from place source skips)
-      ⊎ Extends (kept_from place source skips) (kept_from place source skips')
-  one_kept_text place source [] [] are are' = inl ([], sym (append-nil (kept_head place source)))
-  one_kept_text place source [] (n ∷ ns) are are' = inl (head_goes_on place source _)
-  one_kept_text place source (m ∷ ms) [] are are' = inr (head_goes_on place source _)
-  one_kept_text place source (m ∷ ms) (n ∷ ns) are are' =
+      → Extends (kept_from offset source skips') (kept_from offset source skips)
+      ⊎ Extends (kept_from offset source skips) (kept_from offset source skips')
+  one_kept_text offset source [] [] are are' = inl ([], sym (append-nil (kept_head offset source)))
+  one_kept_text offset source [] (n ∷ ns) are are' = inl (head_goes_on offset source _)
+  one_kept_text offset source (m ∷ ms) [] are are' = inr (head_goes_on offset source _)
+  one_kept_text offset source (m ∷ ms) (n ∷ ns) are are' =
       let same : m ≡ n = one_answer (drop (line_len source) source) m n are.1 are'.1 in
       let others : AreSkips answers (drop (line_len source + n) source) ms =
       subst (λ k. AreSkips answers (drop (line_len source + k) source) ms) same are.2 in
-      let later = one_kept_text (place + (line_len source + n)) (drop (line_len source + n) source) ms ns others are'.2 in
-      let moved : kept_from (place + (line_len source + m)) (drop (line_len source + m) source) ms
-      ≡ kept_from (place + (line_len source + n)) (drop (line_len source + n) source) ms =
-      ap (λ k. kept_from (place + (line_len source + k)) (drop (line_len source + k) source) ms) same in
+      let later = one_kept_text (offset + (line_len source + n)) (drop (line_len source + n) source) ms ns others are'.2 in
+      let moved : kept_from (offset + (line_len source + m)) (drop (line_len source + m) source) ms
+      ≡ kept_from (offset + (line_len source + n)) (drop (line_len source + n) source) ms =
+      ap (λ k. kept_from (offset + (line_len source + k)) (drop (line_len source + k) source) ms) same in
       rw moved (elim later [
-        | inl more ↦ inl (line_goes_on (kept_line place source) _ _ more)
-        | inr more ↦ inr (line_goes_on (kept_line place source) _ _ more)
+        | inl more ↦ inl (line_goes_on (kept_line offset source) _ _ more)
+        | inr more ↦ inr (line_goes_on (kept_line offset source) _ _ more)
       ])

@@ -61,8 +61,8 @@ prefix_alike p q (x ∷ xs) (y ∷ ys) long each =
     ap (λ t. cond t (1 + prefix_len p xs) 0) (each 0 (omega arith)) ∙ ap (λ n. cond (q y) (1 + n) 0) rest
 
 -- `&bytes[i..]`
-pub from_place : (bytes : List ℕ) (i : ℕ) → take (length bytes - i) (drop i bytes) ≡ drop i bytes
-from_place bytes i = take_all (length bytes - i) (drop i bytes) (omega (arith, length-drop i bytes))
+pub from_offset : (bytes : List ℕ) (i : ℕ) → take (length bytes - i) (drop i bytes) ≡ drop i bytes
+from_offset bytes i = take_all (length bytes - i) (drop i bytes) (omega (arith, length-drop i bytes))
 
 module _ (p q : ℕ → Bool) (implies : (b : ℕ) → p b ≡ true → q b ≡ true) where
   pub list_all-implies : (bytes : List ℕ) → list_all p bytes ≡ true → list_all q bytes ≡ true
@@ -85,7 +85,7 @@ list_all-drop p zero bytes all = all
 list_all-drop p (suc k) [] all = refl
 list_all-drop p (suc k) (b ∷ bytes) all = list_all-drop p k bytes (both_true (p b) (list_all p bytes) all).1
 
--- the bytes before a place, the byte there, and those after it
+-- the bytes before an offset, the byte there, and those after it
 pub split_at : (bytes : List ℕ) (n byte : ℕ) → n < length bytes → get_or bytes n 0 ≡ byte
     → bytes ≡ take n bytes ++ byte ∷ drop (suc n) bytes
 split_at bytes n byte inside here =

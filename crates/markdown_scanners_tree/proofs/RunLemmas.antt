@@ -9,7 +9,7 @@ use Rattle.std.proofs.lemmas.List.Sums.{prefix_len-le-length}
 use Rattle.std.proofs.Math.Seq.{drop-append_seam}
 use Rattle.markdown_scanners_tree.specs.Bytes.{begins_with, line_ending}
 use Rattle.markdown_scanners_tree.specs.scanners.Lines.{IsRunOf}
-use Rattle.markdown_scanners_tree.proofs.PrefixLemmas.{from_place, both_true, list_all-prefix, begins_with-after_prefix, prefix_len-parts, same_cut}
+use Rattle.markdown_scanners_tree.proofs.PrefixLemmas.{from_offset, both_true, list_all-prefix, begins_with-after_prefix, prefix_len-parts, same_cut}
 use Rattle.markdown_scanners_tree.proofs.scanners.lines.BlankLemmas.{first-line_ending}
 
 pub not_true : (b : Bool) → not b ≡ true → b ≡ false
@@ -114,13 +114,13 @@ one_begun_run bytes byte run rest byte' run' rest' is is' some some' =
 -- What a scan of `&bytes[i..]` or of `&bytes[i + j..]` tells of the bytes from there.
 pub prefix_len-from : (p : ℕ → Bool) (bytes : List ℕ) (i n : ℕ)
     → n ≡ prefix_len p (take (length bytes - i) (drop i bytes)) → n ≡ prefix_len p (drop i bytes)
-prefix_len-from p bytes i n is = is ∙ ap (prefix_len p) (from_place bytes i)
+prefix_len-from p bytes i n is = is ∙ ap (prefix_len p) (from_offset bytes i)
 
 pub line_ending-from : (bytes : List ℕ) (i j : ℕ) (ending : Option ℕ)
     → ending ≡ line_ending (take (length bytes - (i + j)) (drop (i + j) bytes))
     → line_ending (drop j (drop i bytes)) ≡ ending
 line_ending-from bytes i j ending is =
-    sym (is ∙ ap line_ending (from_place bytes (i + j) ∙ sym (drop-drop j i bytes)))
+    sym (is ∙ ap line_ending (from_offset bytes (i + j) ∙ sym (drop-drop j i bytes)))
 
 -- a run whose first byte is known
 pub begun_bytes : (byte : ℕ) (bytes : List ℕ) → begins_with (λ b. b == byte) bytes ≡ true → 1 ≤ length bytes
@@ -134,6 +134,6 @@ begun_length byte [] rest begins is = absurd (let none : false ≡ true = begins
 begun_length byte (b ∷ bytes) rest begins is =
     let same : (b == byte) ≡ true = begins in
     let counted : rest ≡ prefix_len (λ b. b == byte) bytes =
-    is ∙ ap (prefix_len (λ b. b == byte)) (from_place (b ∷ bytes) 1) in
+    is ∙ ap (prefix_len (λ b. b == byte)) (from_offset (b ∷ bytes) 1) in
     let long = prefix_len-le-length (λ b. b == byte) bytes in
     (rw same (omega (arith, counted)), omega (arith, counted, long))

@@ -6,7 +6,7 @@ use Rattle.std.specs.Option.{is_some}
 use Rattle.std.proofs.lemmas.Bool.{cases_Bool}
 use Rattle.memchr.specs.Find.{Nowhere, NoneBefore, Passes, IsFirstByte, is_byte}
 use Rattle.markdown_scanners_tree.specs.Bytes.{is_white_space_in_line, line_ending, IsBlankLine}
-use Rattle.markdown_scanners_tree.proofs.PrefixLemmas.{from_place}
+use Rattle.markdown_scanners_tree.proofs.PrefixLemmas.{from_offset}
 use Rattle.markdown_scanners_tree.proofs.scanners.lines.BlankLemmas.{IsBlankLine-found, IsBlankLine-only}
 
 -- the bytes before the first that passes
@@ -54,13 +54,13 @@ pub IsBlankLine-scanned : (bytes : List ℕ) (i ending : ℕ) → i ≡ prefix_l
     → Some ending ≡ line_ending (take (length bytes - i) (drop i bytes)) → IsBlankLine bytes (i + ending)
 IsBlankLine-scanned bytes i ending run h =
     rw run (IsBlankLine-found bytes ending
-    (sym (ap line_ending (from_place bytes (prefix_len is_white_space_in_line bytes))) ∙ sym (rw run at h)))
+    (sym (ap line_ending (from_offset bytes (prefix_len is_white_space_in_line bytes))) ∙ sym (rw run at h)))
 
 pub IsBlankLine-not_scanned : (bytes : List ℕ) (i : ℕ) → i ≡ prefix_len is_white_space_in_line bytes
     → None ≡ line_ending (take (length bytes - i) (drop i bytes)) → (n : ℕ) → ¬ IsBlankLine bytes n
 IsBlankLine-not_scanned bytes i run h n blank =
     let found = IsBlankLine-only bytes n blank in
-    let missed = rw (run, from_place bytes (prefix_len is_white_space_in_line bytes)) at h in
+    let missed = rw (run, from_offset bytes (prefix_len is_white_space_in_line bytes)) at h in
     let ending_found = found.1 in
     cc
 

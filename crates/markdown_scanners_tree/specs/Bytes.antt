@@ -80,7 +80,7 @@ length_with_ending prefix bytes =
 abbrev pub line_length : List ℕ → ℕ
 line_length bytes = length_with_ending (line_head bytes) bytes
 
--- A line is blank up to place n: white space that ends no line, and a line ending, n bytes
+-- A line is blank up to offset n: white space that ends no line, and a line ending, n bytes
 -- together.
 pub record IsBlankLine (bytes : List ℕ) (n : ℕ) : Type 0 where
   pub space : List ℕ

@@ -1,4 +1,4 @@
-//! A place in a line that is read column by column, with tab stops of four.
+//! An offset in a line that is read column by column, with tab stops of four.
 //! (CommonMark 0.31.2, section 2.2, tabs)
 ghost use Rattle.std.specs.Prelude.{ℕ, ◌≡◌, ◌+◌, ◌-◌, ◌*◌, ◌%◌, ◌<◌, ◌≤◌, ◌↔◌, ◌==◌, true, [], ◌∷◌, length, drop, IsTrue, IfSome, IfNone, ⊤};
 ghost use Rattle.markdown_scanners_tree.specs.Ascii.{greater_than_sign};
@@ -28,16 +28,16 @@ pub use run::{LineAnswer, LineCall, LineRun, LineStop, run_line};
 use std::alloc::AllocError;
 use std::marker::Model;
 
-/// A place in a line, and the columns of a tab before it that are not taken yet.
+/// An offset in a line, and the columns of a tab before it that are not taken yet.
 ///
 /// A column counts bytes, and a tab reaches to the next multiple of four. Contracts see a
-/// `LineState`: the bytes, the place, the pending columns, and the column of the place modulo four.
+/// `LineState`: the bytes, the offset, the pending columns, and the column of the offset modulo four.
 #[derive(Drop)]
 pub struct LineStart<'a> {
     bytes: &'a [u8],
     // Four columns a byte may be more than a `usize` holds.
     column: u128,
-    place: usize,
+    offset: usize,
     pending: usize,
     breaks: KnownBreaks,
 }
@@ -46,13 +46,13 @@ impl<'a> Model for LineStart<'a> {
     ghost Value = { LineState };
 
     ghost view = { λ s.
-        record { bytes = s.bytes.now; place = s.place; pending = s.pending; phase = s.column % 4 } };
+        record { bytes = s.bytes.now; offset = s.offset; pending = s.pending; phase = s.column % 4 } };
 
     ghost invariant = { λ s.
-        (s.place ≤ length s.bytes.now)
-        × (s.column ≤ 4 * s.place + 3)
+        (s.offset ≤ length s.bytes.now)
+        × (s.column ≤ 4 * s.offset + 3)
         × (s.pending < 4)
-        × AreTrueBreaks s.bytes.now s.breaks s.place };
+        × AreTrueBreaks s.bytes.now s.breaks s.offset };
 }
 
 impl Clone for LineStart<'_> {
@@ -66,52 +66,52 @@ impl Clone for LineStart<'_> {
 }
 
 impl<'a> LineStart<'a> {
-    /// The start of a line: place 0, with nothing pending.
+    /// The start of a line: offset 0, with nothing pending.
     pub fn new(bytes: &'a [u8]) -> LineStart<'a>
-        ensures { result ≡ record { bytes = bytes.now; place = 0; pending = 0; phase = 0 } }
+        ensures { result ≡ record { bytes = bytes.now; offset = 0; pending = 0; phase = 0 } }
     {
         LineStart {
             bytes,
             column: 0,
-            place: 0,
+            offset: 0,
             pending: 0,
             breaks: KnownBreaks::new(),
         }
     }
 
-    /// The line start at a place of the bytes with these columns pending, where the column of the
-    /// place modulo four is `phase`: as `bytes_scanned`, `remaining_space` and `phase` have given
+    /// The line start at an offset of the bytes with these columns pending, where the column of the
+    /// offset modulo four is `phase`: as `bytes_scanned`, `remaining_space` and `phase` have given
     /// them. None where no line start has such numbers.
     pub fn resumed(
         bytes: &'a [u8],
-        place: usize,
+        offset: usize,
         pending: usize,
         phase: usize,
     ) -> Option<LineStart<'a>>
         ensures state { IfSome result (λ start. start
-            ≡ record { bytes = bytes.now; place = place; pending = pending; phase = phase }) }
+            ≡ record { bytes = bytes.now; offset = offset; pending = pending; phase = phase }) }
         ensures is_state { IfSome result (λ start. IsLineState start) }
         ensures none { IfNone result (¬ IsLineState
-            (record { bytes = bytes.now; place = place; pending = pending; phase = phase })) }
+            (record { bytes = bytes.now; offset = offset; pending = pending; phase = phase })) }
     {
-        if place > bytes.len() || pending > 3 || phase > 3 {
+        if offset > bytes.len() || pending > 3 || phase > 3 {
             return None;
         }
         Some(LineStart {
             bytes,
             column: phase as u128,
-            place,
+            offset,
             pending,
             breaks: KnownBreaks::new(),
         })
     }
 
-    /// The place: how many bytes have been passed.
+    /// The offset: how many bytes have been passed.
     pub fn bytes_scanned(&self) -> usize
-        ensures place { result ≡ self.now.place }
+        ensures offset { result ≡ self.now.offset }
         ensures within { result ≤ length self.now.bytes }
     {
-        self.place
+        self.offset
     }
 
     /// The pending columns: those of the last tab that have not been taken yet.
@@ -122,7 +122,7 @@ impl<'a> LineStart<'a> {
         self.pending
     }
 
-    /// The column of the place modulo four.
+    /// The column of the offset modulo four.
     pub fn phase(&self) -> usize
         ensures phase { result ≡ self.now.phase }
         ensures within { result < 4 }
@@ -130,31 +130,31 @@ impl<'a> LineStart<'a> {
         (self.column % 4) as usize
     }
 
-    // The same place again.
+    // The same offset again.
     fn copy(&self) -> LineStart<'a>
         ensures { result ≡ self.now }
     {
         LineStart {
             bytes: self.bytes,
             column: self.column,
-            place: self.place,
+            offset: self.offset,
             pending: self.pending,
             breaks: self.breaks,
         }
     }
 
-    // The byte at the place, if there is one.
+    // The byte at the offset, if there is one.
     fn next_byte(&self) -> Option<u8>
         ensures byte { IfSome result (λ b.
-            unscanned self.now ≡ b ∷ drop (self.now.place + 1) self.now.bytes) }
-        ensures inside { IfSome result (λ _. self.now.place < length self.now.bytes) }
+            unscanned self.now ≡ b ∷ drop (self.now.offset + 1) self.now.bytes) }
+        ensures inside { IfSome result (λ _. self.now.offset < length self.now.bytes) }
         ensures none { IfNone result (unscanned self.now ≡ []) }
         ensures phase { self.now.phase < 4 }
     {
-        self.bytes.get(self.place).copied()
+        self.bytes.get(self.offset).copied()
     }
 
-    // Whether a space or a tab stands at the place.
+    // Whether a space or a tab stands at the offset.
     fn is_at_space(&self) -> bool
         ensures { result ≡ begins_with is_space_or_tab (unscanned self.now) }
     {
@@ -163,23 +163,23 @@ impl<'a> LineStart<'a> {
 
     // Passes bytes as one column each.
     fn pass_bytes(&mut self, count: usize)
-        requires { self.old.place + count ≤ length self.old.bytes }
+        requires { self.old.offset + count ≤ length self.old.bytes }
         ensures { self.new ≡ bytes_further count self.old }
     {
-        self.place += count;
+        self.offset += count;
         self.column += count as u128;
     }
 
-    // Passes the byte at the place as one column.
+    // Passes the byte at the offset as one column.
     fn pass_byte(&mut self)
-        requires { self.old.place < length self.old.bytes }
+        requires { self.old.offset < length self.old.bytes }
         ensures { self.new ≡ bytes_further 1 self.old }
     {
-        self.place += 1;
+        self.offset += 1;
         self.column += 1;
     }
 
-    /// Whether a line ending, or the end of the bytes, stands at the place. Pending columns are
+    /// Whether a line ending, or the end of the bytes, stands at the offset. Pending columns are
     /// looked past.
     pub fn is_at_eol(&self) -> bool
         ensures answer { IsTrue result ↔ (is_at_line_end (unscanned self.now) ≡ true) }
@@ -197,7 +197,7 @@ impl<'a> LineStart<'a> {
         ensures answer { result ≡ space_within n self.old }
         ensures state { self.new ≡ after_space n self.old }
         ensures bytes { self.new.bytes ≡ self.old.bytes }
-        ensures forward { self.old.place ≤ self.new.place }
+        ensures forward { self.old.offset ≤ self.new.offset }
         ensures step { IsPlainStep (LineCall.Upto n) (LineAnswer.Count result) self.old self.new }
     {
         // Most often there is none.
@@ -208,16 +208,16 @@ impl<'a> LineStart<'a> {
         self.pending -= from_pending;
         let mut left = n - from_pending;
         // A run of spaces first: one comparison finds both ends, of the bytes and of the columns.
-        let rest = &self.bytes[self.place..];
+        let rest = &self.bytes[self.offset..];
         let spaces = scan_ch_repeat(&rest[..left.min(rest.len())], b' ');
-        self.place += spaces;
+        self.offset += spaces;
         self.column += spaces as u128;
         left -= spaces;
-        while left > 0 && self.place < self.bytes.len() {
-            match self.bytes[self.place] {
+        while left > 0 && self.offset < self.bytes.len() {
+            match self.bytes[self.offset] {
                 b'\t' => {
                     let width = tab_width(self.column);
-                    self.place += 1;
+                    self.offset += 1;
                     self.column += width as u128;
                     if width > left {
                         self.pending = width - left;
@@ -226,7 +226,7 @@ impl<'a> LineStart<'a> {
                     left -= width;
                 }
                 b' ' => {
-                    self.place += 1;
+                    self.offset += 1;
                     self.column += 1;
                     left -= 1;
                 }
@@ -241,7 +241,7 @@ impl<'a> LineStart<'a> {
         ensures answer { IsTrue result ↔ (space_within n self.old ≡ n) }
         ensures state { self.new ≡ after_space n self.old }
         ensures bytes { self.new.bytes ≡ self.old.bytes }
-        ensures forward { self.old.place ≤ self.new.place }
+        ensures forward { self.old.offset ≤ self.new.offset }
         ensures step { IsPlainStep (LineCall.Space n) (LineAnswer.Flag result) self.old self.new }
     {
         self.scan_space_upto(n) == n
@@ -251,25 +251,25 @@ impl<'a> LineStart<'a> {
     fn scan_column(&mut self) -> bool
         ensures answer { IsTrue result ↔ (space_within 1 self.old ≡ 1) }
         ensures state { self.new ≡ after_space 1 self.old }
-        ensures forward { self.old.place ≤ self.new.place }
+        ensures forward { self.old.offset ≤ self.new.offset }
         ensures rest { rest_of self.new ≡ drop (space_within 1 self.old) (rest_of self.old) }
     {
         if self.pending > 0 {
             self.pending -= 1;
             return true;
         }
-        if self.place >= self.bytes.len() {
+        if self.offset >= self.bytes.len() {
             return false;
         }
-        match self.bytes[self.place] {
+        match self.bytes[self.offset] {
             b' ' => {
-                self.place += 1;
+                self.offset += 1;
                 self.column += 1;
                 true
             }
             b'\t' => {
                 let width = tab_width(self.column);
-                self.place += 1;
+                self.offset += 1;
                 self.column += width as u128;
                 self.pending = width - 1;
                 true
@@ -278,20 +278,20 @@ impl<'a> LineStart<'a> {
         }
     }
 
-    /// Drops the pending columns and passes all spaces and tabs at the place.
+    /// Drops the pending columns and passes all spaces and tabs at the offset.
     ///
     /// A tab is passed as one column here, so columns are not those of the line from then on.
     pub fn scan_all_space(&mut self)
         ensures state { self.new ≡ after_all_space self.old }
         ensures bytes { self.new.bytes ≡ self.old.bytes }
-        ensures forward { self.old.place ≤ self.new.place }
+        ensures forward { self.old.offset ≤ self.new.offset }
     {
         self.pending = 0;
-        let space = scan_spaces_and_tabs(&self.bytes[self.place..]);
+        let space = scan_spaces_and_tabs(&self.bytes[self.offset..]);
         self.pass_bytes(space);
     }
 
-    /// Passes a block quote marker: `>` at the place, and at most one column of space after it.
+    /// Passes a block quote marker: `>` at the offset, and at most one column of space after it.
     /// Answers whether there was one. Pending columns are looked past, and one of them is that
     /// space. (CommonMark 0.31.2, section 5.1)
     pub fn scan_blockquote_marker(&mut self) -> bool
@@ -299,8 +299,8 @@ impl<'a> LineStart<'a> {
             (begins_with (λ b. b == greater_than_sign) (unscanned self.old) ≡ true) }
         ensures state { self.new ≡ after_quote self.old }
         ensures bytes { self.new.bytes ≡ self.old.bytes }
-        ensures forward { self.old.place ≤ self.new.place }
-        ensures rises { IsTrue result → self.old.place < self.new.place }
+        ensures forward { self.old.offset ≤ self.new.offset }
+        ensures rises { IsTrue result → self.old.offset < self.new.offset }
 
         // With nothing pending the call is one on the line with its tabs written out.
         ensures step { self.old.pending ≡ 0 →
@@ -323,13 +323,13 @@ impl<'a> LineStart<'a> {
         ensures answer { result ≡ (task_outcome self.old).answer }
         ensures state { self.new ≡ (task_outcome self.old).state }
         ensures bytes { self.new.bytes ≡ self.old.bytes }
-        ensures forward { self.old.place ≤ self.new.place }
-        ensures rises { IfSome result (λ _. self.old.place < self.new.place) }
+        ensures forward { self.old.offset ≤ self.new.offset }
+        ensures rises { IfSome result (λ _. self.old.offset < self.new.offset) }
         ensures unchanged { IfNone result (self.new ≡ self.old) }
     {
         let before = self.copy();
         self.scan_space(3);
-        let Some(checked) = task_box(&self.bytes[self.place..]) else {
+        let Some(checked) = task_box(&self.bytes[self.offset..]) else {
             *self = before;
             return None;
         };
@@ -343,11 +343,11 @@ impl<'a> LineStart<'a> {
         ensures answer { result ≡ (alert_outcome self.old).answer }
         ensures state { self.new ≡ (alert_outcome self.old).state }
         ensures bytes { self.new.bytes ≡ self.old.bytes }
-        ensures forward { self.old.place ≤ self.new.place }
-        ensures rises { IfSome result (λ _. self.old.place < self.new.place) }
+        ensures forward { self.old.offset ≤ self.new.offset }
+        ensures rises { IfSome result (λ _. self.old.offset < self.new.offset) }
         ensures unchanged { IfNone result (self.new ≡ self.old) }
     {
-        let (kind, length) = scan_alert(&self.bytes[self.place..])?;
+        let (kind, length) = scan_alert(&self.bytes[self.offset..])?;
         self.pass_bytes(length);
         Some(kind)
     }

@@ -6,8 +6,8 @@ use Rattle.std.proofs.lemmas.Bool.{cases_eq, cases_lt, false≢true}
 use Rattle.std.proofs.lemmas.Bool.Decides.{nat_tests}
 use Rattle.memchr.specs.Find.{OccursAt, Nowhere, Passes, is_byte, FindsNeedle, occurs_at}
 use Rattle.memchr.proofs.lemmas.MatchLemmas.{occurs_at-true, OccursAt-true}
-use Rattle.markdown_scanners_tree.specs.inline_html.InlineHtml.{first_place}
-use Rattle.markdown_scanners_tree.proofs.inline_html.LeastPlaces.{first_place-FindsNeedle, FindsNeedle-slice}
+use Rattle.markdown_scanners_tree.specs.inline_html.InlineHtml.{first_offset}
+use Rattle.markdown_scanners_tree.proofs.inline_html.LeastPlaces.{first_offset-FindsNeedle, FindsNeedle-slice}
 
 is_itself : (a b : ℕ) → a ≡ b → (a == b) ≡ true
 is_itself a b e = grind (arith, nat_tests)
@@ -17,11 +17,11 @@ module _ (hay needle : List ℕ) (some : 0 < length needle) where
   moved k = omega arith
 
   -- no needle stands whose last byte is passed
-  pub none_before : (place : ℕ)
+  pub none_before : (offset : ℕ)
       → Nowhere (Passes (is_byte (get_or needle (length needle - 1) 0))
-      (take (length hay - (length needle - 1)) (drop (length needle - 1) hay))) 0 place
-      → Nowhere (OccursAt hay needle) 0 place
-  none_before place none k low high occurs =
+      (take (length hay - (length needle - 1)) (drop (length needle - 1) hay))) 0 offset
+      → Nowhere (OccursAt hay needle) 0 offset
+  none_before offset none k low high occurs =
       let reads :
       get_or (take (length hay - (length needle - 1)) (drop (length needle - 1) hay)) k 0
       ≡ get_or needle (length needle - 1) 0 =
@@ -43,20 +43,20 @@ module _ (hay needle : List ℕ) (some : 0 < length needle) where
       ap length (take_rest hay (length needle - 1)) ∙ length-drop (length needle - 1) hay in
       none_before _ none k low (omega (arith, occurs.fits)) occurs
 
-  pub found_there : (place : ℕ) → occurs_at hay needle place ≡ true → Nowhere (OccursAt hay needle) 0 place
-      → FindsNeedle hay needle 0 (Some place)
-  found_there place there none =
-      let occurs : OccursAt hay needle place = OccursAt-true hay needle place there in
+  pub found_there : (offset : ℕ) → occurs_at hay needle offset ≡ true → Nowhere (OccursAt hay needle) 0 offset
+      → FindsNeedle hay needle 0 (Some offset)
+  found_there offset there none =
+      let occurs : OccursAt hay needle offset = OccursAt-true hay needle offset there in
       (record { low = omega arith; high = omega (arith, occurs.fits); before = none }, occurs)
 
-  -- a place at which it does not stand
-  pub none_there : (place : ℕ) → occurs_at hay needle place ≡ false → Nowhere (OccursAt hay needle) 0 place
-      → Nowhere (OccursAt hay needle) 0 (place + 1)
-  none_there place gone none k low high occurs =
+  -- an offset at which it does not stand
+  pub none_there : (offset : ℕ) → occurs_at hay needle offset ≡ false → Nowhere (OccursAt hay needle) 0 offset
+      → Nowhere (OccursAt hay needle) 0 (offset + 1)
+  none_there offset gone none k low high occurs =
       ⊎_elim
-      (λ same. false≢true (sym gone ∙ occurs_at-true hay needle place (subst (OccursAt hay needle) same occurs)))
+      (λ same. false≢true (sym gone ∙ occurs_at-true hay needle offset (subst (OccursAt hay needle) same occurs)))
       (λ other. none k low (omega arith) occurs)
-      (cases_eq k place)
+      (cases_eq k offset)
 
   from_after : (after : ℕ) (r : Option ℕ) → Nowhere (OccursAt hay needle) 0 after → FindsNeedle hay needle after r
       → FindsNeedle hay needle 0 r
@@ -72,17 +72,17 @@ module _ (hay needle : List ℕ) (some : 0 < length needle) where
     h.1,
   )
 
-  -- a search after that place
+  -- a search after that offset
   pub found_after : (after : ℕ) (r : Option ℕ) → after ≤ length hay → Nowhere (OccursAt hay needle) 0 after
       → FindsNeedle (take (length hay - after) (drop after hay)) needle 0 r
       → FindsNeedle hay needle 0 (option_map (λ k. after + k) r)
   found_after after r inside none h =
       subst (FindsNeedle hay needle 0) (sym (FindsNeedle-slice hay needle after inside r h))
-      (from_after after (first_place hay needle after) none (first_place-FindsNeedle hay needle after))
+      (from_after after (first_offset hay needle after) none (first_offset-FindsNeedle hay needle after))
 
-  pub place_inside : (place : ℕ)
-      → place < length (take (length hay - (length needle - 1)) (drop (length needle - 1) hay)) → place + 1 ≤ length hay
-  place_inside place low =
+  pub offset_inside : (offset : ℕ)
+      → offset < length (take (length hay - (length needle - 1)) (drop (length needle - 1) hay)) → offset + 1 ≤ length hay
+  offset_inside offset low =
       let size : length (take (length hay - (length needle - 1)) (drop (length needle - 1) hay))
       ≡ length hay - (length needle - 1) =
       ap length (take_rest hay (length needle - 1)) ∙ length-drop (length needle - 1) hay in

@@ -1,4 +1,4 @@
--- The least place at which bytes stand in a text.
+-- The least offset at which bytes stand in a text.
 use Rattle.std.proofs.Common.{◌≡◌, ℕ, zero, suc, ◌+◌, ◌-◌, ◌≤◌, ◌<◌, Bool, true, false, Option, Some, None, ⊎_elim, arith}
 use Rattle.std.proofs.Common.{List, ◌++◌, length, get_or, take, drop, length-drop, get_or-drop, length-append, refl, sym, ap, subst, ◌∙◌}
 use lib.Pointwise.{pointwise}
@@ -10,23 +10,23 @@ use Rattle.std.proofs.lemmas.Bool.Decides.{Decides-eqb}
 use Rattle.std.proofs.lemmas.Bool.{cases_Bool, cases_eq, cases_lt, cond-true, cond-false, false≢true, lt-leb, and_left}
 use Rattle.memchr.specs.Find.{OccursAt, Nowhere, IsFirst, FindsNeedle, occurs_at}
 use Rattle.memchr.proofs.lemmas.MatchLemmas.{OccursAt-split, occurs_at-true, OccursAt-true}
-use Rattle.markdown_scanners_tree.specs.inline_html.InlineHtml.{least_place, first_place}
+use Rattle.markdown_scanners_tree.specs.inline_html.InlineHtml.{least_offset, first_offset}
 
 module _ (text bytes : List ℕ) where
-  hit : (i n : ℕ) → occurs_at text bytes i ≡ true → least_place text bytes i (suc n) ≡ Some i
-  unfolding least_place
+  hit : (i n : ℕ) → occurs_at text bytes i ≡ true → least_offset text bytes i (suc n) ≡ Some i
+  unfolding least_offset
   hit i n h = cond-true _ _ _ h
 
   miss : (i n : ℕ) → occurs_at text bytes i ≡ false
-      → least_place text bytes i (suc n) ≡ least_place text bytes (i + 1) n
-  unfolding least_place
+      → least_offset text bytes i (suc n) ≡ least_offset text bytes (i + 1) n
+  unfolding least_offset
   miss i n h = cond-false _ _ _ h
 
-  empty : (i : ℕ) → least_place text bytes i 0 ≡ None
-  unfolding least_place
+  empty : (i : ℕ) → least_offset text bytes i 0 ≡ None
+  unfolding least_offset
   empty i = refl
 
-  -- a search that begins one place later, after a place where the bytes do not stand
+  -- a search that begins one offset later, after an offset where the bytes do not stand
   IsFirst-later : (i j : ℕ) → ¬ OccursAt text bytes i → (r : Option ℕ) → IsFirst (OccursAt text bytes) (i + 1) j r
       → IsFirst (OccursAt text bytes) i j r
   IsFirst-later i j gone None h = λ k low high occurs.
@@ -41,26 +41,26 @@ module _ (text bytes : List ℕ) where
     h.1,
   )
 
-  -- the least place is the first at which the bytes stand
-  least_place-first : (n i : ℕ) → IsFirst (OccursAt text bytes) i (i + n) (least_place text bytes i n)
-  least_place-first zero i = rw (empty i) (λ k low high occurs. absurd (omega arith))
-  least_place-first (suc n) i = ⊎_elim
+  -- the least offset is the first at which the bytes stand
+  least_offset-first : (n i : ℕ) → IsFirst (OccursAt text bytes) i (i + n) (least_offset text bytes i n)
+  least_offset-first zero i = rw (empty i) (λ k low high occurs. absurd (omega arith))
+  least_offset-first (suc n) i = ⊎_elim
       (λ yes. rw (hit i n yes)
       (record { low = omega arith; high = omega arith; before = λ m low below occurs. absurd (omega arith) }, OccursAt-true text bytes i yes))
       (λ no.
       let step : i + 1 + n ≡ i + suc n = omega arith in
       rw (miss i n no) (IsFirst-later i (i + suc n) (λ occurs. absurd (false≢true (sym no ∙ occurs_at-true text bytes i occurs))) _
-      (subst (λ j. IsFirst (OccursAt text bytes) (i + 1) j (least_place text bytes (i + 1) n)) step (least_place-first n (i + 1)))))
+      (subst (λ j. IsFirst (OccursAt text bytes) (i + 1) j (least_offset text bytes (i + 1) n)) step (least_offset-first n (i + 1)))))
       (cases_Bool (occurs_at text bytes i))
 
-  pub first_place-FindsNeedle : (i : ℕ) → FindsNeedle text bytes i (first_place text bytes i)
-  first_place-FindsNeedle i = ⊎_elim
+  pub first_offset-FindsNeedle : (i : ℕ) → FindsNeedle text bytes i (first_offset text bytes i)
+  first_offset-FindsNeedle i = ⊎_elim
       (λ past.
       let none : length text + 1 - i ≡ 0 = omega arith in
       rw none (rw (empty i) (λ k low high occurs. absurd (omega arith))))
       (λ within.
       let end : i + (length text + 1 - i) ≡ length text + 1 = omega arith in
-      subst (λ j. IsFirst (OccursAt text bytes) i j (first_place text bytes i)) end (least_place-first (length text + 1 - i) i))
+      subst (λ j. IsFirst (OccursAt text bytes) i j (first_offset text bytes i)) end (least_offset-first (length text + 1 - i) i))
       (cases_lt (length text) i)
 
   -- no two answers are first
@@ -73,16 +73,16 @@ module _ (text bytes : List ℕ) where
       (λ from. ⊎_elim (λ above. absurd (p.0.before l q.0.low above q.1)) (λ to. let same : k ≡ l = omega arith in ap Some same) (cases_lt l k))
       (cases_lt k l)
 
-  pub first_place-value : (i : ℕ) (r : Option ℕ) → FindsNeedle text bytes i r → r ≡ first_place text bytes i
-  first_place-value i r h = FindsNeedle-same i r _ h (first_place-FindsNeedle i)
+  pub first_offset-value : (i : ℕ) (r : Option ℕ) → FindsNeedle text bytes i r → r ≡ first_offset text bytes i
+  first_offset-value i r h = FindsNeedle-same i r _ h (first_offset-FindsNeedle i)
 
   -- past the end
-  pub first_place-past : (i : ℕ) → length text < i → first_place text bytes i ≡ None
-  first_place-past i past =
+  pub first_offset-past : (i : ℕ) → length text < i → first_offset text bytes i ≡ None
+  first_offset-past i past =
       let none : length text + 1 - i ≡ 0 = omega arith in
       rw none (empty i)
 
-  -- a place in the text from i on, counted from i or from 0
+  -- an offset in the text from i on, counted from i or from 0
   OccursAt-shift : (i k : ℕ) → i ≤ length text → OccursAt (drop i text) bytes k → OccursAt text bytes (i + k)
   OccursAt-shift i k in_text h = record {
     fits = omega (arith, h.fits, length-drop i text);
@@ -103,9 +103,9 @@ module _ (text bytes : List ℕ) where
 
   -- a search in the rest of the text from i on
   FindsNeedle-rest : (i : ℕ) → i ≤ length text → (r : Option ℕ) → FindsNeedle (drop i text) bytes 0 r
-      → option_map (λ k. i + k) r ≡ first_place text bytes i
-  FindsNeedle-rest i in_text None h = first_place-value i None (none_from i in_text h)
-  FindsNeedle-rest i in_text (Some k) h = first_place-value i (Some (i + k)) (
+      → option_map (λ k. i + k) r ≡ first_offset text bytes i
+  FindsNeedle-rest i in_text None h = first_offset-value i None (none_from i in_text h)
+  FindsNeedle-rest i in_text (Some k) h = first_offset-value i (Some (i + k)) (
     record {
       low = omega arith;
       high = omega (arith, h.1.fits, length-drop i text);
@@ -118,7 +118,7 @@ module _ (text bytes : List ℕ) where
 
   pub FindsNeedle-slice : (i : ℕ) → i ≤ length text → (r : Option ℕ)
       → FindsNeedle (take (length text - i) (drop i text)) bytes 0 r
-      → option_map (λ k. i + k) r ≡ first_place text bytes i
+      → option_map (λ k. i + k) r ≡ first_offset text bytes i
   FindsNeedle-slice i in_text r h =
       FindsNeedle-rest i in_text r (subst (λ l. FindsNeedle l bytes 0 r) (take_rest text i) h)
 

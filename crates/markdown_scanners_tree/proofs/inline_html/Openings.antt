@@ -1,4 +1,4 @@
--- What begins at a place, by the bytes that are looked at.
+-- What begins at an offset, by the bytes that are looked at.
 use Rattle.std.proofs.Common.{◌≡◌, ℕ, zero, suc, ◌+◌, ◌≤◌, ◌<◌, true, false, List, [], ◌∷◌, length, get_or, sym, ap, subst, ◌∙◌, arith, ⊎_elim, inl, inr, ◌⊎◌, Option, Some, None, add-zero, refl}
 use Rattle.std.specs.Prelude.{slice_get, codes, ◌≢◌, unwrap_or, if◌then◌else◌}
 use Rattle.std.proofs.lemmas.Bool.{cases_eq, false≢true, false_from_ne_true}
@@ -9,7 +9,7 @@ use Rattle.markdown_scanners_tree.specs.Ascii.{hyphen, left_bracket}
 use Rattle.markdown_scanners_tree.specs.Bytes.{is_letter}
 use Rattle.markdown_scanners_tree.specs.inline_html.InlineHtml.{Comment, Cdata, Declaration, Begins, Hyphen, Bracket, Nothing, declared_at}
 
--- bytes stand at a place where the first stands there and the others after it
+-- bytes stand at an offset where the first stands there and the others after it
 module _ (text : List ℕ) (b : ℕ) (bytes : List ℕ) (p : ℕ) where
   tail-OccursAt : OccursAt text (b ∷ bytes) p → OccursAt text bytes (p + 1)
   tail-OccursAt h = record {
@@ -71,7 +71,7 @@ module _ (text : List ℕ) (p : ℕ) where
   declared_at-hyphen first second =
       rw (stands-not-tail text hyphen (hyphen ∷ []) p (stands-not-head text hyphen [] (p + 1) second), stands-one text hyphen p first)
 
-  -- no hyphen stands at the place
+  -- no hyphen stands at the offset
   no-hyphens : (c : ℕ) → slice_get text p ≡ Some c → c ≢ hyphen
       → (occurs_at text (hyphen ∷ hyphen ∷ []) p ≡ false) × (occurs_at text (hyphen ∷ []) p ≡ false)
   no-hyphens c first other =

@@ -3,12 +3,12 @@ use Rattle.std.proofs.Common.{◌≡◌, ℕ, List, [], ◌∷◌, Option, Some,
 use Rattle.std.specs.Prelude.{codes}
 use Rattle.markdown_scanners_tree.specs.declared.inline_html.HtmlStop.{HtmlStop}
 use Rattle.markdown_scanners_tree.specs.declared.inline_html.HtmlStop.TheVariants.{NoOpener, NotRising, InsideFind}
-use Rattle.markdown_scanners_tree.specs.inline_html.InlineHtml.{find_at, declared_at, opening_at, least_place, cost}
-use Rattle.markdown_scanners_tree.specs.inline_html.run.Run.{new_run, run_answers, run_passed, run_stop, run_step, place_refusal}
+use Rattle.markdown_scanners_tree.specs.inline_html.InlineHtml.{find_at, declared_at, opening_at, least_offset, cost}
+use Rattle.markdown_scanners_tree.specs.inline_html.run.Run.{new_run, run_answers, run_passed, run_stop, run_step, offset_refusal}
 
 -- one name to unfold
 unfoldable computing : Unit {0}
-unfolding declared_at opening_at least_place cost
+unfolding declared_at opening_at least_offset cost
 computing = tt
 
 bracketed_cdata : find_at (codes "<![CDATA[a]>b]]>") 2 ≡ Some 16
@@ -33,8 +33,8 @@ instruction = refl
 
 -- answers, bytes passed over and stop of a run
 abbrev Row : List ℕ → List ℕ → List (Option ℕ) → ℕ → Option (ℕ × HtmlStop) → Type 0
-Row text places answers passed stop =
-    (run_answers (new_run text) places ≡ answers) × (run_passed (new_run text) places ≡ passed) × (run_stop (new_run text) 0 places ≡ stop)
+Row text offsets answers passed stop =
+    (run_answers (new_run text) offsets ≡ answers) × (run_passed (new_run text) offsets ≡ passed) × (run_stop (new_run text) 0 offsets ≡ stop)
 
 mixed : Row (codes "<!-- <!x> <!-- <![CDATA[ ]]>") (2 ∷ 7 ∷ 12 ∷ 17 ∷ []) (None ∷ Some 9 ∷ None ∷ Some 28 ∷ []) 42 None
 unfolding computing
@@ -81,11 +81,11 @@ unfolding computing
 hyphen_then_comment = (refl, refl, refl)
 
 -- refusals
-refused : (place_refusal (new_run (codes "<!a<!>x")) 0 ≡ Some NoOpener)
-    × (place_refusal (new_run (codes "<!a<!>x")) 1 ≡ Some NoOpener)
-    × (place_refusal (new_run (codes "<!a<!>x")) 8 ≡ Some NoOpener)
-    × (place_refusal (run_step (new_run (codes "<!a<!>x")) 2) 2 ≡ Some NotRising)
-    × (place_refusal (run_step (new_run (codes "<!a<!>x")) 2) 5 ≡ Some InsideFind)
+refused : (offset_refusal (new_run (codes "<!a<!>x")) 0 ≡ Some NoOpener)
+    × (offset_refusal (new_run (codes "<!a<!>x")) 1 ≡ Some NoOpener)
+    × (offset_refusal (new_run (codes "<!a<!>x")) 8 ≡ Some NoOpener)
+    × (offset_refusal (run_step (new_run (codes "<!a<!>x")) 2) 2 ≡ Some NotRising)
+    × (offset_refusal (run_step (new_run (codes "<!a<!>x")) 2) 5 ≡ Some InsideFind)
     × ((run_step (new_run (codes "<!a<!>x")) 2).passed ≡ 4) × ((run_step (new_run (codes "<!a<!>x")) 2).steps ≡ 1)
 unfolding computing
 refused = (refl, refl, refl, refl, refl, refl, refl)

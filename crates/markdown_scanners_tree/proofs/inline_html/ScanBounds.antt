@@ -5,14 +5,14 @@ use Rattle.markdown_scanners_tree.specs.declared.inline_html.HtmlScanGuard.{Html
 use Rattle.markdown_scanners_tree.specs.inline_html.Guard.{is_stopped, guarded_answer}
 use Rattle.markdown_scanners_tree.specs.inline_html.InlineHtml.{Kind, Comment, Cdata, Declaration, Processing, Opening, Begins, Hyphen, Bracket, Nothing}
 use Rattle.markdown_scanners_tree.specs.inline_html.InlineHtml.{closer, lead, first_closer, closed_at, end_of, span, searched, looked_at, cost}
-use Rattle.markdown_scanners_tree.proofs.inline_html.Scans.{first_place-bounds}
+use Rattle.markdown_scanners_tree.proofs.inline_html.Scans.{first_offset-bounds}
 
--- a find lies between its place and the end of the text
+-- a find lies between its offset and the end of the text
 closed_at-bounds : (text : List ℕ) (kind : Kind) (p : ℕ) (hit : Option ℕ) → first_closer text kind p ≡ hit
     → IfSome (closed_at text kind p) (λ end. (p ≤ end) × (end ≤ length text))
 closed_at-bounds text kind p None e = rw e tt
 closed_at-bounds text kind p (Some hit) e =
-    let within = first_place-bounds text (closer kind) (p + lead kind) hit e in rw e (omega arith, within.1)
+    let within = first_offset-bounds text (closer kind) (p + lead kind) hit e in rw e (omega arith, within.1)
 
 pub end_of-bounds : (text : List ℕ) (opening : Opening) (p : ℕ)
     → IfSome (end_of text opening p) (λ end. (p ≤ end) × (end ≤ length text))

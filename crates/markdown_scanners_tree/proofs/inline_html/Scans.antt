@@ -5,11 +5,11 @@ use Rattle.memchr.specs.Find.{FindsNeedle}
 use Rattle.markdown_scanners_tree.specs.declared.inline_html.HtmlScanGuard.{HtmlScanGuard}
 use Rattle.markdown_scanners_tree.specs.inline_html.CountedText.{CountedBytes, passing, searched_bytes}
 use Rattle.markdown_scanners_tree.specs.inline_html.InlineHtml.{Kind, Comment, Cdata, Declaration, Processing, Opening, Begins, Hyphen, Bracket, Nothing}
-use Rattle.markdown_scanners_tree.specs.inline_html.InlineHtml.{closer, lead, first_place, first_closer, closed_at, span, looked_at, searched, cost}
+use Rattle.markdown_scanners_tree.specs.inline_html.InlineHtml.{closer, lead, first_offset, first_closer, closed_at, span, looked_at, searched, cost}
 use Rattle.markdown_scanners_tree.specs.inline_html.Guard.{is_stopped, searched_guard, guarded_answer, guard_after}
-use Rattle.markdown_scanners_tree.proofs.inline_html.LeastPlaces.{first_place-FindsNeedle}
+use Rattle.markdown_scanners_tree.proofs.inline_html.LeastPlaces.{first_offset-FindsNeedle}
 
--- what a scan of an opening at a place answers, leaves as the guard, and counts
+-- what a scan of an opening at an offset answers, leaves as the guard, and counts
 pub record IsScan (text : List ℕ) (guard : HtmlScanGuard) (opening : Opening) (p : ℕ) (answer : Option ℕ) (after : HtmlScanGuard) (count : ℕ) : Type 0 where
   pub answers : answer ≡ guarded_answer text guard opening p
   pub guards : after ≡ guard_after text guard opening p
@@ -47,10 +47,10 @@ cost-same text stopped other Bracket p same = refl
 cost-same text stopped other Nothing p same = refl
 
 -- a search hits at its start or later, and the hit ends in the text
-pub first_place-bounds : (text bytes : List ℕ) (i hit : ℕ) → first_place text bytes i ≡ Some hit
+pub first_offset-bounds : (text bytes : List ℕ) (i hit : ℕ) → first_offset text bytes i ≡ Some hit
     → (i ≤ hit) × (hit + length bytes ≤ length text)
-first_place-bounds text bytes i hit found =
-    let first = subst (FindsNeedle text bytes i) found (first_place-FindsNeedle text bytes i) in
+first_offset-bounds text bytes i hit found =
+    let first = subst (FindsNeedle text bytes i) found (first_offset-FindsNeedle text bytes i) in
     (first.0.low, first.1.fits)
 
 -- one count after another
@@ -82,7 +82,7 @@ module _ (text : List ℕ) (p : ℕ) where
       ≡ lead kind + searched_bytes text (closer kind) (p + lead kind) found
   span-is kind None e in_text = rw (sym e) (omega arith)
   span-is kind (Some hit) e in_text =
-      let within = first_place-bounds text (closer kind) (p + lead kind) hit (sym e) in
+      let within = first_offset-bounds text (closer kind) (p + lead kind) hit (sym e) in
       rw (sym e) (omega arith)
 
   searched-is : (kind : Kind) (found : Option ℕ) → found ≡ first_closer text kind p → p + lead kind ≤ length text
@@ -94,8 +94,8 @@ module _ (text : List ℕ) (p : ℕ) where
 
 -- a search after an earlier count
 module _ (t u : CountedBytes) (before : ℕ) (counted : u ≡ passing t before) (bytes : List ℕ) (i : ℕ) where
-  found-after : (r : Option ℕ) → r ≡ first_place u.text bytes i → first_place t.text bytes i ≡ r
-  found-after r found = sym (found ∙ ap (λ v. first_place v.text bytes i) counted)
+  found-after : (r : Option ℕ) → r ≡ first_offset u.text bytes i → first_offset t.text bytes i ≡ r
+  found-after r found = sym (found ∙ ap (λ v. first_offset v.text bytes i) counted)
 
   counts-after : (v : CountedBytes) (r : Option ℕ) → v ≡ passing u (searched_bytes u.text bytes i r)
       → v ≡ passing t (before + searched_bytes t.text bytes i r)
@@ -106,7 +106,7 @@ module _ (t u : CountedBytes) (before : ℕ) (counted : u ≡ passing t before) 
 -- A scan that its guard does not stop: it looks at some bytes and searches after them.
 module _ (t u v : CountedBytes) (guard : HtmlScanGuard) (p before : ℕ) (kind : Kind) (found : Option ℕ)
     (free : is_stopped guard p kind ≡ false) (counted : u ≡ passing t before)
-    (answer : found ≡ first_place u.text (closer kind) (p + lead kind))
+    (answer : found ≡ first_offset u.text (closer kind) (p + lead kind))
     (counts : v ≡ passing u (searched_bytes u.text (closer kind) (p + lead kind) found))
     (in_text : p + lead kind ≤ length t.text) where
   closes : found ≡ first_closer t.text kind p

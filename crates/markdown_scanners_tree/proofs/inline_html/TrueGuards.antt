@@ -1,4 +1,4 @@
--- A guard that is true at a place stays true, and a scan under it answers the find.
+-- A guard that is true at an offset stays true, and a scan under it answers the find.
 use Rattle.std.proofs.Common.{◌≡◌, ℕ, zero, suc, ◌+◌, ◌-◌, ◌≤◌, ◌<◌, Bool, true, false, List, [], ◌∷◌, length, get_or, refl}
 use Rattle.std.proofs.Common.{sym, ap, subst, ◌∙◌, arith, ⊎_elim, Option, Some, None, cond, add-zero, ◌⊎◌, inl, inr}
 use Rattle.std.specs.Prelude.{◌≢◌, codes, IfSome, slice_index, not, ◌==◌, nat_le}
@@ -15,9 +15,9 @@ use Rattle.markdown_scanners_tree.specs.inline_html.CountedText.{CountedBytes, p
 use Rattle.markdown_scanners_tree.specs.inline_html.InlineHtml.{Kind, Comment, Cdata, Declaration, Processing, Opening, Begins, Hyphen, Bracket, Nothing, closer}
 use Rattle.markdown_scanners_tree.specs.inline_html.InlineHtml.{lead, first_closer, closed_at, end_of, declared_at, opening_at, ends_opener, opener_before}
 use Rattle.markdown_scanners_tree.specs.inline_html.Guard.{is_stopped, with_number, searched_guard, guarded_answer, guard_after, answer_of_scan, guard_after_scan, IsTrueGuard, IsTrueScan}
-use Rattle.markdown_scanners_tree.proofs.inline_html.LeastPlaces.{first_place-FindsNeedle, first_place-value}
+use Rattle.markdown_scanners_tree.proofs.inline_html.LeastPlaces.{first_offset-FindsNeedle, first_offset-value}
 
--- ---- what begins at a place holds no closer
+-- ---- what begins at an offset holds no closer
 
 -- no closer of the kind begins among the bytes that belong to the beginning of a piece
 abbrev HasFreeLead : List ℕ → ℕ → Opening → Type 0
@@ -91,7 +91,7 @@ Nowhere-later : {P : ℕ → Type 0} {i j l : ℕ} → i ≤ j → Nowhere P i l
 Nowhere-later {P} {i} {j} {l} le h k low high = h k (omega arith) high
 
 module _ (text : List ℕ) (guard : HtmlScanGuard) where
-  -- a guard that is true at a place is true at each later one
+  -- a guard that is true at an offset is true at each later one
   pub IsTrueGuard-later : (p q : ℕ) → p ≤ q → IsTrueGuard text guard p → IsTrueGuard text guard q
   IsTrueGuard-later p q le is kind s = Nowhere-later le (is kind (earlier-stop guard p q le kind s))
 
@@ -114,7 +114,7 @@ module _ (text : List ℕ) (guard : HtmlScanGuard) where
   with_number-true q number is Processing none Declaration s = is Declaration s
   with_number-true q number is Processing none Processing s = none
 
-  -- after a hit only the comments' number changes, to a place below the find
+  -- after a hit only the comments' number changes, to an offset below the find
   hit-true : (q hit : ℕ) → IsTrueGuard text guard q → (kind : Kind) → hit + length (closer kind) ≤ q
       → IsTrueGuard text (searched_guard text guard kind (Some hit)) q
   hit-true q hit is Comment above Comment s = let below = ltb-true _ _ s in absurd (omega arith)
@@ -132,7 +132,7 @@ module _ (text : List ℕ) (guard : HtmlScanGuard) where
     answers-kind kind false e = refl
     answers-kind kind true e =
         let none =
-        first_place-value text (closer kind) (p + lead kind) None (Nowhere-later (omega arith) (is kind e)) in
+        first_offset-value text (closer kind) (p + lead kind) None (Nowhere-later (omega arith) (is kind e)) in
         rw (← none)
 
     kind-stays_true : (kind : Kind) → HasFreeLead text p (Begins kind) → (stopped : Bool) → (found : Option ℕ)
@@ -142,7 +142,7 @@ module _ (text : List ℕ) (guard : HtmlScanGuard) where
     kind-stays_true kind free true found e q later outside = IsTrueGuard-later p q (omega arith) is
     kind-stays_true kind free false None e q later outside =
         let gone =
-        subst (FindsNeedle text (closer kind) (p + lead kind)) e (first_place-FindsNeedle text (closer kind) (p + lead kind)) in
+        subst (FindsNeedle text (closer kind) (p + lead kind)) e (first_offset-FindsNeedle text (closer kind) (p + lead kind)) in
         with_number-true q (length text) (IsTrueGuard-later p q (omega arith) is) kind (Nowhere-later (omega arith) (Nowhere-then free gone))
     kind-stays_true kind free false (Some hit) e q later outside =
         hit-true q hit (IsTrueGuard-later p q (omega arith) is) kind (rw e at outside)
@@ -161,7 +161,7 @@ module _ (text : List ℕ) (guard : HtmlScanGuard) where
     true_after Bracket free q later outside = IsTrueGuard-later p q (omega arith) is
     true_after Nothing free q later outside = IsTrueGuard-later p q (omega arith) is
 
--- ---- what begins at a place, by the mark of its opener
+-- ---- what begins at an offset, by the mark of its opener
 
 pub opening_at-declared : (text : List ℕ) (p : ℕ) → ends_opener exclamation_mark text p ≡ true
     → opening_at text p ≡ declared_at text p
@@ -184,7 +184,7 @@ pub opening_at-processing : (text : List ℕ) (p : ℕ) → ends_opener question
 unfolding opening_at
 opening_at-processing text p e = rw (one-mark text p e, e)
 
--- a scan of what begins at a place just after an opener, by its answer and guard
+-- a scan of what begins at an offset just after an opener, by its answer and guard
 true-scan : (text : List ℕ) (guard : HtmlScanGuard) (opening : Opening) (p : ℕ) (answer : Option ℕ) (after : HtmlScanGuard)
     → answer ≡ guarded_answer text guard opening p → after ≡ guard_after text guard opening p → opening_at text p ≡ opening → HasFreeLead text p opening
     → IsTrueGuard text guard p → IsTrueScan text p answer after
@@ -234,7 +234,7 @@ some-mark true question mark e = inl (refl, same_Some mark exclamation_mark (sym
 some-mark false true mark e = inr (refl, same_Some mark question_mark (sym e))
 some-mark false false mark e = absurd (none-some mark e)
 
--- the mark tells which opener ends at the place
+-- the mark tells which opener ends at the offset
 pub opener-mark : (text : List ℕ) (p mark : ℕ) → opener_before text p ≡ Some mark
     → ((ends_opener exclamation_mark text p ≡ true) × (mark ≡ exclamation_mark)) ⊎ ((ends_opener question_mark text p ≡ true) × (mark ≡ question_mark))
 opener-mark text p mark e = some-mark _ _ mark e
@@ -253,7 +253,7 @@ some-there : (opener : Option ℕ) → opener ≢ None → (mark : ℕ) × (open
 some-there None there = absurd (there refl)
 some-there (Some mark) there = (mark, refl)
 
--- an opener that ends at a place has a mark
+-- an opener that ends at an offset has a mark
 pub opener-there : (text : List ℕ) (p : ℕ) → opener_before text p ≢ None → (mark : ℕ) × (opener_before text p ≡ Some mark)
 opener-there text p there = some-there (opener_before text p) there
 

@@ -185,12 +185,12 @@ plain_step-within (ItemCall indent) r = item-within indent r
 plain_step-within (DefinitionCall indent) r = definition-within indent r
 
 -- so it does not on a state
-pub step-fits : (call : LineCall) (line : List ℕ) (place p c : ℕ) →
-    c + (plain_step call (rest_of (state_of line place p c))).taken ≤ p + head_end c (drop place line)
-step-fits call line place p c =
-    let back = drop place line in
-    let within = plain_step-within call (rest_of (state_of line place p c)) in
-    let head : head_len (rest_of (state_of line place p c)) ≡ p + head_len (written_out c back) =
+pub step-fits : (call : LineCall) (line : List ℕ) (offset p c : ℕ) →
+    c + (plain_step call (rest_of (state_of line offset p c))).taken ≤ p + head_end c (drop offset line)
+step-fits call line offset p c =
+    let back = drop offset line in
+    let within = plain_step-within call (rest_of (state_of line offset p c)) in
+    let head : head_len (rest_of (state_of line offset p c)) ≡ p + head_len (written_out c back) =
     head_len-spaces p (written_out (c % 4) back) ∙ ap (λ w. p + head_len w) (written_out-phase back c) in
     let end = head_len-end back c in
     omega arith

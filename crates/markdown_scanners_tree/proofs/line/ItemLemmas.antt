@@ -157,14 +157,14 @@ item_allowed p indent h =
     (λ yes. grind (arith, nat_tests))
     (λ no. let e = rw no at h in cc)
 
--- where no space follows, the place is as it was
+-- where no space follows, the offset is as it was
 pub none_after : (s : LineState) → leading_spaces (rest_of s) ≡ 0 → unscanned (after_space 1 s) ≡ unscanned s
 none_after s none =
     let no_column : space_within 1 s ≡ 0 = omega arith in
     let no_byte : bytes_below s.phase (unscanned s) (s.phase + 0 - s.pending) ≡ 0 =
     none_below (unscanned s) s.phase (s.phase + 0 - s.pending) (omega arith) in
-    let place : s.place + 0 ≡ s.place = omega arith in
-    ap (λ t. unscanned (columns_further t s)) no_column ∙ rw (no_byte, place) refl
+    let offset : s.offset + 0 ≡ s.offset = omega arith in
+    ap (λ t. unscanned (columns_further t s)) no_column ∙ rw (no_byte, offset) refl
 
 pub follows-end : (s : LineState) (r : Bool) → (space_within 1 s ≡ 1 → ⊥)
     → r ≡ is_at_line_end (unscanned (after_space 1 s)) → r ≡ space_or_end_follows s

@@ -86,16 +86,16 @@ marker-only : (line : List ℕ) (m : Marker) → list_marker line ≡ Some m
 marker-only line m found = marker-by line m (bullet_marker line) refl found
 
 -- an item after a marker that was found
-item_behind : (line : List ℕ) (m : Marker) → list_marker line ≡ Some m → is_item_rest (drop m.width line) ≡ true
+item_after : (line : List ℕ) (m : Marker) → list_marker line ≡ Some m → is_item_rest (drop m.width line) ≡ true
     → HasItem line m.delimiter m.start
-item_behind line m found is =
-    let (place, space, is_space) = item_space-found (drop m.width line) is in (
-      length (take m.width line) + place,
+item_after line m found is =
+    let (offset, space, is_space) = item_space-found (drop m.width line) is in (
+      length (take m.width line) + offset,
       length (take m.width line) + space,
       record {
         marker = take m.width line;
         rest = drop m.width line;
-        place = place;
+        offset = offset;
         space = space;
         parts = sym (take-append-drop m.width line);
         is_marker = marker-only line m found;
@@ -112,8 +112,8 @@ follows line m = marker_rest-written ((0 + m.width) % 4) (drop (0 + m.width) lin
     ∙ ap (λ k. is_marker_rest (drop k line)) (zero-add m.width)
 
 -- the state after the marker and its one column of space
-abbrev pub behind_marker : List ℕ → ℕ → LineState
-behind_marker line width = after_space 1 (bytes_further width (start_of line))
+abbrev pub after_marker : List ℕ → ℕ → LineState
+after_marker line width = after_space 1 (bytes_further width (start_of line))
 
 at_start : (line : List ℕ) → item_at_start line ≡ (item_outcome 0 (start_of line)).answer
 unfolding item_at_start
@@ -121,11 +121,11 @@ at_start line = refl
 
 pub answer-is : (line : List ℕ) (m : Marker) → list_marker line ≡ Some m → is_marker_rest (drop m.width line) ≡ true
     → item_at_start line
-    ≡ Some (m.delimiter, m.start, 0 + m.width + 1 + further_spaces (behind_marker line m.width))
+    ≡ Some (m.delimiter, m.start, 0 + m.width + 1 + further_spaces (after_marker line m.width))
 answer-is line m found is =
     at_start line
     ∙ ap (λ (o : Outcome (ℕ × ℕ × ℕ)). o.answer)
-    (item-found 0 (further_spaces (behind_marker line m.width)) (start_of line) m found (follows line m ∙ is) refl)
+    (item-found 0 (further_spaces (after_marker line m.width)) (start_of line) m found (follows line m ∙ is) refl)
 
 pub answer-bare : (line : List ℕ) (m : Marker) → list_marker line ≡ Some m → is_marker_rest (drop m.width line) ≡ false
     → item_at_start line ≡ None
@@ -156,7 +156,7 @@ marker_is_item-by line delimiter start content (Some m) found answer =
     bool_cases (is_marker_rest (drop m.width line))
     (λ yes.
     let same = sym (answer-is line m found yes) ∙ answer in
-    let item = item_behind line m found (marker_rest-item (drop m.width line) yes) in
+    let item = item_after line m found (marker_rest-item (drop m.width line) yes) in
     subst (λ d. HasItem line d start) (ap delimiter_of same)
     (subst (λ n. HasItem line m.delimiter n) (ap start_number_of same) item))
     (λ no. absurd (let none = answer-bare line m found no in cc))
@@ -247,7 +247,7 @@ item-follows : (line : List ℕ) (n delimiter start indent : ℕ) → is_item_al
 unfolding is_item_alone
 item-follows line n delimiter start indent alone item =
     let both = or_false (is_break_like_item line) (is_before_vertical line (list_marker line)) alone in
-    let spaced = item_space-only item.rest item.place item.space item.is_space in
+    let spaced = item_space-only item.rest item.offset item.space item.is_space in
     let no_break : is_thematic_break line ≡ false =
     bool_cases (is_thematic_break line)
     (λ yes.
@@ -263,7 +263,7 @@ item-follows line n delimiter start indent alone item =
     let fine : is_blank_from_vertical item.rest ≡ false =
     ap is_blank_from_vertical (sym rest) ∙ ap (is_before_vertical line) (sym found) ∙ both.1 in
     let follows_it = ap is_marker_rest rest ∙ item_rest-marker item.rest spaced fine in
-    (0 + m.width + 1 + further_spaces (behind_marker line m.width), answer-is line m found follows_it)
+    (0 + m.width + 1 + further_spaces (after_marker line m.width), answer-is line m found follows_it)
 
 pub item_is_marker : (line : List ℕ) (delimiter start : ℕ) → is_item_alone line ≡ false → HasItem line delimiter start
     → HasMarker line delimiter start
@@ -281,7 +281,7 @@ alone-vertical line (Some m) found vertical =
     let rest = drop m.width line in
     let both = both_true (begins_with (is_between 11 12) rest) (is_blank rest) vertical in
     let white : is_item_rest rest ≡ true = (let is = both.1 in rw is refl) in (
-      (m.delimiter, m.start, item_behind line m found white),
+      (m.delimiter, m.start, item_after line m found white),
       answer-bare line m found (vertical_no_marker rest both.0),
     )
 
@@ -290,11 +290,11 @@ alone-break [] like = cc
 alone-break (b ∷ bs) like =
     let three = split_three (is_thematic_break (b ∷ bs)) (is_bullet b) (begins_with is_space_or_tab bs) like in
     let follows : is_item_rest bs ≡ true = (let spaced = three.2 in rw spaced (or_true (is_blank bs))) in
-    let (place, space, is_space) = item_space-found bs follows in
-    let item : IsListItem (b ∷ bs) (1 + place) b 0 (1 + space) = record {
+    let (offset, space, is_space) = item_space-found bs follows in
+    let item : IsListItem (b ∷ bs) (1 + offset) b 0 (1 + space) = record {
       marker = b ∷ [];
       rest = bs;
-      place = place;
+      offset = offset;
       space = space;
       parts = refl;
       is_marker = bullet b three.1;
@@ -302,7 +302,7 @@ alone-break (b ∷ bs) like =
       counted = refl;
       columns_are = refl;
     } in
-    ((b, 0, (1 + place, 1 + space, item)), answer-none (b ∷ bs) (break-no_marker (b ∷ bs) three.0))
+    ((b, 0, (1 + offset, 1 + space, item)), answer-none (b ∷ bs) (break-no_marker (b ∷ bs) three.0))
 
 second_true : (a b : Bool) → a ≡ false → (a || b) ≡ true → b ≡ true
 second_true true b h k = cc

@@ -76,30 +76,30 @@ pub blank_space : (rest : List ℕ) → is_blank rest ≡ true → IsItemSpace r
 blank_space rest is = blank (line_length rest) (is_blank-only rest is)
 
 full_space : (rest : List ℕ) → is_blank rest ≡ false → begins_with is_space_or_tab rest ≡ true
-    → (place : ℕ) × (space : ℕ) × IsItemSpace rest place space
+    → (offset : ℕ) × (space : ℕ) × IsItemSpace rest offset space
 full_space rest full begins =
     let at = cut 5 rest 0 in
     let some : 0 < column_past 0 at.prefix =
     some_column at.prefix at.rest (ap (begins_with is_space_or_tab) (sym at.parts) ∙ begins) at.stopped in
-    let place = (if begins_with (λ b. true) at.rest then length at.prefix else length at.prefix - 1) in
+    let offset = (if begins_with (λ b. true) at.rest then length at.prefix else length at.prefix - 1) in
     let space = column_past 0 at.prefix + (if begins_with (λ b. b == 32) at.rest then 1 else 0) in
-    let indent : IsIndent rest 5 place space = record {
+    let indent : IsIndent rest 5 offset space = record {
       prefix = at.prefix;
       rest = at.rest;
       parts = at.parts;
       passed = at.passed;
       stopped = at.stopped;
-      last_place = refl;
+      last_offset = refl;
       counted = refl;
     } in
     let none : (n : ℕ) → ¬ IsBlankLine rest n = λ n line. (let is = is_blank-found rest (n, line) in cc) in
     elim (cases_lt 4 space) [
-      | inl deep ↦ (1, 1, indented_code place space none indent deep)
-      | inr few ↦ (place, space, text place space none indent (omega (arith, some)) few)
+      | inl deep ↦ (1, 1, indented_code offset space none indent deep)
+      | inr few ↦ (offset, space, text offset space none indent (omega (arith, some)) few)
     ]
 
 pub item_space-found : (rest : List ℕ) → is_item_rest rest ≡ true
-    → (place : ℕ) × (space : ℕ) × IsItemSpace rest place space
+    → (offset : ℕ) × (space : ℕ) × IsItemSpace rest offset space
 item_space-found rest is =
     bool_cases (is_blank rest)
     (λ yes. (0, 1, blank_space rest yes))
@@ -119,9 +119,9 @@ spaced (b ∷ prefix) rest passed some =
     bool_cases (b == 9) (λ tab. rw (no, tab) refl)
     (λ other. absurd (let stops : goes_on 5 0 b ≡ false = rw (no, other) refl in cc)))
 
-indent-begins : (rest : List ℕ) (place space : ℕ) → IsIndent rest 5 place space → 0 < space
+indent-begins : (rest : List ℕ) (offset space : ℕ) → IsIndent rest 5 offset space → 0 < space
     → begins_with is_space_or_tab rest ≡ true
-indent-begins rest place space indent some =
+indent-begins rest offset space indent some =
     ap (begins_with is_space_or_tab) indent.parts
     ∙ spaced indent.prefix indent.rest indent.passed (omega (arith, indent.counted, some))
 
@@ -129,11 +129,11 @@ pub or_true : (b : Bool) → (b || true) ≡ true
 or_true true = refl
 or_true false = refl
 
-pub item_space-only : (rest : List ℕ) (place space : ℕ) → IsItemSpace rest place space → is_item_rest rest ≡ true
-item_space-only rest place space (blank n line) = rw (is_blank-found rest (n, line)) refl
-item_space-only rest place space (indented_code p s full indent deep) =
+pub item_space-only : (rest : List ℕ) (offset space : ℕ) → IsItemSpace rest offset space → is_item_rest rest ≡ true
+item_space-only rest offset space (blank n line) = rw (is_blank-found rest (n, line)) refl
+item_space-only rest offset space (indented_code p s full indent deep) =
     rw (indent-begins rest p s indent (omega (arith, deep))) (or_true (is_blank rest))
-item_space-only rest place space (text p s full indent some few) =
+item_space-only rest offset space (text p s full indent some few) =
     rw (indent-begins rest p s indent some) (or_true (is_blank rest))
 
 -- what a line start looks at after the marker: a column of space, or the end of the line

@@ -63,14 +63,14 @@ written_out-within (b ∷ bytes) c =
     let joined = length-append written (written_out next bytes) in
     rw (written-cons c b bytes goes) (omega (arith, later, joined, written_byte-length c b, after-within c b)))
 
--- What is left of a line has at most four bytes for each byte from the place on, beside those of the pending columns.
-pub rest_within : (s : LineState) → length (rest_of s) ≤ s.pending + 4 * (length s.bytes - s.place)
+-- What is left of a line has at most four bytes for each byte from the offset on, beside those of the pending columns.
+pub rest_within : (s : LineState) → length (rest_of s) ≤ s.pending + 4 * (length s.bytes - s.offset)
 rest_within s =
-    let left = drop s.place s.bytes in
+    let left = drop s.offset s.bytes in
     omega (
       arith,
       length-append (replicate s.pending space) (written_out s.phase left),
       length-replicate {A = ℕ} s.pending space,
-      length-drop s.place s.bytes,
+      length-drop s.offset s.bytes,
       written_out-within left s.phase,
     )

@@ -71,13 +71,13 @@ largest_number = refl
 tab_after_the_line : shown (120 ∷ 9 ∷ 10 ∷ 9 ∷ []) [] ≡ shows [] None (120 ∷ 32 ∷ 32 ∷ 32 ∷ 10 ∷ 9 ∷ []) 0
 tab_after_the_line = refl
 
--- three columns from a place at column 1 modulo four with one column pending, of which two are those of a tab
-from_inside_a_line : after_space 3 (record { bytes = 120 ∷ 32 ∷ 9 ∷ 120 ∷ []; place = 1; pending = 1; phase = 1 })
-    ≡ record { bytes = 120 ∷ 32 ∷ 9 ∷ 120 ∷ []; place = 3; pending = 1; phase = 0 }
+-- three columns from an offset at column 1 modulo four with one column pending, of which two are those of a tab
+from_inside_a_line : after_space 3 (record { bytes = 120 ∷ 32 ∷ 9 ∷ 120 ∷ []; offset = 1; pending = 1; phase = 1 })
+    ≡ record { bytes = 120 ∷ 32 ∷ 9 ∷ 120 ∷ []; offset = 3; pending = 1; phase = 0 }
 from_inside_a_line = refl
 
-all_space : after_all_space (record { bytes = 32 ∷ 9 ∷ 120 ∷ []; place = 0; pending = 0; phase = 0 })
-    ≡ record { bytes = 32 ∷ 9 ∷ 120 ∷ []; place = 2; pending = 0; phase = 2 }
+all_space : after_all_space (record { bytes = 32 ∷ 9 ∷ 120 ∷ []; offset = 0; pending = 0; phase = 0 })
+    ≡ record { bytes = 32 ∷ 9 ∷ 120 ∷ []; offset = 2; pending = 0; phase = 2 }
 all_space = refl
 
 three_markers : is_thematic_break (codes "* * *" ++ 10 ∷ 120 ∷ []) ≡ true

@@ -22,7 +22,7 @@ use Rattle.markdown_scanners_tree.proofs.line.WrittenLemmas.{line_end-written, b
 use Rattle.markdown_scanners_tree.proofs.line.SpaceLemmas.{state_of, further-column, written_out-phase}
 
 -- a state is made of its parts
-pub state_is : (s : LineState) → s.phase < 4 → state_of s.bytes s.place s.pending s.phase ≡ s
+pub state_is : (s : LineState) → s.phase < 4 → state_of s.bytes s.offset s.pending s.phase ≡ s
 state_is s small =
     let phase : s.phase % 4 ≡ s.phase = omega arith in
     rw phase refl
@@ -36,10 +36,10 @@ none_further : (s : LineState) → s.phase < 4 → columns_further 0 s ≡ s
 none_further s small =
     let count : bytes_below s.phase (unscanned s) (s.phase + 0 - s.pending) ≡ 0 =
     none_below (unscanned s) s.phase (s.phase + 0 - s.pending) (omega arith) in
-    let place : s.place + 0 ≡ s.place = omega arith in
+    let offset : s.offset + 0 ≡ s.offset = omega arith in
     let pending : s.pending + s.phase - (s.phase + 0) ≡ s.pending = omega arith in
     let phase : s.phase % 4 ≡ s.phase = omega arith in
-    rw (count, place, pending, phase) refl
+    rw (count, offset, pending, phase) refl
 
 pub eol_step : (s : LineState) (r : Bool) → s.phase < 4 → s.pending ≡ 0 → r ≡ is_at_line_end (unscanned s)
     → IsPlainStep Eol (Flag r) s s
@@ -58,20 +58,20 @@ upto_step n r old new answer state rest = record {
 }
 
 -- w bytes of one column each, and t columns after them
-plain_then : (bytes front : List ℕ) (place c w t : ℕ)
-    → Reach c (drop place bytes) front w (c + w) 0 (drop (place + w) bytes) →
-    columns_further (w + t) (state_of bytes place 0 c) ≡ columns_further t (state_of bytes (place + w) 0 (c + w))
-plain_then bytes front place c w t r =
-    let m' = bytes_below (c + w) (drop (place + w) bytes) (c + w + t - 0) in
+plain_then : (bytes front : List ℕ) (offset c w t : ℕ)
+    → Reach c (drop offset bytes) front w (c + w) 0 (drop (offset + w) bytes) →
+    columns_further (w + t) (state_of bytes offset 0 c) ≡ columns_further t (state_of bytes (offset + w) 0 (c + w))
+plain_then bytes front offset c w t r =
+    let m' = bytes_below (c + w) (drop (offset + w) bytes) (c + w + t - 0) in
     let sum : c + (w + t) - 0 ≡ c + w + t - 0 = omega arith in
-    let count : bytes_below c (drop place bytes) (c + (w + t) - 0) ≡ w + m' =
+    let count : bytes_below c (drop offset bytes) (c + (w + t) - 0) ≡ w + m' =
     rw sum (r.below (c + w + t - 0) (omega arith)) in
-    let past : column_past c (take (w + m') (drop place bytes))
-    ≡ column_past (c + w) (take m' (drop (place + w) bytes)) = r.past m' in
-    let place' : place + (w + m') ≡ place + w + m' = omega arith in
+    let past : column_past c (take (w + m') (drop offset bytes))
+    ≡ column_past (c + w) (take m' (drop (offset + w) bytes)) = r.past m' in
+    let offset' : offset + (w + m') ≡ offset + w + m' = omega arith in
     let sum' : c + (w + t) ≡ c + w + t = omega arith in
-    further-column bytes place 0 c (w + t)
-    ∙ rw (count, past, place', sum') (sym (further-column bytes (place + w) 0 (c + w) t))
+    further-column bytes offset 0 c (w + t)
+    ∙ rw (count, past, offset', sum') (sym (further-column bytes (offset + w) 0 (c + w) t))
 
 -- plain bytes are passed one column each
 reach_plain : (front back : List ℕ) {c₀ : ℕ} {bs₀ out : List ℕ} {passed c : ℕ} → list_all is_one_column front ≡ true
@@ -94,17 +94,17 @@ reach_plain (b ∷ front) back {c₀} {bs₀} {out} {passed} {c} all r =
     let e : c + 1 + length front ≡ c + length (b ∷ front) = omega arith in
     (more.0, rw (← p, ← e) more.1)
 
--- w plain bytes at the place of a state
+-- w plain bytes at the offset of a state
 module _ (s : LineState) (w : ℕ) (small : s.phase < 4) (none : s.pending ≡ 0) (inside : w ≤ length (unscanned s))
     (plain : list_all is_one_column (take w (unscanned s)) ≡ true) where
-  reach_bytes : (out : List ℕ) × Reach s.phase (unscanned s) out w (s.phase + w) 0 (drop (s.place + w) s.bytes)
+  reach_bytes : (out : List ℕ) × Reach s.phase (unscanned s) out w (s.phase + w) 0 (drop (s.offset + w) s.bytes)
   reach_bytes =
       let u = unscanned s in
       let c = s.phase in
       let parts : u ≡ take w u ++ drop w u = sym (take-append-drop w u) in
       let r = reach_plain (take w u) (drop w u) plain (subst (λ x. Reach c u [] 0 c 0 x) parts (reach_none c 0 u)) in
       let count : length (take w u) ≡ w = length-take-le w u inside in
-      let back : drop w u ≡ drop (s.place + w) s.bytes = drop-drop w s.place s.bytes in
+      let back : drop w u ≡ drop (s.offset + w) s.bytes = drop-drop w s.offset s.bytes in
       let counted = subst (λ n. Reach c u r.0 (0 + n) (c + n) 0 (drop w u)) count r.1 in
       let passed = subst (λ n. Reach c u r.0 n (c + w) 0 (drop w u)) (zero-add w) counted in
       (r.0, subst (λ x. Reach c u r.0 w (c + w) 0 x) back passed)
@@ -114,20 +114,20 @@ module _ (s : LineState) (w : ℕ) (small : s.phase < 4) (none : s.pending ≡ 0
   rest-bytes =
       let out = reach_bytes.0 in
       let r = reach_bytes.1 in
-      let back = written_out (s.phase + w) (drop (s.place + w) s.bytes) in
+      let back = written_out (s.phase + w) (drop (s.offset + w) s.bytes) in
       let wide : length out ≡ w = omega (arith, r.wide) in
       let left : drop w (out ++ back) ≡ back =
       ap (λ n. drop n (out ++ back)) (sym wide) ∙ drop-append_seam out back in
-      rest-none (bytes_further w s) none ∙ written_out-phase (drop (s.place + w) s.bytes) (s.phase + w)
+      rest-none (bytes_further w s) none ∙ written_out-phase (drop (s.offset + w) s.bytes) (s.phase + w)
       ∙ sym (ap (drop w) (rest-none s none ∙ r.written) ∙ left)
 
   -- t columns after them
   pub bytes_then : (t : ℕ) → columns_further (w + t) s ≡ columns_further t (bytes_further w s)
   bytes_then t =
-      let here : state_of s.bytes s.place 0 s.phase ≡ s =
-      ap (λ p. state_of s.bytes s.place p s.phase) (sym none) ∙ state_is s small in
-      let there : state_of s.bytes (s.place + w) 0 (s.phase + w) ≡ bytes_further w s = rw none refl in
-      ap (columns_further (w + t)) (sym here) ∙ plain_then s.bytes reach_bytes.0 s.place s.phase w t reach_bytes.1
+      let here : state_of s.bytes s.offset 0 s.phase ≡ s =
+      ap (λ p. state_of s.bytes s.offset p s.phase) (sym none) ∙ state_is s small in
+      let there : state_of s.bytes (s.offset + w) 0 (s.phase + w) ≡ bytes_further w s = rw none refl in
+      ap (columns_further (w + t)) (sym here) ∙ plain_then s.bytes reach_bytes.0 s.offset s.phase w t reach_bytes.1
       ∙ ap (columns_further t) there
 
 column_past-append : (front back : List ℕ) (c : ℕ)
@@ -135,53 +135,53 @@ column_past-append : (front back : List ℕ) (c : ℕ)
 column_past-append [] back c = refl
 column_past-append (b ∷ front) back c = column_past-append front back (column_after c b)
 
-further-add_column : (bytes : List ℕ) (place p c a b : ℕ) → c + a ≤ p + head_end c (drop place bytes)
-    → columns_further (a + b) (state_of bytes place p c)
-    ≡ columns_further b (columns_further a (state_of bytes place p c))
-further-add_column bytes place p c a b fits =
-    let back = drop place bytes in
+further-add_column : (bytes : List ℕ) (offset p c a b : ℕ) → c + a ≤ p + head_end c (drop offset bytes)
+    → columns_further (a + b) (state_of bytes offset p c)
+    ≡ columns_further b (columns_further a (state_of bytes offset p c))
+further-add_column bytes offset p c a b fits =
+    let back = drop offset bytes in
     let near = c + a - p in
     let far = c + (a + b) - p in
     let m = bytes_below c back near in
     let c₁ = column_past c (take m back) in
     let p₁ = p + c₁ - (c + a) in
-    let back₁ = drop (place + m) bytes in
+    let back₁ = drop (offset + m) bytes in
     let m₁ = bytes_below c₁ back₁ (c₁ + b - p₁) in
     let c₂ = column_past c₁ (take m₁ back₁) in
     let reached : near ≤ c₁ = past-fits back c near m (omega arith) refl in
-    let dropped : drop m back ≡ back₁ = drop-drop m place bytes in
+    let dropped : drop m back ≡ back₁ = drop-drop m offset bytes in
     let same : far ≡ c₁ + b - p₁ = omega arith in
     let split = below-split back c near far m (omega arith) refl in
     let count : bytes_below c back far ≡ m + m₁ = split ∙ rw (dropped, same) refl in
     let past : column_past c (take (m + m₁) back) ≡ c₂ =
     ap (column_past c) (take-add m m₁ back) ∙ column_past-append (take m back) (take m₁ (drop m back)) c
     ∙ ap (λ r. column_past c₁ (take m₁ r)) dropped in
-    let place' : place + (m + m₁) ≡ place + m + m₁ = omega arith in
+    let offset' : offset + (m + m₁) ≡ offset + m + m₁ = omega arith in
     let pending : p + c₂ - (c + (a + b)) ≡ p₁ + c₂ - (c₁ + b) = omega arith in
-    further-column bytes place p c (a + b) ∙ rw (count, past, place', pending) refl
-    ∙ sym (ap (columns_further b) (further-column bytes place p c a) ∙ further-column bytes (place + m) p₁ c₁ b)
+    further-column bytes offset p c (a + b) ∙ rw (count, past, offset', pending) refl
+    ∙ sym (ap (columns_further b) (further-column bytes offset p c a) ∙ further-column bytes (offset + m) p₁ c₁ b)
 
 -- columns further twice
 pub further-add : (s : LineState) (a b : ℕ) → s.phase < 4 → s.phase + a ≤ s.pending + head_end s.phase (unscanned s)
     → columns_further (a + b) s ≡ columns_further b (columns_further a s)
 further-add s a b small fits =
     let here = state_is s small in
-    ap (columns_further (a + b)) (sym here) ∙ further-add_column s.bytes s.place s.pending s.phase a b fits
+    ap (columns_further (a + b)) (sym here) ∙ further-add_column s.bytes s.offset s.pending s.phase a b fits
     ∙ ap (λ x. columns_further b (columns_further a x)) here
 
 -- what is left before a byte that is no tab, with nothing pending
 byte_left : (s : LineState) (b : ℕ) → s.phase < 4 → s.pending ≡ 0 → (b == 9) ≡ false → is_line_ending b ≡ false
-    → unscanned s ≡ b ∷ drop (s.place + 1) s.bytes
+    → unscanned s ≡ b ∷ drop (s.offset + 1) s.bytes
     → rest_of s ≡ b ∷ rest_of (bytes_further 1 s)
 byte_left s b small none plain goes split =
-    let back = drop (s.place + 1) s.bytes in
+    let back = drop (s.offset + 1) s.bytes in
     let first : written_out s.phase (b ∷ back) ≡ b ∷ written_out (s.phase + 1) back =
     written-cons s.phase b back goes ∙ rw plain refl in
     rest-none s none ∙ ap (written_out s.phase) split ∙ first
     ∙ ap (λ w. b ∷ w) (sym (written_out-phase back (s.phase + 1)) ∙ sym (rest-none (bytes_further 1 s) none))
 
 -- a block quote marker with nothing pending is one plain step
-pub quote_taken : (s new : LineState) → s.phase < 4 → s.pending ≡ 0 → unscanned s ≡ 62 ∷ drop (s.place + 1) s.bytes
+pub quote_taken : (s new : LineState) → s.phase < 4 → s.pending ≡ 0 → unscanned s ≡ 62 ∷ drop (s.offset + 1) s.bytes
     → new ≡ after_space 1 (bytes_further 1 s)
     → rest_of new ≡ drop (space_within 1 (bytes_further 1 s)) (rest_of (bytes_further 1 s))
     → IsPlainStep Quote (Flag true) s new
@@ -223,7 +223,7 @@ quote_refused s small none h =
     ∙ begins-written 62 refl refl (unscanned s) s.phase ∙ h) in
     nothing_taken Quote (Flag false) s small step
 
--- what the byte at the place says of the bytes from there on
+-- what the byte at the offset says of the bytes from there on
 pub begins_with-other : (r : Option ℕ) (xs back : List ℕ) (x : ℕ) → IfSome r (λ b. xs ≡ b ∷ back) → IfNone r (xs ≡ [])
     → not (option_eq nat_eq r (Some x)) ≡ true → begins_with (λ b. b == x) xs ≡ false
 begins_with-other None xs back x byte end other = rw end refl
@@ -246,7 +246,7 @@ no_space_taken s small =
 
 -- a definition's marker with nothing pending is one plain step
 pub definition_taken : (indent t : ℕ) (s new : LineState) → s.phase < 4 → s.pending ≡ 0
-    → unscanned s ≡ 58 ∷ drop (s.place + 1) s.bytes
+    → unscanned s ≡ 58 ∷ drop (s.offset + 1) s.bytes
     → t ≡ definition_spaces (leading_spaces (rest_of (bytes_further 1 s)))
     → new ≡ after_space t (bytes_further 1 s) → rest_of new ≡ drop t (rest_of (bytes_further 1 s))
     → IsPlainStep (DefinitionCall indent) (DefinitionAnswer (Some (indent + 1 + t))) s new

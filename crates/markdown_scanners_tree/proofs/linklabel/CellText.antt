@@ -21,7 +21,7 @@ follows_byte ix b bs ks = ap (λ v. b == 124 && v) (eq-eqb ix ix refl) ∙ and-t
 
 -- whether the first kept byte is a backslash that a cell drops
 abbrev dropped : KeptByte → List KeptByte → Bool
-dropped k ks = k.byte == backslash && pipe_at (k.place + 1) ks
+dropped k ks = k.byte == backslash && pipe_at (k.offset + 1) ks
 
 in_cell-cons : (t : Bool) (k : KeptByte) (ks : List KeptByte)
     → in_cell t (k ∷ ks) ≡ cond (t && dropped k ks) (in_cell t ks) (k ∷ in_cell t ks)
@@ -42,7 +42,7 @@ no_backslash : (k : KeptByte) (ks : List KeptByte) → (k.byte == backslash) ≡
     → in_cell t (k ∷ ks) ≡ k ∷ in_cell t ks
 no_backslash k ks h t = in_cell-cons t k ks
     ∙ ap (λ v. cond v (in_cell t ks) (k ∷ in_cell t ks))
-    (ap (λ v. t && (v && pipe_at (k.place + 1) ks)) h ∙ and-false t)
+    (ap (λ v. t && (v && pipe_at (k.offset + 1) ks)) h ∙ and-false t)
 
 pub white_no_backslash : (b : ℕ) → is_white_space b ≡ true → (b == backslash) ≡ false
 white_no_backslash b w = by (b == 92) (eqb-true b 92)
@@ -74,7 +74,7 @@ pipe_first : (t has_word in_run : Bool) (p : ℕ) (ks : List KeptByte) → pipe_
     → text_from has_word in_run (in_cell t ks) ≡ space_of has_word in_run ++ text_from true false (in_cell t ks)
 pipe_first t has_word in_run p [] h = absurd (true≢false (sym h))
 pipe_first t has_word in_run p (k ∷ ks) h =
-    let e : k.byte ≡ 124 = eqb-true k.byte 124 (and_parts (k.byte == 124) (k.place == p) h).0 in
+    let e : k.byte ≡ 124 = eqb-true k.byte 124 (and_parts (k.byte == 124) (k.offset == p) h).0 in
     let w : is_white k ≡ false = ap is_white_space e in
     let c : in_cell t (k ∷ ks) ≡ k ∷ in_cell t ks = no_backslash k ks (ap (λ b. b == 92) e) t in
     ap (text_from has_word in_run) c ∙ word_first has_word in_run k (in_cell t ks) w
@@ -109,7 +109,7 @@ has_dropped-byte t ix b bs ks f = has_dropped-cons t (in_line b ix) ks
 has_dropped-white : (k : KeptByte) (ks : List KeptByte) → is_white k ≡ true
     → has_pipe_backslash (k ∷ ks) ≡ has_pipe_backslash ks
 has_dropped-white k ks w =
-    ap (λ v. (v && pipe_at (k.place + 1) ks) || has_pipe_backslash ks) (white_no_backslash k.byte w)
+    ap (λ v. (v && pipe_at (k.offset + 1) ks) || has_pipe_backslash ks) (white_no_backslash k.byte w)
 
 pub not_dropped-white : (t : Bool) (b : ℕ) (bs : List ℕ) → is_white_space b ≡ true → starts_dropped t (b ∷ bs) ≡ false
 not_dropped-white t b bs w = ap (λ v. t && (v && begins_with is_pipe bs)) (white_no_backslash b w) ∙ and-false t
@@ -126,7 +126,7 @@ module _ (t has_word in_run : Bool) where
       → IsGap ix (k ∷ []) ks
   gap_of_one ix k ks w p = record {
     text = text_from-white t has_word in_run k ks w;
-    starts = ap (λ v. v && (k.place == ix)) p;
+    starts = ap (λ v. v && (k.offset == ix)) p;
     drops = has_dropped-white k ks w;
   }
 

@@ -119,13 +119,13 @@ module _ (y : Tally) (ix : ℕ) (f : Facts) (h : Tells y ix f) where
 
   pub tells_ending : (len skip jx : ℕ) → jx ≡ ix + (len + skip) → 1 ≤ len
       → Tells (tally_past_ending y len skip) jx (facts_past_ending f len)
-  tells_ending len skip jx place some = record {
-    characters_are = omega (arith, h.characters_are, place);
+  tells_ending len skip jx offset some = record {
+    characters_are = omega (arith, h.characters_are, offset);
     length_is =
         omega (
           arith,
           h.length_is,
-          place,
+          offset,
           some,
           gap_adds f.has_word f.in_run,
           same_gap,

@@ -33,7 +33,7 @@ module _ (text bytes : List ℕ) (front : text ≡ take (length text) bytes) whe
   same_byte : (ix : ℕ) → ix < length text → get_or text ix 0 ≡ get_or bytes ix 0
   same_byte ix inside = ap (λ z. get_or z ix 0) front ∙ get_or-take (length text) bytes ix 0 inside
 
-  -- the byte at a place
+  -- the byte at an offset
   pub front_byte : (ix b : ℕ) (bs : List ℕ) → drop ix bytes ≡ b ∷ bs → ix < length text
       → drop ix text ≡ b ∷ drop (ix + 1) text
   front_byte ix b bs parts inside = drop_more text ix 0 inside
@@ -62,7 +62,7 @@ module _ (text bytes : List ℕ) (front : text ≡ take (length text) bytes) whe
             (IsCharBoundary-after_ascii text (end + (n - 1)) utf8 (omega (arith, fits, some)) (byte (n - 1) (omega (arith, some)))),
       )
 
-  -- the bytes between two places
+  -- the bytes between two offsets
   pub front_slice : (m n : ℕ) → m + n ≤ length text → take n (drop m text) ≡ take n (drop m bytes)
   front_slice m n fits =
       let size : length text ≡ m + (length text - m) = omega (arith, fits) in

@@ -36,7 +36,7 @@ text_fits true true (k ∷ ks) = elim (cases_Bool (is_white k)) [
 
 pipes_fit : (ks : List KeptByte) → length (without_pipe_backslashes ks) ≤ length ks
 pipes_fit [] = omega arith
-pipes_fit (k ∷ ks) = elim (cases_Bool (k.byte == backslash && pipe_at (k.place + 1) ks)) [
+pipes_fit (k ∷ ks) = elim (cases_Bool (k.byte == backslash && pipe_at (k.offset + 1) ks)) [
   | inl dropped ↦ rw dropped (omega (arith, pipes_fit ks))
   | inr stays ↦ rw stays (omega (arith, pipes_fit ks))
 ]
@@ -50,7 +50,7 @@ record IsSplit (ks : List KeptByte) (b : Bracketed) : Type 0 where
   close : KeptByte
   after : List KeptByte
   parts : ks ≡ b.content ++ close ∷ after
-  place : close.place ≡ b.close
+  offset : close.offset ≡ b.close
 
 -- what stands before brackets that are found
 split_after : (front ks : List KeptByte) (found : Option Bracketed) (b : Bracketed) → preceded front found ≡ Some b
@@ -65,7 +65,7 @@ split_after front ks (Some c) b h split =
       after = s.after;
       parts = ap (λ zs. front ++ zs) s.parts ∙ sym (append_assoc front c.content (s.close ∷ s.after))
           ∙ ap (λ zs. zs ++ s.close ∷ s.after) content;
-      place = s.place ∙ close;
+      offset = s.offset ∙ close;
     }
 
 split_byte : (k : KeptByte) (ks : List KeptByte) (units : List (List KeptByte)) (b : Bracketed)
@@ -74,8 +74,8 @@ split_byte k ks units b h split = elim (cases_Bool (k.byte == right_bracket)) [
   | inl closes ↦
       (let found = rw closes at h in
       let content : [] ≡ b.content = cc in
-      let close : k.place ≡ b.close = cc in
-      record { close = k; after = ks; parts = ap (λ zs. zs ++ k ∷ ks) content; place = close })
+      let close : k.offset ≡ b.close = cc in
+      record { close = k; after = ks; parts = ap (λ zs. zs ++ k ∷ ks) content; offset = close })
   | inr unclosed ↦ elim (cases_Bool (k.byte == left_bracket)) [
     | inl opens ↦ absurd (let found = rw (unclosed, opens) at h in cc)
     | inr unopened ↦ split_after (k ∷ []) ks (bracketed units) b (rw (unclosed, unopened) at h) split
@@ -93,10 +93,10 @@ split_at_bracket (k ∷ l ∷ ks) b h = elim (cases_Bool (k.byte == backslash &&
 ]
 
 -- kept bytes stand one after the other
-rises_to : (place : ℕ) (ks : List KeptByte) (k : KeptByte) (after : List KeptByte) → Rises place (ks ++ k ∷ after)
-    → place + length ks ≤ k.place
-rises_to place [] k after rises = omega (arith, rises.0)
-rises_to place (c ∷ ks) k after rises = omega (arith, rises.0, rises_to (c.place + 1) ks k after rises.1)
+rises_to : (offset : ℕ) (ks : List KeptByte) (k : KeptByte) (after : List KeptByte) → Rises offset (ks ++ k ∷ after)
+    → offset + length ks ≤ k.offset
+rises_to offset [] k after rises = omega (arith, rises.0)
+rises_to offset (c ∷ ks) k after rises = omega (arith, rises.0, rises_to (c.offset + 1) ks k after rises.1)
 
 -- ---- where a label ends
 
@@ -116,16 +116,16 @@ close_of t seen (Some b) label low h f =
     omega (arith, (made t (record { content = seen ++ b.content; close = b.close }) label h).1, f b refl)
 
 -- a bracket that is found stands there or later
-close_there : (escaped : Bool) (place : ℕ) (ks : List KeptByte) (b : Bracketed) → Rises place ks
-    → bracketed_after escaped ks ≡ Some b → place ≤ b.close
-close_there false place ks b rises h =
+close_there : (escaped : Bool) (offset : ℕ) (ks : List KeptByte) (b : Bracketed) → Rises offset ks
+    → bracketed_after escaped ks ≡ Some b → offset ≤ b.close
+close_there false offset ks b rises h =
     let split = split_at_bracket ks b h in
-    omega (arith, rises_to place b.content split.close split.after (subst (Rises place) split.parts rises), split.place)
-close_there true place [] b rises h = cc
-close_there true place (k ∷ ks) b rises h = by (bracketed (kept_units ks)) h (λ c e. close_there false (k.place + 1) ks c rises.1 e)
+    omega (arith, rises_to offset b.content split.close split.after (subst (Rises offset) split.parts rises), split.offset)
+close_there true offset [] b rises h = cc
+close_there true offset (k ∷ ks) b rises h = by (bracketed (kept_units ks)) h (λ c e. close_there false (k.offset + 1) ks c rises.1 e)
   where
     by : (found : Option Bracketed) → preceded (k ∷ []) found ≡ Some b
-        → ((c : Bracketed) → found ≡ Some c → k.place + 1 ≤ c.close) → place ≤ b.close
+        → ((c : Bracketed) → found ≡ Some c → k.offset + 1 ≤ c.close) → offset ≤ b.close
     by None g f = cc
     by (Some c) g f = (let close : c.close ≡ b.close = cc in omega (arith, f c refl, close, rises.0))
 
@@ -162,6 +162,6 @@ label_room answers source t label is = by (bracketed (kept_units kept)) refl is.
           text_fits false false (in_cell t b.content),
           cell_fits t b.content,
           rises,
-          split.place,
+          split.offset,
           (made t b label h).1,
         )

@@ -24,7 +24,7 @@ use Rattle.markdown_scanners_tree.proofs.linklabel.SourceSteps.{after_word, afte
 use Rattle.markdown_scanners_tree.proofs.linklabel.SourceSteps.{given_space, given_ending}
 use Rattle.markdown_scanners_tree.proofs.linklabel.SeenBytes.{Seen, content_of_seen, plain_of_seen, length_of_seen, stands_in_source}
 
--- what holds at a place of the source, where this tally was kept of the bytes before it
+-- what holds at an offset of the source, where this tally was kept of the bytes before it
 pub record IsTallied (a : List ℕ → ℕ → Type 0) (t : Bool) (source : List ℕ) (size : ℕ) (escaped : Bool) (ix : ℕ)
     (y : Tally) : Type 0 where
   pub within : ix ≤ size
@@ -45,7 +45,7 @@ punctuation_dark b h = grind (arith, nat_tests, h)
 same_some : (x y : Label) → Some x ≡ Some y → x ≡ y
 same_some x y e = cc
 
--- a prefix is what was read up to the place where the rest begins
+-- a prefix is what was read up to the offset where the rest begins
 prefix_taken : (source front rest : List ℕ) (ix : ℕ) → source ≡ front ++ rest → drop ix source ≡ rest
     → ix ≤ length source → front ≡ take ix source
 prefix_taken source front rest ix e d h =
@@ -160,10 +160,10 @@ module _ (a : List ℕ → ℕ → Type 0) (t : Bool) (source : List ℕ) where
           no_open = λ plain. refl;
           escapes_is = refl;
         }) refl in
-        let behind : drop 1 (drop ix source) ≡ bs = ap (drop 1) e in
+        let following : drop 1 (drop ix source) ≡ bs = ap (drop 1) e in
         elim (cases_Bool escapes) [
-          | inl does ↦ rw (behind, does) (second bs refl does (rw does at first))
-          | inr not ↦ rw (behind, not) (rw not at first)
+          | inl does ↦ rw (following, does) (second bs refl does (rw does at first))
+          | inr not ↦ rw (following, not) (rw not at first)
         ]
       where
         second : (rest : List ℕ) → drop (ix + 1) source ≡ rest → begins_with is_punctuation rest ≡ true
@@ -175,8 +175,8 @@ module _ (a : List ℕ → ℕ → Type 0) (t : Bool) (source : List ℕ) where
         second (c ∷ cs) same does after =
             let byte : get_or (drop ix source) 1 0 ≡ c =
             ap (λ z. get_or z 1 0) parts ∙ ap (λ z. get_or z 0 0) same in
-            let place : ix + 1 + 1 ≡ ix + 2 = omega arith in
-            subst (λ z. z) (λ i. IsTallied a t source (length source) false (place i)
+            let offset : ix + 1 + 1 ≡ ix + 2 = omega arith in
+            subst (λ z. z) (λ i. IsTallied a t source (length source) false (offset i)
             (tally_past_word (tally_past_word y 92 (starts_dropped t (drop ix source))) (sym byte i)
             (starts_dropped t (drop (ix + 1) source))))
             (past_byte true (ix + 1) _ c false _ after (record {
@@ -235,8 +235,8 @@ module _ (a : List ℕ → ℕ → Type 0) (t : Bool) (source : List ℕ) where
     second [] same does = cc
     second (c ∷ cs) same does =
         let at = byte_at source (ix + 1) c cs same in
-        let place : ix + 1 + 1 ≡ ix + 2 = omega arith in
-        subst (λ k. IsTallied a t source (length source) false k (tally_past_space (tally_past_space y 32) 32)) place
+        let offset : ix + 1 + 1 ≡ ix + 2 = omega arith in
+        subst (λ k. IsTallied a t source (length source) false k (tally_past_space (tally_past_space y 32) 32)) offset
         (past_white (ix + 1) (tally_past_space y 32) 32 first at.0 (at.1 ∙ eqb-true c 32 does) refl refl)
 
     pub past_some_spaces : IsTallied a t source (length source) false (ix + spaces_len (drop (ix + 1) source))

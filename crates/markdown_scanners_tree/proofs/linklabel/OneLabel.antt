@@ -20,9 +20,9 @@ use Rattle.markdown_scanners_tree.proofs.linklabel.SourceSteps.{cut_after_ending
 abbrev Stays : List (List KeptByte) → List (List KeptByte) → Type 0
 Stays units more = (bracketed units ≡ None) ⊎ (bracketed more ≡ bracketed units)
 
-behind_byte : (k : KeptByte) (units more : List (List KeptByte)) → Stays units more
+after_byte : (k : KeptByte) (units more : List (List KeptByte)) → Stays units more
     → Stays ((k ∷ []) ∷ units) ((k ∷ []) ∷ more)
-behind_byte k units more stays = elim (cases_Bool (k.byte == right_bracket)) [
+after_byte k units more stays = elim (cases_Bool (k.byte == right_bracket)) [
   | inl closes ↦ inr (rw closes refl)
   | inr unclosed ↦ elim (cases_Bool (k.byte == left_bracket)) [
     | inl opens ↦ inl (rw (unclosed, opens) refl)
@@ -33,10 +33,10 @@ behind_byte k units more stays = elim (cases_Bool (k.byte == right_bracket)) [
   ]
 ]
 
-behind_escape : (k l : KeptByte) (units more : List (List KeptByte)) → Stays units more
+after_escape : (k l : KeptByte) (units more : List (List KeptByte)) → Stays units more
     → Stays ((k ∷ l ∷ []) ∷ units) ((k ∷ l ∷ []) ∷ more)
-behind_escape k l units more (inl none) = inl (ap (preceded (k ∷ l ∷ [])) none)
-behind_escape k l units more (inr same) = inr (ap (preceded (k ∷ l ∷ [])) same)
+after_escape k l units more (inl none) = inl (ap (preceded (k ∷ l ∷ [])) none)
+after_escape k l units more (inr same) = inr (ap (preceded (k ∷ l ∷ [])) same)
 
 last_byte : (k : KeptByte) (more : List KeptByte) → Stays ((k ∷ []) ∷ []) (kept_units (k ∷ more))
 last_byte k [] = inr refl
@@ -56,9 +56,9 @@ brackets_stay : (ks more : List KeptByte) → Stays (kept_units ks) (kept_units 
 brackets_stay [] more = inl refl
 brackets_stay (k ∷ []) more = last_byte k more
 brackets_stay (k ∷ l ∷ ks) more = elim (cases_Bool (k.byte == backslash && is_punctuation l.byte)) [
-  | inl escapes ↦ rw escapes (behind_escape k l (kept_units ks) (kept_units (ks ++ more)) (brackets_stay ks more))
+  | inl escapes ↦ rw escapes (after_escape k l (kept_units ks) (kept_units (ks ++ more)) (brackets_stay ks more))
   | inr single ↦
-      rw single (behind_byte k (kept_units (l ∷ ks)) (kept_units (l ∷ (ks ++ more))) (brackets_stay (l ∷ ks) more))
+      rw single (after_byte k (kept_units (l ∷ ks)) (kept_units (l ∷ (ks ++ more))) (brackets_stay (l ∷ ks) more))
 ]
 
 -- and so no label
@@ -109,12 +109,12 @@ module _ {F : Type 0} (g : Shared F (Bor (List ℕ) × Unit {0}) (Option ℕ)) (
       let same : Some m ≡ Some n = steady.one_answer rest (Some m) (Some n) answer.0 answer.1 other.1 in
       cc
 
-  cut_behind : (text : List ℕ) (place skip : ℕ) → IsUtf8 text → IsCharBoundary text place
-      → Skips g f (drop place text) skip → IsCharBoundary text (place + skip)
-  cut_behind text place zero utf8 cut skips = subst (IsCharBoundary text) (omega arith) cut
-  cut_behind text place (suc skip) utf8 cut skips =
-      IsCharBoundary-from_rest text place (suc skip) cut.0
-      (steady.inside (drop place text) (suc skip) (IsUtf8-drop text place utf8 cut) skips (omega arith))
+  cut_after : (text : List ℕ) (offset skip : ℕ) → IsUtf8 text → IsCharBoundary text offset
+      → Skips g f (drop offset text) skip → IsCharBoundary text (offset + skip)
+  cut_after text offset zero utf8 cut skips = subst (IsCharBoundary text) (omega arith) cut
+  cut_after text offset (suc skip) utf8 cut skips =
+      IsCharBoundary-from_rest text offset (suc skip) cut.0
+      (steady.inside (drop offset text) (suc skip) (IsUtf8-drop text offset utf8 cut) skips (omega arith))
 
   skips_text : (text skips : List ℕ) → IsUtf8 text → AreSkips (Skips g f) text skips → AreSkips (SkipsText g f) text skips
   skips_text text [] utf8 are = tt
@@ -122,9 +122,9 @@ module _ {F : Type 0} (g : Shared F (Bor (List ℕ) × Unit {0}) (Option ℕ)) (
       let ending = first_ending text are.0 in
       let cut : IsCharBoundary text (line_len text) =
       subst (IsCharBoundary text) (sym ending.3) (cut_after_ending text ending.0 ending.1 utf8 ending.2) in
-      let behind = cut_behind text (line_len text) skip utf8 cut are.1 in
+      let after = cut_after text (line_len text) skip utf8 cut are.1 in
       let later = skips_text (drop (line_len text + skip) text) skips
-      (IsUtf8-drop text (line_len text + skip) utf8 behind) are.2 in
+      (IsUtf8-drop text (line_len text + skip) utf8 after) are.2 in
       (are.0, (IsUtf8-drop text (line_len text) utf8 cut, are.1), later)
 
   -- the label of a text: the bytes that it takes, its text, and whether it stands in the text as it is

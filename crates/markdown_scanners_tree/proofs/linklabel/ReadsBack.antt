@@ -80,10 +80,10 @@ clean_units [] = (refl, λ h. refl)
 clean_units (k ∷ []) = one (k.byte == 93) (k.byte == 91) refl refl
   where
     one : (x y : Bool) → (k.byte == 93) ≡ x → (k.byte == 91) ≡ y
-        → (clean_of false (cond x (Some (record { content = []; close = k.place }))
+        → (clean_of false (cond x (Some (record { content = []; close = k.offset }))
         (cond y None (preceded (k ∷ []) None))) ≡ true)
         × (is_punctuation k.byte ≡ false
-        → clean_of true (cond x (Some (record { content = []; close = k.place }))
+        → clean_of true (cond x (Some (record { content = []; close = k.offset }))
         (cond y None (preceded (k ∷ []) None))) ≡ true)
     one true y e f = (refl, λ h. refl)
     one false true e f = (refl, λ h. refl)
@@ -92,9 +92,9 @@ clean_units (k ∷ l ∷ ks) = by (k.byte == 92 && is_punctuation l.byte) refl (
   where
     one : (b : Option Bracketed) → clean_of false b ≡ true → ((k.byte == 92) ≡ true → clean_of true b ≡ true)
         → (x y : Bool) → (k.byte == 93) ≡ x → (k.byte == 91) ≡ y
-        → (clean_of false (cond x (Some (record { content = []; close = k.place })) (cond y None (preceded (k ∷ []) b)))
+        → (clean_of false (cond x (Some (record { content = []; close = k.offset })) (cond y None (preceded (k ∷ []) b)))
         ≡ true) × (is_punctuation k.byte ≡ false
-        → clean_of true (cond x (Some (record { content = []; close = k.place })) (cond y None (preceded (k ∷ []) b)))
+        → clean_of true (cond x (Some (record { content = []; close = k.offset })) (cond y None (preceded (k ∷ []) b)))
         ≡ true)
     one b h f true y c o = (refl, λ h. refl)
     one b h f false true c o = (refl, λ h. refl)
@@ -156,12 +156,12 @@ ends_later c (b ∷ bs) h = h
 
 -- a clean text that ends in no backslash stands whole before the bracket
 module _ (end : KeptByte) (bracket : end.byte ≡ 93) where
-  at_end : bracketed (kept_units (end ∷ [])) ≡ Some (record { content = []; close = end.place })
+  at_end : bracketed (kept_units (end ∷ [])) ≡ Some (record { content = []; close = end.offset })
   at_end = rw bracket refl
 
   whole_single : (k : KeptByte) (ps : List (List KeptByte)) (content : List KeptByte) → (k.byte == 93) ≡ false
-      → (k.byte == 91) ≡ false → bracketed ps ≡ Some (record { content = content; close = end.place })
-      → bracketed ((k ∷ []) ∷ ps) ≡ Some (record { content = k ∷ content; close = end.place })
+      → (k.byte == 91) ≡ false → bracketed ps ≡ Some (record { content = content; close = end.offset })
+      → bracketed ((k ∷ []) ∷ ps) ≡ Some (record { content = k ∷ content; close = end.offset })
   whole_single k ps content c o h = rw (c, o) (ap (preceded (k ∷ [])) h)
 
   no_brackets : (b : ℕ) (bs : List ℕ) → clean false (b ∷ bs) ≡ true → ((b == 93) ≡ false) × ((b == 91) ≡ false)
@@ -190,7 +190,7 @@ module _ (end : KeptByte) (bracket : end.byte ≡ 93) where
 
   whole : (p : ℕ) (text : List ℕ) → clean false text ≡ true → ends_in_backslash text ≡ false
       → bracketed (kept_units (placed p text ++ end ∷ []))
-      ≡ Some (record { content = placed p text; close = end.place })
+      ≡ Some (record { content = placed p text; close = end.offset })
   whole p [] h e = at_end
   whole p (b ∷ []) h e =
       (let n = no_brackets b [] h in rw e (whole_single (in_line b p) (kept_units (end ∷ [])) [] n.0 n.1 at_end))
@@ -201,13 +201,13 @@ module _ (end : KeptByte) (bracket : end.byte ≡ 93) where
       by : (v : Bool) → (b == 92 && is_punctuation c) ≡ v
           → (clean false bs ≡ true
           → bracketed (kept_units (placed (p + 1 + 1) bs ++ end ∷ []))
-          ≡ Some (record { content = placed (p + 1 + 1) bs; close = end.place }))
+          ≡ Some (record { content = placed (p + 1 + 1) bs; close = end.offset }))
           → (clean false (c ∷ bs) ≡ true
           → bracketed (kept_units (placed (p + 1) (c ∷ bs) ++ end ∷ []))
-          ≡ Some (record { content = placed (p + 1) (c ∷ bs); close = end.place }))
+          ≡ Some (record { content = placed (p + 1) (c ∷ bs); close = end.offset }))
           → bracketed (cond v ((in_line b p ∷ in_line c (p + 1) ∷ []) ∷ kept_units (placed (p + 1 + 1) bs ++ end ∷ []))
           ((in_line b p ∷ []) ∷ kept_units (placed (p + 1) (c ∷ bs) ++ end ∷ [])))
-          ≡ Some (record { content = placed p (b ∷ c ∷ bs); close = end.place })
+          ≡ Some (record { content = placed p (b ∷ c ∷ bs); close = end.offset })
       by true x f g =
           let parts = and_parts (b == 92) (is_punctuation c) x in
           ap (preceded (in_line b p ∷ in_line c (p + 1) ∷ []))

@@ -4,7 +4,7 @@
 -- A label is read in two passes. The first takes no memory: it finds the closing bracket, whether
 -- the text stands in the source as it is, and else its length. The second writes it into memory of
 -- that length, and is proved to need no more (`fits` of `write_label`). Both take the same steps
--- over the source (`SourceSteps`): what is left at a place makes a label with what was read exactly
+-- over the source (`SourceSteps`): what is left at an offset makes a label with what was read exactly
 -- where the source has it.
 use Rattle.std.proofs.Common.{ℕ, suc, Bool, true, false, ◌||◌, ◌&&◌, ◌==◌, not, List, [], ◌∷◌, ◌++◌, ◌≡◌, ◌+◌, ◌≤◌, ◌<◌, ◌-◌, Option}
 use Rattle.std.proofs.Common.{Some, None, refl, sym, ◌∙◌, ap, subst, cond, arith, drop, take, get_or, length, true≢false, eqb-true}
@@ -180,10 +180,10 @@ module _ (a : List ℕ → ℕ → Type 0) (source : List ℕ) where
             (λ m g. none m (subst (λ x. x) (λ i. a (drop (sym len_is i) (sym h.parts i)) m) g)) (goes t label l)
 
         -- where no content begins with what stands up to the line's end
-        none_behind_line : (t : Bool)
+        none_after_line : (t : Bool)
             → ((ks : List KeptByte) → is_label_content ((seen ++ kept_line ix (h.byte ∷ h.others)) ++ ks) ≡ false)
             → (label : Label) → IsLabel a source t label → ⊥
-        none_behind_line t lacks label l = (let g = goes t label l in by g.skips g.answered g.label_is)
+        none_after_line t lacks label l = (let g = goes t label l in by g.skips g.answered g.label_is)
           where
             after : (b : Option Bracketed)
                 → label_between t (preceded (seen ++ kept_line ix (h.byte ∷ h.others)) b) ≡ Some label → ⊥
@@ -204,13 +204,13 @@ module _ (a : List ℕ → ℕ → Type 0) (source : List ℕ) where
         pub none_at_second_ending : (t : Bool) (y : Facts) → y.has_ending ≡ true → Seen t source seen ix rest y
             → (label : Label) → IsLabel a source t label → ⊥
         none_at_second_ending t y second s =
-            none_behind_line t (λ ks. two_endings t source seen ix h.byte h.others y ks h.ends second
+            none_after_line t (λ ks. two_endings t source seen ix h.byte h.others y ks h.ends second
             (subst (λ r. Seen t source seen ix r y) h.parts s))
 
         pub none_at_late_ending : (t : Bool) (y : Facts) → 999 < y.characters + len → Seen t source seen ix rest y
             → (label : Label) → IsLabel a source t label → ⊥
         none_at_late_ending t y many s =
-            none_behind_line t (λ ks. many_with_ending t source seen ix h.byte h.others y ks h.ends (rw len_is at many)
+            none_after_line t (λ ks. many_with_ending t source seen ix h.byte h.others y ks h.ends (rw len_is at many)
             (subst (λ r. Seen t source seen ix r y) h.parts s))
 
       -- after too many characters no label comes
@@ -231,7 +231,7 @@ module _ (a : List ℕ → ℕ → Type 0) (source : List ℕ) where
 pub same_take : (xs : List ℕ) (m n : ℕ) → m ≡ n → take m xs ≡ take n xs
 same_take xs m n e = ap (λ k. take k xs) e
 
--- the rest from a place, as a slice gives it
+-- the rest from an offset, as a slice gives it
 pub rest_is : (xs : List ℕ) (i : ℕ) → take (length xs - i) (drop i xs) ≡ drop i xs
 rest_is xs i = ap (λ n. take n (drop i xs)) (sym (length-drop i xs)) ∙ take-length (drop i xs)
 
@@ -252,7 +252,7 @@ line_len-le (b ∷ bs) =
           [ true ↦ omega arith | false ↦ omega arith ]
     ]
 
--- the byte at a place, and where the text may be cut
+-- the byte at an offset, and where the text may be cut
 pub byte_at : (source : List ℕ) (ix b : ℕ) (bs : List ℕ) → drop ix source ≡ b ∷ bs
     → (ix < length source) × (get_or source ix 0 ≡ b)
 byte_at source ix b bs e = (

@@ -34,9 +34,9 @@ ending_there (b ∷ bs) taken some e =
 -- what follows a line ending of a text is a text
 pub text_after_line : (text rest : List ℕ) → IsUtf8 text → IsAfterLineEnding text rest → IsUtf8 rest
 text_after_line text rest utf8 after =
-    let cut = cut_after_ending text after.place after.taken utf8
-    (ending_there (drop after.place text) after.taken after.some after.ending) in
-    subst IsUtf8 (sym after.follows) (IsUtf8-drop text (after.place + after.taken) utf8 cut)
+    let cut = cut_after_ending text after.offset after.taken utf8
+    (ending_there (drop after.offset text) after.taken after.some after.ending) in
+    subst IsUtf8 (sym after.follows) (IsUtf8-drop text (after.offset + after.taken) utf8 cut)
 
 module _ {F : Type 0} (g : Shared F (Bor (List ℕ) × Unit {0}) (Option ℕ)) (f : F) where
   pub steady_in_text : (text : List ℕ) → IsUtf8 text → IsSteadyAtChars g f → IsSteadyAfterLines g f text
@@ -50,14 +50,14 @@ module _ {F : Type 0} (g : Shared F (Bor (List ℕ) × Unit {0}) (Option ℕ)) (
       there rest (suc skip) u skips = (steady.inside rest (suc skip) u skips (omega arith)).0
 
   pub ends_in_text : (text : List ℕ) → IsUtf8 text → IsSteadyAtChars g f → EndsAtChars g f text text
-  ends_in_text text utf8 steady = record { at = λ place skip cut skips fits. by place skip cut skips }
+  ends_in_text text utf8 steady = record { at = λ offset skip cut skips fits. by offset skip cut skips }
     where
-      by : (place skip : ℕ) → IsCharBoundary text place → Skips g f (drop place text) skip
-          → IsCharBoundary text (place + skip)
-      by place zero cut skips = subst (IsCharBoundary text) (omega arith) cut
-      by place (suc skip) cut skips =
-          IsCharBoundary-from_rest text place (suc skip) cut.0
-          (steady.inside (drop place text) (suc skip) (IsUtf8-drop text place utf8 cut) skips (omega arith))
+      by : (offset skip : ℕ) → IsCharBoundary text offset → Skips g f (drop offset text) skip
+          → IsCharBoundary text (offset + skip)
+      by offset zero cut skips = subst (IsCharBoundary text) (omega arith) cut
+      by offset (suc skip) cut skips =
+          IsCharBoundary-from_rest text offset (suc skip) cut.0
+          (steady.inside (drop offset text) (suc skip) (IsUtf8-drop text offset utf8 cut) skips (omega arith))
 
   pub steady_at_ascii_after : (bytes : List ℕ) → IsSteadyAtAscii g f → IsSteadyAfterLines g f bytes
   steady_at_ascii_after bytes steady = record {
@@ -67,16 +67,16 @@ module _ {F : Type 0} (g : Shared F (Bor (List ℕ) × Unit {0}) (Option ℕ)) (
 
   pub ends_in_front : (bytes text : List ℕ) → IsUtf8 text → text ≡ take (length text) bytes → IsSteadyAtAscii g f
       → EndsAtChars g f bytes text
-  ends_in_front bytes text utf8 front steady = record { at = λ place skip cut skips fits. by place skip cut skips fits }
+  ends_in_front bytes text utf8 front steady = record { at = λ offset skip cut skips fits. by offset skip cut skips fits }
     where
-      by : (place skip : ℕ) → IsCharBoundary text place → Skips g f (drop place bytes) skip → place + skip ≤ length text
-          → IsCharBoundary text (place + skip)
-      by place zero cut skips fits = subst (IsCharBoundary text) (omega arith) cut
-      by place (suc k) cut skips fits =
-          let is = steady.inside (drop place bytes) (suc k) skips in
-          let last = last_ascii (drop place bytes) k (omega (arith, is.0)) is.1 in
-          let same : get_or text (place + k) 0 ≡ get_or (drop place bytes) k 0 =
-          ap (λ z. get_or z (place + k) 0) front ∙ get_or-take (length text) bytes (place + k) 0 (omega (arith, fits))
-          ∙ sym (get_or-drop place bytes k 0) in
+      by : (offset skip : ℕ) → IsCharBoundary text offset → Skips g f (drop offset bytes) skip → offset + skip ≤ length text
+          → IsCharBoundary text (offset + skip)
+      by offset zero cut skips fits = subst (IsCharBoundary text) (omega arith) cut
+      by offset (suc k) cut skips fits =
+          let is = steady.inside (drop offset bytes) (suc k) skips in
+          let last = last_ascii (drop offset bytes) k (omega (arith, is.0)) is.1 in
+          let same : get_or text (offset + k) 0 ≡ get_or (drop offset bytes) k 0 =
+          ap (λ z. get_or z (offset + k) 0) front ∙ get_or-take (length text) bytes (offset + k) 0 (omega (arith, fits))
+          ∙ sym (get_or-drop offset bytes k 0) in
           subst (IsCharBoundary text) (omega arith)
-          (IsCharBoundary-after_ascii text (place + k) utf8 (omega (arith, fits)) (subst (λ b. b < 128) (sym same) last))
+          (IsCharBoundary-after_ascii text (offset + k) utf8 (omega (arith, fits)) (subst (λ b. b < 128) (sym same) last))

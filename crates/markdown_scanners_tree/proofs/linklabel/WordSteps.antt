@@ -162,17 +162,17 @@ module _ (a : List ℕ → ℕ → Type 0) (t : Bool) (source : List ℕ) where
       let white = past_white a t source m (word_tally w.skipped) 32 here (omega (arith, fits)) space refl refl in
       let next : TalliedAt (m + 1 + 1) (word_tally s) =
       past_ordinary a t source (m + 1) _ b white (omega (arith, fits)) refl word in
-      let place : m + 1 + 1 ≡ m + 2 = omega arith in
+      let offset : m + 1 + 1 ≡ m + 2 = omega arith in
       record {
         skipped = s;
-        tallied = subst (λ x. x) (λ i. TalliedAt (place i) (sym (some_words s (m + 2) (omega arith)) i)) next;
+        tallied = subst (λ x. x) (λ i. TalliedAt (offset i) (sym (some_words s (m + 2) (omega arith)) i)) next;
         counted = omega (
           arith,
           w.counted,
           continued_more source m (omega (arith, fits)),
           ap continued space,
           continued_more source (m + 1) (omega (arith, fits)),
-          ap (λ k. sum_by continued (take k source)) place,
+          ap (λ k. sum_by continued (take k source)) offset,
         );
       }
   after_words n (escape m before fits slash stays) =
@@ -183,9 +183,9 @@ module _ (a : List ℕ → ℕ → Type 0) (t : Bool) (source : List ℕ) where
       drop_more source m 0 (omega (arith, fits)) ∙ ap (λ b. b ∷ drop (m + 1) source) slash
       ∙ ap (λ z. 92 ∷ z) (drop_more source (m + 1) 0 (omega (arith, fits))) in
       let past = past_escape t (words_tally w.skipped m) c (drop (m + 1 + 1) source) stays in
-      let place : m + backslash_len (drop m source) ≡ m + 2 = ap (λ k. m + k) (ap backslash_len parts ∙ past.0) in
+      let offset : m + backslash_len (drop m source) ≡ m + 2 = ap (λ k. m + k) (ap backslash_len parts ∙ past.0) in
       let tally = ap (tally_past_backslash t (words_tally w.skipped m)) parts ∙ past.1 in
-      let next : TalliedAt (m + 2) (word_tally s) = subst (λ x. x) (λ i. TalliedAt (place i) (tally i))
+      let next : TalliedAt (m + 2) (word_tally s) = subst (λ x. x) (λ i. TalliedAt (offset i) (tally i))
       (past_slash a t source m (words_tally w.skipped m) 92 w.tallied (omega (arith, fits)) slash refl) in
       let end : m + 1 + 1 ≡ m + 2 = omega arith in
       record {

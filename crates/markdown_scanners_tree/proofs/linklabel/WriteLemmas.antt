@@ -38,7 +38,7 @@ label_written a source t escaped seen ix rest w r pushed here o s label l =
 same_get : (xs : List ℕ) (m n : ℕ) → m ≡ n → get_or xs m 0 ≡ get_or xs n 0
 same_get xs m n e = ap (λ k. get_or xs k 0) e
 
--- a part of the text up to a place, and up to the next one
+-- a part of the text up to an offset, and up to the next one
 pub slice_more : (text : List ℕ) (mark ix b : ℕ) (bs : List ℕ) → mark ≤ ix → drop ix text ≡ b ∷ bs
     → take (ix + 1 - mark) (drop mark text) ≡ take (ix - mark) (drop mark text) ++ b ∷ []
 slice_more text mark ix b bs h e =

@@ -29,8 +29,8 @@ kept_follows a ix (b ∷ bs) skips s = by (is_line_ending b) refl skips
     by false h skips = ap (pipe_at ix) (kept_from-in_line ix b bs skips h)
         ∙ follows_byte ix b bs (kept_from (ix + 1) bs skips)
 
-closing_no_pipe : (k : KeptByte) (ix : ℕ) → (k.byte == 93) ≡ true → (k.byte == 124 && k.place == ix) ≡ false
-closing_no_pipe k ix e = ap (λ b. b == 124 && k.place == ix) (eqb-true k.byte 93 e)
+closing_no_pipe : (k : KeptByte) (ix : ℕ) → (k.byte == 93) ≡ true → (k.byte == 124 && k.offset == ix) ≡ false
+closing_no_pipe k ix e = ap (λ b. b == 124 && k.offset == ix) (eqb-true k.byte 93 e)
 
 -- and so does what stands before the bracket
 content_first : (e : Bool) (ix : ℕ) (kept : List KeptByte) (b : Bracketed) → bracketed_after e kept ≡ Some b
@@ -38,34 +38,34 @@ content_first : (e : Bool) (ix : ℕ) (kept : List KeptByte) (b : Bracketed) →
 content_first true ix [] b h = cc
 content_first true ix (k ∷ ks) b h = by (bracketed (kept_units ks)) h
   where
-    by : (o : Option Bracketed) → preceded (k ∷ []) o ≡ Some b → pipe_at ix b.content ≡ (k.byte == 124 && k.place == ix)
+    by : (o : Option Bracketed) → preceded (k ∷ []) o ≡ Some b → pipe_at ix b.content ≡ (k.byte == 124 && k.offset == ix)
     by None g = cc
     by (Some o) g = (let c : k ∷ o.content ≡ b.content = cc in ap (pipe_at ix) (sym c))
 content_first false ix [] b h = cc
 content_first false ix (k ∷ []) b h = one (k.byte == 93) refl (k.byte == 91) h
   where
     one : (x : Bool) → (k.byte == 93) ≡ x → (y : Bool)
-        → cond x (Some (record { content = []; close = k.place })) (cond y None None) ≡ Some b
-        → pipe_at ix b.content ≡ (k.byte == 124 && k.place == ix)
+        → cond x (Some (record { content = []; close = k.offset })) (cond y None None) ≡ Some b
+        → pipe_at ix b.content ≡ (k.byte == 124 && k.offset == ix)
     one true e y g = (let c : [] ≡ b.content = cc in ap (pipe_at ix) (sym c) ∙ sym (closing_no_pipe k ix e))
     one false e true g = cc
     one false e false g = cc
 content_first false ix (k ∷ l ∷ ks) b h = by (k.byte == 92 && is_punctuation l.byte) h
   where
     more : (o : Option Bracketed) (others : List KeptByte) → preceded (k ∷ others) o ≡ Some b
-        → pipe_at ix b.content ≡ (k.byte == 124 && k.place == ix)
+        → pipe_at ix b.content ≡ (k.byte == 124 && k.offset == ix)
     more None others g = cc
     more (Some o) others g = (let c : k ∷ (others ++ o.content) ≡ b.content = cc in ap (pipe_at ix) (sym c))
 
     one : (o : Option Bracketed) (x : Bool) → (k.byte == 93) ≡ x → (y : Bool)
-        → cond x (Some (record { content = []; close = k.place })) (cond y None (preceded (k ∷ []) o)) ≡ Some b
-        → pipe_at ix b.content ≡ (k.byte == 124 && k.place == ix)
+        → cond x (Some (record { content = []; close = k.offset })) (cond y None (preceded (k ∷ []) o)) ≡ Some b
+        → pipe_at ix b.content ≡ (k.byte == 124 && k.offset == ix)
     one o true e y g = (let c : [] ≡ b.content = cc in ap (pipe_at ix) (sym c) ∙ sym (closing_no_pipe k ix e))
     one o false e true g = cc
     one o false e false g = more o [] g
 
     by : (v : Bool) → bracketed (cond v ((k ∷ l ∷ []) ∷ kept_units ks) ((k ∷ []) ∷ kept_units (l ∷ ks))) ≡ Some b
-        → pipe_at ix b.content ≡ (k.byte == 124 && k.place == ix)
+        → pipe_at ix b.content ≡ (k.byte == 124 && k.offset == ix)
     by true g = more (bracketed (kept_units ks)) (l ∷ []) g
     by false g = one (bracketed (kept_units (l ∷ ks))) (k.byte == 93) refl (k.byte == 91) g
 

@@ -17,14 +17,14 @@ take_next : (xs : List ℕ) (n b : ℕ) (bs : List ℕ) → drop n xs ≡ b ∷ 
 take_next xs n b bs e = (let at = byte_at xs n b bs e in
     take_more xs n 0 at.0 ∙ ap (λ x. take n xs ++ x ∷ []) at.1)
 
--- a part of the text up to a place, and the bytes after it
+-- a part of the text up to an offset, and the bytes after it
 pub slice_run : (text : List ℕ) (mark ix jx len : ℕ) → mark ≤ ix → jx ≡ ix + len
     → take (ix - mark) (drop mark text) ++ take len (drop ix text) ≡ take (jx - mark) (drop mark text)
 slice_run text mark ix jx len h e =
-    let place : mark + (ix - mark) ≡ ix = omega (arith, h) in
+    let offset : mark + (ix - mark) ≡ ix = omega (arith, h) in
     let size : (ix - mark) + len ≡ jx - mark = omega (arith, h, e) in
     ap (λ z. take (ix - mark) (drop mark text) ++ take len z)
-    (sym (drop-drop (ix - mark) mark text ∙ ap (λ n. drop n text) place))
+    (sym (drop-drop (ix - mark) mark text ∙ ap (λ n. drop n text) offset))
     ∙ sym (take-add (ix - mark) len (drop mark text)) ∙ same_take (drop mark text) ((ix - mark) + len) (jx - mark) size
 
 -- the state after a run
@@ -48,15 +48,15 @@ module _ (a : List ℕ → ℕ → Type 0) (source : List ℕ) (t escaped : Bool
   past_run len escapes (more n byte before after r k) =
       let p = past_run n before r in
       let next = byte_rest rest n byte k.word.others k.word.parts in
-      let place : (ix + n) + 1 ≡ ix + (n + 1) = omega arith in
+      let offset : (ix + n) + 1 ≡ ix + (n + 1) = omega arith in
       let text : (pushed ++ take n rest) ++ cond (starts_dropped t (drop n rest)) [] (byte ∷ [])
       ≡ pushed ++ take (n + 1) rest =
       ap (λ v. (pushed ++ take n rest) ++ cond v [] (byte ∷ [])) k.kept ∙ append_assoc pushed (take n rest) (byte ∷ [])
       ∙ ap (λ z. pushed ++ z) (sym (take_next rest n byte k.word.others k.word.parts)) in record {
         seen = p.seen ++ in_line byte (ix + n) ∷ [];
-        at = subst (λ m. IsAt a source after (p.seen ++ in_line byte (ix + n) ∷ []) m (drop (n + 1) rest)) place
+        at = subst (λ m. IsAt a source after (p.seen ++ in_line byte (ix + n) ∷ []) m (drop (n + 1) rest)) offset
             (after_word _ _ _ _ _ _ p.at _ _ _ k.word next);
-        written = subst (λ z. z) (λ i. Written t (p.seen ++ in_line byte (ix + n) ∷ []) (place i) (drop (n + 1) rest)
+        written = subst (λ z. z) (λ i. Written t (p.seen ++ in_line byte (ix + n) ∷ []) (offset i) (drop (n + 1) rest)
             true false (text i)) (word_follows _ _ _ _ _ _ _ _ _ _ _ k.word next p.written);
       }
 
@@ -100,12 +100,12 @@ module _ (a : List ℕ → ℕ → Type 0) (source : List ℕ) (t escaped : Bool
         white = in_line_white b is;
         no_ending = in_line_stays b is;
       } in
-      let place : (ix + n) + 1 ≡ ix + suc n = omega arith in
+      let offset : (ix + n) + 1 ≡ ix + suc n = omega arith in
       let next : n + 1 ≡ suc n = omega arith in
       let later : drop (n + 1) rest ≡ drop (suc n) rest = ap (λ m. drop m rest) next in record {
         seen = p.seen ++ in_line b (ix + n) ∷ [];
-        at = subst (λ z. z) (λ i. IsAt a source escaped (p.seen ++ in_line b (ix + n) ∷ []) (place i) (later i))
+        at = subst (λ z. z) (λ i. IsAt a source escaped (p.seen ++ in_line b (ix + n) ∷ []) (offset i) (later i))
             (after_space _ _ _ _ _ _ p.at _ _ o refl);
-        written = subst (λ z. z) (λ i. Written t (p.seen ++ in_line b (ix + n) ∷ []) (place i) (later i) w true pushed)
+        written = subst (λ z. z) (λ i. Written t (p.seen ++ in_line b (ix + n) ∷ []) (offset i) (later i) w true pushed)
             (space_written _ _ _ _ _ _ _ _ _ o refl p.written);
       }

@@ -8,7 +8,7 @@ pub use Rattle.markdown_scanners_tree.proofs.scanners.html_tag.OneTag.{one_tag, 
 pub use Rattle.markdown_scanners_tree.proofs.scanners.indent.IndentLemmas.{one_indent}
 pub use Rattle.markdown_scanners_tree.proofs.scanners.lines.BlankLemmas.{blank_lines, one_blank_line}
 pub use Rattle.markdown_scanners_tree.proofs.scanners.lines.OneQuoteStart.{one_quote_start}
-pub use Rattle.markdown_scanners_tree.proofs.scanners.links.LinkLemmas.{one_uri, place_of_rest}
+pub use Rattle.markdown_scanners_tree.proofs.scanners.links.LinkLemmas.{one_uri, offset_of_rest}
 pub use Rattle.markdown_scanners_tree.proofs.scanners.links.OneDestination.{one_destination}
 pub use Rattle.markdown_scanners_tree.proofs.scanners.list_items.OneItem.{one_item}
 pub use Rattle.markdown_scanners_tree.proofs.scanners.metadata.OneMetadata.{one_metadata_block, one_closing_metadata}

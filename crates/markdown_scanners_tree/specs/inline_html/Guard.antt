@@ -7,7 +7,7 @@ use Rattle.markdown_scanners_tree.specs.inline_html.CountedText.{CountedBytes, p
 use Rattle.markdown_scanners_tree.specs.inline_html.InlineHtml.{Kind, Comment, Cdata, Declaration, Processing, Opening, Begins, Hyphen}
 use Rattle.markdown_scanners_tree.specs.inline_html.InlineHtml.{Bracket, Nothing, closer, first_closer, closed_at, find_at, cost}
 
--- the guard has a scan at place p search for no closer of the kind
+-- the guard has a scan at offset p search for no closer of the kind
 abbrev pub is_stopped : HtmlScanGuard → ℕ → Kind → Bool
 is_stopped guard p Comment = nat_lt p guard.comment
 is_stopped guard p Cdata = nat_lt p guard.cdata
@@ -26,7 +26,7 @@ abbrev pub number_after : List ℕ → ℕ → Option ℕ → ℕ
 number_after text number None = length text
 number_after text number (Some hit) = number
 
--- after a search: the text's length where no closer was found; of a comment's closer the place of
+-- after a search: the text's length where no closer was found; of a comment's closer the offset of
 -- its second hyphen
 abbrev pub searched_guard : List ℕ → HtmlScanGuard → Kind → Option ℕ → HtmlScanGuard
 searched_guard text guard kind None = with_number guard kind (length text)
@@ -73,7 +73,7 @@ IsTrueGuard text guard p =
     (kind : Kind) → is_stopped guard p kind ≡ true → Nowhere (OccursAt text (closer kind)) p (length text + 1)
 
 -- A scan at p, just after an opener, answers the find, and leaves the guard true at each later
--- place that is not below the find.
+-- offset that is not below the find.
 pub record IsTrueScan (text : List ℕ) (p : ℕ) (answer : Option ℕ) (after : HtmlScanGuard) : Type 0 where
   pub finds : answer ≡ find_at text p
   pub stays_true : (q : ℕ) → p < q → IfSome answer (λ found. found ≤ q) → IsTrueGuard text after q

@@ -11,7 +11,7 @@ use Rattle.markdown_scanners_tree.specs.scanners.list_items.ListMarker.{Marker, 
 
 -- the start of a line
 abbrev pub start_of : List ℕ → LineState
-start_of line = record { bytes = line; place = 0; pending = 0; phase = 0 }
+start_of line = record { bytes = line; offset = 0; pending = 0; phase = 0 }
 
 -- `scan_listitem` finds an item, with this bullet or delimiter and this start number
 abbrev pub HasItem : List ℕ → ℕ → ℕ → Type 0
@@ -53,10 +53,10 @@ unfoldable pub is_item_alone : List ℕ → Bool
 is_item_alone line = is_break_like_item line || is_before_vertical line (list_marker line)
 
 -- the spaces at the front stand before a tab
-abbrev pub is_tab_behind_spaces : List ℕ → Bool
-is_tab_behind_spaces rest = begins_with (λ b. b == tab) (drop (leading_spaces rest) rest)
+abbrev pub is_tab_after_spaces : List ℕ → Bool
+is_tab_after_spaces rest = begins_with (λ b. b == tab) (drop (leading_spaces rest) rest)
 
 -- such spaces, or that tab alone, stand after the marker at the front
 abbrev pub is_before_tab : List ℕ → Option Marker → Bool
 is_before_tab line None = false
-is_before_tab line (Some m) = is_tab_behind_spaces (drop m.width line)
+is_before_tab line (Some m) = is_tab_after_spaces (drop m.width line)

@@ -5,25 +5,25 @@ use Rattle.markdown_scanners_tree.specs.scanners.Breaks.{is_thematic_break, brea
 use Rattle.markdown_scanners_tree.specs.scanners.list_items.ListMarker.{is_bullet}
 use Rattle.markdown_scanners_tree.specs.declared.line.known_breaks.KnownBreaks.{KnownBreaks}
 
--- It is true of the bytes from a place on: no thematic break begins there or later before the one
+-- It is true of the bytes from an offset on: no thematic break begins there or later before the one
 -- number, and one begins just before the other.
 abbrev pub AreTrueBreaks : List ℕ → KnownBreaks → ℕ → Type 0
-AreTrueBreaks bytes known place =
-    ((k : ℕ) → place ≤ k → k < known.none_before → is_thematic_break (drop k bytes) ≡ false)
-    × ((k : ℕ) → known.behind_break ≡ k + 1 → is_thematic_break (drop k bytes) ≡ true)
+AreTrueBreaks bytes known offset =
+    ((k : ℕ) → offset ≤ k → k < known.none_before → is_thematic_break (drop k bytes) ≡ false)
+    × ((k : ℕ) → known.after_break ≡ k + 1 → is_thematic_break (drop k bytes) ≡ true)
 
--- What is known once it was asked whether a thematic break begins at the place. It stays where that
+-- What is known once it was asked whether a thematic break begins at the offset. It stays where that
 -- was known, or no byte stands there. Else a break that begins there is known, or how far the line can
 -- be read as one: none begins before that.
 abbrev pub learnt_at : List ℕ → ℕ → KnownBreaks → KnownBreaks
-learnt_at bytes place known =
-    if nat_lt place known.none_before || known.behind_break == place + 1 || nat_le (length bytes) place
+learnt_at bytes offset known =
+    if nat_lt offset known.none_before || known.after_break == offset + 1 || nat_le (length bytes) offset
     then known
-    else if is_thematic_break (drop place bytes)
-    then record known { behind_break = place + 1 }
-    else record known { none_before = place + break_length (drop place bytes) }
+    else if is_thematic_break (drop offset bytes)
+    then record known { after_break = offset + 1 }
+    else record known { none_before = offset + break_length (drop offset bytes) }
 
 -- the same of a list marker: only a bullet may begin a break
 abbrev pub learnt_by_marker : List ℕ → ℕ → KnownBreaks → KnownBreaks
-learnt_by_marker bytes place known =
-    if begins_with is_bullet (drop place bytes) then learnt_at bytes place known else known
+learnt_by_marker bytes offset known =
+    if begins_with is_bullet (drop offset bytes) then learnt_at bytes offset known else known

@@ -58,11 +58,11 @@ item_outcome_after indent m after =
     let content = indent + m.width + 1 + further in
     record { answer = Some (m.delimiter, m.start, content); state = after_space further after }
 
--- a column of space, pending or not, or the line's end at the place
+-- a column of space, pending or not, or the line's end at the offset
 abbrev pub space_or_end_follows : LineState → Bool
 space_or_end_follows s = nat_lt 0 (leading_spaces (rest_of s)) || is_at_line_end (unscanned s)
 
--- a list item's marker where one stands at the place: the marker, then one column of space or the
+-- a list item's marker where one stands at the offset: the marker, then one column of space or the
 -- line's end, then the further columns (5.2)
 abbrev pub item_outcome_by : ℕ → LineState → Option Marker → Outcome (ℕ × ℕ × ℕ)
 item_outcome_by indent s None = not_found s

@@ -12,12 +12,12 @@ abbrev pub key_bytes : List ℕ → List ℕ
 key_bytes text = flat_map encode_utf8 (label_key text)
 
 -- what follows the bytes that are gathered, with these in blocks of sixteen; the last may be shorter
-abbrev pub blocks_behind : List ℕ → List ℕ → List (List ℕ)
-blocks_behind gathered [] = gathered ∷ []
-blocks_behind gathered (b ∷ bs) =
-    if length gathered == 16 then gathered ∷ blocks_behind (b ∷ []) bs
-    else blocks_behind (gathered ++ (b ∷ [])) bs
+abbrev pub blocks_after : List ℕ → List ℕ → List (List ℕ)
+blocks_after gathered [] = gathered ∷ []
+blocks_after gathered (b ∷ bs) =
+    if length gathered == 16 then gathered ∷ blocks_after (b ∷ []) bs
+    else blocks_after (gathered ++ (b ∷ [])) bs
 
 -- bytes in blocks, as a hasher is fed with them
 abbrev pub blocks : List ℕ → List (List ℕ)
-blocks bytes = blocks_behind [] bytes
+blocks bytes = blocks_after [] bytes

@@ -13,7 +13,7 @@ use Rattle.markdown_scanners_tree.specs.scanners.Escapes.{units_by}
 abbrev pub kept_units : List KeptByte → List (List KeptByte)
 kept_units ks = units_by (λ k. k.byte) ks
 
--- what is between the brackets, and the place of the closing one
+-- what is between the brackets, and the offset of the closing one
 pub record Bracketed : Type 0 where
   pub content : List KeptByte
   pub close : ℕ
@@ -28,7 +28,7 @@ preceded ks (Some b) = Some (record { content = ks ++ b.content; close = b.close
 abbrev pub bracketed : List (List KeptByte) → Option Bracketed
 bracketed [] = None
 bracketed ((k ∷ []) ∷ units) =
-    if k.byte == right_bracket then Some (record { content = []; close = k.place })
+    if k.byte == right_bracket then Some (record { content = []; close = k.offset })
     else if k.byte == left_bracket then None
     else preceded (k ∷ []) (bracketed units)
 bracketed (unit ∷ units) = preceded unit (bracketed units)
@@ -58,23 +58,23 @@ white_runs = runs_of is_white
 abbrev pub characters : List KeptByte → ℕ
 characters = count_by (λ k. not (is_between 128 191 k.byte))
 
--- the first byte is a pipe, at this place
+-- the first byte is a pipe, at this offset
 abbrev pub pipe_at : ℕ → List KeptByte → Bool
-pipe_at place [] = false
-pipe_at place (k ∷ ks) = k.byte == vertical_line && k.place == place
+pipe_at offset [] = false
+pipe_at offset (k ∷ ks) = k.byte == vertical_line && k.offset == offset
 
 -- without the one backslash that stands in the source directly before a pipe (GitHub Flavored
 -- Markdown 0.29, section 4.10, tables)
 abbrev pub without_pipe_backslashes : List KeptByte → List KeptByte
 without_pipe_backslashes [] = []
 without_pipe_backslashes (k ∷ ks) =
-    if k.byte == backslash && pipe_at (k.place + 1) ks then without_pipe_backslashes ks
+    if k.byte == backslash && pipe_at (k.offset + 1) ks then without_pipe_backslashes ks
     else k ∷ without_pipe_backslashes ks
 
 -- a pipe stands in the source directly after a backslash
 abbrev pub has_pipe_backslash : List KeptByte → Bool
 has_pipe_backslash [] = false
-has_pipe_backslash (k ∷ ks) = (k.byte == backslash && pipe_at (k.place + 1) ks) || has_pipe_backslash ks
+has_pipe_backslash (k ∷ ks) = (k.byte == backslash && pipe_at (k.offset + 1) ks) || has_pipe_backslash ks
 
 -- one space alone
 abbrev pub is_one_space : List KeptByte → Bool

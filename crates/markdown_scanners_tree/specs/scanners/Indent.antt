@@ -18,15 +18,15 @@ all_go_on limit column (b ∷ bs) =
 
 -- The indent of a text: a prefix of spaces and tabs that go on, and the byte that stops them, or
 -- the end.
--- `place` is the place of the last byte that was looked at, and a space that fills the limit is
+-- `offset` is the offset of the last byte that was looked at, and a space that fills the limit is
 -- counted.
-pub record IsIndent (text : List ℕ) (limit place total : ℕ) : Type 0 where
+pub record IsIndent (text : List ℕ) (limit offset total : ℕ) : Type 0 where
   pub prefix : List ℕ
   pub rest : List ℕ
   pub parts : text ≡ prefix ++ rest
   pub passed : IsTrue (all_go_on limit 0 prefix)
   pub stopped : IsTrue
       (ends_or_begins_with (λ b. not (goes_on limit (column_past 0 prefix) b)) rest)
-  pub last_place : place
+  pub last_offset : offset
       ≡ (if begins_with (λ b. true) rest then length prefix else length prefix - 1)
   pub counted : total ≡ column_past 0 prefix + (if begins_with (λ b. b == space) rest then 1 else 0)

@@ -52,9 +52,9 @@ Interrupts bytes =
     ⊎ (IsInterruptingItem bytes ⊎ IsInterruptingHtml bytes))))
 
 -- the line after at most three spaces
-abbrev pub behind_indent : List ℕ → List ℕ
-behind_indent line = drop (prefix_len (λ b. b == space) (take 3 line)) line
+abbrev pub after_indent : List ℕ → List ℕ
+after_indent line = drop (prefix_len (λ b. b == space) (take 3 line)) line
 
 -- The line can interrupt a paragraph.
 abbrev pub InterruptsParagraph : List ℕ → Type 0
-InterruptsParagraph line = Interrupts (behind_indent line)
+InterruptsParagraph line = Interrupts (after_indent line)

@@ -8,7 +8,7 @@ use Rattle.markdown_scanners_tree.specs.Bytes.{begins_with}
 abbrev pub is_no_line_feed : ℕ → Bool
 is_no_line_feed b = not (b == line_feed)
 
--- the place after the first LF, or the length where there is none
+-- the offset after the first LF, or the length where there is none
 abbrev pub next_line : List ℕ → ℕ
 next_line bytes = min (length bytes) (prefix_len is_no_line_feed bytes + 1)
 

@@ -2,7 +2,7 @@
 ghost use Rattle.std.specs.Prelude.{◌≡◌, ◌<◌, ◌+◌, ◌^◌, ◌&&◌, length, slice_get};
 ghost use Rattle.memchr.specs.Find.{FindsNeedle, occurs_at};
 ghost use Rattle.markdown_scanners_tree.specs.inline_html.CountedText.{CountedBytes, passing, searched_bytes};
-ghost use Rattle.markdown_scanners_tree.specs.inline_html.InlineHtml.{first_place, opener_before};
+ghost use Rattle.markdown_scanners_tree.specs.inline_html.InlineHtml.{first_offset, opener_before};
 
 use memchr::{memchr, memmem};
 use std::marker::Model;
@@ -42,50 +42,50 @@ impl<'a> CountedText<'a> {
         self.passed
     }
 
-    /// The mark, `!` or `?`, of the opener `<!` or `<?` that ends at `place`; None where none does.
+    /// The mark, `!` or `?`, of the opener `<!` or `<?` that ends at `offset`; None where none does.
     /// Nothing is counted.
-    pub fn opener_before(&self, place: usize) -> Option<u8>
-        ensures answer { result ≡ opener_before self.now.text place }
+    pub fn opener_before(&self, offset: usize) -> Option<u8>
+        ensures answer { result ≡ opener_before self.now.text offset }
         ensures fits_usize { length self.now.text < 2 ^ 64 }
     {
-        if place < 2 || place > self.bytes.len() || self.bytes[place - 2] != b'<' {
+        if offset < 2 || offset > self.bytes.len() || self.bytes[offset - 2] != b'<' {
             return None;
         }
-        match self.bytes[place - 1] {
+        match self.bytes[offset - 1] {
             b'!' => Some(b'!'),
             b'?' => Some(b'?'),
             _ => None,
         }
     }
 
-    /// The byte at `place`, or None at the end of the text and past it. It counts as one byte.
-    pub fn look(&mut self, place: usize) -> Option<u8>
+    /// The byte at `offset`, or None at the end of the text and past it. It counts as one byte.
+    pub fn look(&mut self, offset: usize) -> Option<u8>
         requires room { self.old.passed < 2 ^ 120 }
-        ensures answer { result ≡ slice_get self.old.text place }
+        ensures answer { result ≡ slice_get self.old.text offset }
         ensures counts { self.new ≡ passing self.old 1 }
         ensures fits_usize { length self.old.text < 2 ^ 64 }
     {
         self.passed += 1;
-        self.bytes.get(place).copied()
+        self.bytes.get(offset).copied()
     }
 
-    /// Whether `part` stands at `place`. It counts as the length of `part`, whatever the answer.
-    pub fn starts(&mut self, place: usize, part: &[u8]) -> bool
+    /// Whether `part` stands at `offset`. It counts as the length of `part`, whatever the answer.
+    pub fn starts(&mut self, offset: usize, part: &[u8]) -> bool
         requires room { self.old.passed < 2 ^ 120 }
-        ensures answer { result ≡ occurs_at self.old.text part.now place }
+        ensures answer { result ≡ occurs_at self.old.text part.now offset }
         ensures counts { self.new ≡ passing self.old (length part.now) }
     {
         self.passed += part.len() as u128;
-        place <= self.bytes.len() && self.bytes[place..].starts_with(part)
+        offset <= self.bytes.len() && self.bytes[offset..].starts_with(part)
     }
 
-    /// The first place from `from` on at which `needle`, which isn't empty, stands; None where it
+    /// The first offset from `from` on at which `needle`, which isn't empty, stands; None where it
     /// stands at none. It counts the bytes from `from` to the end of that needle, or to the end of
     /// the text; past that end, none.
     pub fn find(&mut self, needle: &[u8], from: usize) -> Option<usize>
         requires some_needle { 0 < length needle.now }
         requires room { self.old.passed < 2 ^ 120 }
-        ensures answer { result ≡ first_place self.old.text needle.now from }
+        ensures answer { result ≡ first_offset self.old.text needle.now from }
         ensures first { FindsNeedle self.old.text needle.now from result }
         ensures counts { self.new
             ≡ passing self.old (searched_bytes self.old.text needle.now from result) }
@@ -107,7 +107,7 @@ impl<'a> CountedText<'a> {
     }
 }
 
-// The first place at which the needle, which isn't empty, stands. The first of its last bytes is
+// The first offset at which the needle, which isn't empty, stands. The first of its last bytes is
 // tried alone: that is where a closer mostly ends, and a search for a substring takes longer. Not
 // inlined, since a scan that its guard stops would pay for it too.
 #[inline(never)]
@@ -119,13 +119,13 @@ fn find_needle(haystack: &[u8], needle: &[u8]) -> Option<usize>
     if haystack.len() <= before {
         return None;
     }
-    let place = memchr(needle[before], &haystack[before..])?;
-    if haystack[place..].starts_with(needle) {
-        return Some(place);
+    let offset = memchr(needle[before], &haystack[before..])?;
+    if haystack[offset..].starts_with(needle) {
+        return Some(offset);
     }
-    let after = place + 1;
+    let after = offset + 1;
     match memmem::find(&haystack[after..], needle) {
-        Some(offset) => Some(after + offset),
+        Some(found) => Some(after + found),
         None => None,
     }
 }

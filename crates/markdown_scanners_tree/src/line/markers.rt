@@ -38,11 +38,11 @@ impl LineStart<'_> {
         ensures answer { result ≡ (item_outcome indent self.old).answer }
         ensures width { IfSome result (λ r. r.2 ≤ indent + 14) }
 
-        // The place after the call; it stays where no item's marker stands.
+        // The offset after the call; it stays where no item's marker stands.
         ensures state { self.new ≡ (item_outcome indent self.old).state }
         ensures bytes { self.new.bytes ≡ self.old.bytes }
-        ensures forward { self.old.place ≤ self.new.place }
-        ensures rises { IfSome result (λ _. self.old.place < self.new.place) }
+        ensures forward { self.old.offset ≤ self.new.offset }
+        ensures rises { IfSome result (λ _. self.old.offset < self.new.offset) }
         ensures unchanged { IfNone result (self.new ≡ self.old) }
 
         // With nothing pending the call is one on the line with its tabs written out.
@@ -65,29 +65,29 @@ impl LineStart<'_> {
     ) -> Option<(u8, u64, usize)>
         requires { indent ≤ usize.MAX - 16 }
 
-        // Where what is known is true of the line from the place on.
-        ensures answer { AreTrueBreaks self.old.bytes breaks.old self.old.place
+        // Where what is known is true of the line from the offset on.
+        ensures answer { AreTrueBreaks self.old.bytes breaks.old self.old.offset
             → result ≡ (item_outcome indent self.old).answer }
-        ensures state { AreTrueBreaks self.old.bytes breaks.old self.old.place
+        ensures state { AreTrueBreaks self.old.bytes breaks.old self.old.offset
             → self.new ≡ (item_outcome indent self.old).state }
-        ensures truth { AreTrueBreaks self.old.bytes breaks.old self.old.place
-            → AreTrueBreaks self.new.bytes breaks.new self.new.place }
+        ensures truth { AreTrueBreaks self.old.bytes breaks.old self.old.offset
+            → AreTrueBreaks self.new.bytes breaks.new self.new.offset }
 
         // With nothing pending the call is then one on the line with its tabs written out.
-        ensures step { AreTrueBreaks self.old.bytes breaks.old self.old.place
+        ensures step { AreTrueBreaks self.old.bytes breaks.old self.old.offset
             → self.old.pending ≡ 0
             → IsPlainStep (LineCall.List indent) (LineAnswer.List result) self.old self.new }
 
         // Whatever is known: what is read to tell it is learnt.
         ensures learnt { breaks.new
-            ≡ learnt_by_marker self.old.bytes self.old.place breaks.old }
+            ≡ learnt_by_marker self.old.bytes self.old.offset breaks.old }
         ensures width { IfSome result (λ r. r.2 ≤ indent + 14) }
         ensures bytes { self.new.bytes ≡ self.old.bytes }
-        ensures forward { self.old.place ≤ self.new.place }
-        ensures rises { IfSome result (λ _. self.old.place < self.new.place) }
+        ensures forward { self.old.offset ≤ self.new.offset }
+        ensures rises { IfSome result (λ _. self.old.offset < self.new.offset) }
         ensures unchanged { IfNone result (self.new ≡ self.old) }
     {
-        let (width, delimiter, start) = marker_at(self.bytes, self.place, breaks)?;
+        let (width, delimiter, start) = marker_at(self.bytes, self.offset, breaks)?;
         self.pass_list_marker(indent, width, delimiter, start)
     }
 
@@ -105,11 +105,11 @@ impl LineStart<'_> {
         ensures answer { result ≡ (definition_outcome indent self.old).answer }
         ensures width { IfSome result (λ width. width ≤ indent + 5) }
 
-        // The place after the call; it stays where no definition's marker stands.
+        // The offset after the call; it stays where no definition's marker stands.
         ensures state { self.new ≡ (definition_outcome indent self.old).state }
         ensures bytes { self.new.bytes ≡ self.old.bytes }
-        ensures forward { self.old.place ≤ self.new.place }
-        ensures rises { IfSome result (λ _. self.old.place < self.new.place) }
+        ensures forward { self.old.offset ≤ self.new.offset }
+        ensures rises { IfSome result (λ _. self.old.offset < self.new.offset) }
         ensures unchanged { IfNone result (self.new ≡ self.old) }
 
         // With nothing pending the call is one on the line with its tabs written out.
@@ -125,25 +125,25 @@ impl LineStart<'_> {
         Some(indent + 1 + columns)
     }
 
-    // The list marker at the place, if one stands there: its width, its bullet or delimiter, and
+    // The list marker at the offset, if one stands there: its width, its bullet or delimiter, and
     // its start number.
     fn list_marker(&mut self) -> Option<(usize, u8, u64)>
         ensures found { IfSome result (λ r. list_marker (unscanned self.old)
             ≡ Some (record { width = r.0; delimiter = r.1; start = r.2 })) }
         ensures marker { IfSome result (λ r. IsListMarker (take r.0 (unscanned self.old)) r.1 r.2) }
-        ensures inside { IfSome result (λ r. self.old.place + r.0 ≤ length self.old.bytes) }
+        ensures inside { IfSome result (λ r. self.old.offset + r.0 ≤ length self.old.bytes) }
         ensures width { IfSome result (λ r. r.0 ≤ 10) }
         ensures filled { IfSome result (λ r. 0 < r.0) }
         ensures none { IfNone result (list_marker (unscanned self.old) ≡ None) }
 
-        // Nothing that is seen of the place changes.
+        // Nothing that is seen of the offset changes.
         ensures state { self.new ≡ self.old }
         ensures phase { self.old.phase < 4 }
     {
-        marker_at(self.bytes, self.place, &mut self.breaks)
+        marker_at(self.bytes, self.offset, &mut self.breaks)
     }
 
-    // Passes this list marker, which stands at the place, and the space that belongs to it, as
+    // Passes this list marker, which stands at the offset, and the space that belongs to it, as
     // `scan_list_marker_with_indent` does. It is inlined, so that it costs no call.
     #[inline(always)]
     fn pass_list_marker(
@@ -156,7 +156,7 @@ impl LineStart<'_> {
         requires indent { indent ≤ usize.MAX - 16 }
         requires short { width ≤ 10 }
         requires filled { 0 < width }
-        requires inside { self.old.place + width ≤ length self.old.bytes }
+        requires inside { self.old.offset + width ≤ length self.old.bytes }
 
         ensures answer { result ≡ (item_outcome_by indent self.old
             (Some (record { width = width; delimiter = delimiter; start = start }))).answer }
@@ -164,8 +164,8 @@ impl LineStart<'_> {
             (Some (record { width = width; delimiter = delimiter; start = start }))).state }
         ensures content { IfSome result (λ r. r.2 ≤ indent + 14) }
         ensures bytes { self.new.bytes ≡ self.old.bytes }
-        ensures forward { self.old.place ≤ self.new.place }
-        ensures rises { IfSome result (λ _. self.old.place < self.new.place) }
+        ensures forward { self.old.offset ≤ self.new.offset }
+        ensures rises { IfSome result (λ _. self.old.offset < self.new.offset) }
         ensures unchanged { IfNone result (self.new ≡ self.old) }
         ensures step { self.old.pending ≡ 0 → self.old.phase < 4
             → list_marker (unscanned self.old)
@@ -183,11 +183,11 @@ impl LineStart<'_> {
         Some((delimiter, start, indent + width + 1 + further))
     }
 
-    // Takes one column of space. Answers whether there was one, or else the line ends at the place.
+    // Takes one column of space. Answers whether there was one, or else the line ends at the offset.
     fn scan_space_or_end(&mut self) -> bool
         ensures answer { result ≡ space_or_end_follows self.old }
         ensures state { self.new ≡ after_space 1 self.old }
-        ensures forward { self.old.place ≤ self.new.place }
+        ensures forward { self.old.offset ≤ self.new.offset }
         ensures rest { rest_of self.new ≡ drop (space_within 1 self.old) (rest_of self.old) }
     {
         self.scan_column() || self.is_at_eol()
@@ -198,7 +198,7 @@ impl LineStart<'_> {
     fn scan_definition_space(&mut self) -> usize
         ensures columns { result ≡ definition_spaces (leading_spaces (rest_of self.old)) }
         ensures state { self.new ≡ after_space result self.old }
-        ensures forward { self.old.place ≤ self.new.place }
+        ensures forward { self.old.offset ≤ self.new.offset }
         ensures rest { rest_of self.new ≡ drop result (rest_of self.old) }
     {
         let before = self.copy();
@@ -216,10 +216,10 @@ impl LineStart<'_> {
     fn scan_marker_space(&mut self) -> usize
         ensures columns { result ≡ further_spaces self.old }
         ensures state { self.new ≡ after_space result self.old }
-        ensures forward { self.old.place ≤ self.new.place }
+        ensures forward { self.old.offset ≤ self.new.offset }
         ensures rest { rest_of self.new ≡ drop result (rest_of self.old) }
     {
-        let rest = &self.bytes[self.place..];
+        let rest = &self.bytes[self.offset..];
         let before = self.copy();
         let columns = self.scan_space_upto(4);
         if columns == 0 {
@@ -233,30 +233,30 @@ impl LineStart<'_> {
     }
 }
 
-// The list marker at a place of the line, if one stands there: its width, its bullet or delimiter,
+// The list marker at an offset of the line, if one stands there: its width, its bullet or delimiter,
 // and its start number. A bullet that begins a thematic break is none.
-fn marker_at(bytes: &[u8], place: usize, breaks: &mut KnownBreaks) -> Option<(usize, u8, u64)>
-    requires { place ≤ length bytes.now }
+fn marker_at(bytes: &[u8], offset: usize, breaks: &mut KnownBreaks) -> Option<(usize, u8, u64)>
+    requires { offset ≤ length bytes.now }
 
-    // Where what is known is true of the line from the place on.
-    ensures found { AreTrueBreaks bytes.now breaks.old place
-        → IfSome result (λ r. list_marker (drop place bytes.now)
+    // Where what is known is true of the line from the offset on.
+    ensures found { AreTrueBreaks bytes.now breaks.old offset
+        → IfSome result (λ r. list_marker (drop offset bytes.now)
         ≡ Some (record { width = r.0; delimiter = r.1; start = r.2 })) }
-    ensures none { AreTrueBreaks bytes.now breaks.old place
-        → IfNone result (list_marker (drop place bytes.now) ≡ None) }
-    ensures truth { AreTrueBreaks bytes.now breaks.old place
-        → (later : ℕ) → place ≤ later → AreTrueBreaks bytes.now breaks.new later }
+    ensures none { AreTrueBreaks bytes.now breaks.old offset
+        → IfNone result (list_marker (drop offset bytes.now) ≡ None) }
+    ensures truth { AreTrueBreaks bytes.now breaks.old offset
+        → (later : ℕ) → offset ≤ later → AreTrueBreaks bytes.now breaks.new later }
 
     // Whatever is known: what is read to tell it is learnt.
-    ensures learnt { breaks.new ≡ learnt_by_marker bytes.now place breaks.old }
-    ensures marker { IfSome result (λ r. IsListMarker (take r.0 (drop place bytes.now)) r.1 r.2) }
-    ensures inside { IfSome result (λ r. place + r.0 ≤ length bytes.now) }
+    ensures learnt { breaks.new ≡ learnt_by_marker bytes.now offset breaks.old }
+    ensures marker { IfSome result (λ r. IsListMarker (take r.0 (drop offset bytes.now)) r.1 r.2) }
+    ensures inside { IfSome result (λ r. offset + r.0 ≤ length bytes.now) }
     ensures width { IfSome result (λ r. r.0 ≤ 10) }
     ensures filled { IfSome result (λ r. 0 < r.0) }
 {
-    let (width, delimiter, start) = scan_marker(&bytes[place..])?;
+    let (width, delimiter, start) = scan_marker(&bytes[offset..])?;
     // A bullet alone is one byte wide.
-    if width == 1 && breaks.begins_break(bytes, place) {
+    if width == 1 && breaks.begins_break(bytes, offset) {
         return None;
     }
     Some((width, delimiter, start as u64))

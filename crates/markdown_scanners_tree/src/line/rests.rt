@@ -16,13 +16,13 @@ impl LineStart<'_> {
     pub fn rest_len(&self) -> u128
         ensures length { result ≡ length (rest_of self.now) }
         ensures within { result
-            ≤ self.now.pending + 4 * (length self.now.bytes - self.now.place) }
+            ≤ self.now.pending + 4 * (length self.now.bytes - self.now.offset) }
     {
-        self.pending as u128 + written_len(&self.bytes[self.place..], self.phase())
+        self.pending as u128 + written_len(&self.bytes[self.offset..], self.phase())
     }
 
     /// Writes what is left of the line at the front of the buffer: the pending columns as spaces,
-    /// then the bytes from the place on, where each tab before a line ending is written as spaces
+    /// then the bytes from the offset on, where each tab before a line ending is written as spaces
     /// up to its tab stop. Answers how many bytes that is.
     ///
     /// It shows the columns that the calls count. The text of a block keeps its tabs, and has spaces
@@ -55,7 +55,7 @@ impl LineStart<'_> {
             ≡ rest_of self.now ++ drop (length (rest_of self.now)) buffer.old }
     {
         write_out(
-            &self.bytes[self.place..],
+            &self.bytes[self.offset..],
             self.pending,
             self.phase(),
             buffer,

@@ -111,11 +111,11 @@ impl LineStart<'_> {
         ensures unchanged { OnErr result
             ((self.new ≡ self.old) × (breaks.new ≡ breaks.old)) }
 
-        // Where what is known is true of the line from the place on.
-        ensures step { AreTrueBreaks self.old.bytes breaks.old self.old.place
+        // Where what is known is true of the line from the offset on.
+        ensures step { AreTrueBreaks self.old.bytes breaks.old self.old.offset
             → IfOk result (λ answer. IsPlainStep call.now answer self.old self.new) }
-        ensures truth { AreTrueBreaks self.old.bytes breaks.old self.old.place
-            → AreTrueBreaks self.new.bytes breaks.new self.new.place }
+        ensures truth { AreTrueBreaks self.old.bytes breaks.old self.old.offset
+            → AreTrueBreaks self.new.bytes breaks.new self.new.offset }
 
         // Whatever is known: a call that doesn't ask for it is the same step, and what is read to
         // tell it is learnt.
@@ -124,7 +124,7 @@ impl LineStart<'_> {
         ensures learnt { IfOk result (λ _.
             breaks.new ≡ learnt_by_call call.now self.old breaks.old) }
         ensures bytes { self.new.bytes ≡ self.old.bytes }
-        ensures forward { self.old.place ≤ self.new.place }
+        ensures forward { self.old.offset ≤ self.new.offset }
     {
         if let Some(reason) = refused(self, call) {
             return Err(reason);
@@ -170,7 +170,7 @@ fn make_call(start: &mut LineStart, call: &LineCall) -> LineAnswer
     }
 }
 
-// The run that ends at this place.
+// The run that ends at this offset.
 fn finished(
     alloc: Global,
     start: &LineStart,
@@ -180,7 +180,7 @@ fn finished(
     ensures answers { IfOk result (λ run. run.answers.items ≡ answers.items) }
     ensures stop { IfOk result (λ run. run.stop ≡ stop) }
     ensures rest { IfOk result (λ run. run.rest.items ≡ rest_of start.now) }
-    ensures scanned { IfOk result (λ run. run.scanned ≡ start.now.place) }
+    ensures scanned { IfOk result (λ run. run.scanned ≡ start.now.offset) }
 {
     let rest = start.written_rest(alloc)?;
     let scanned = start.bytes_scanned();

@@ -37,8 +37,8 @@ fn write_lowercase<H: Hasher>(block: &[u8], state: &mut H)
     ensures { state.new ≡ H.write state.old (map to_ascii_lowercase block.now) }
 {
     let mut lower = [0; SIZE];
-    for (place, byte) in block.iter().enumerate() {
-        lower[place] = byte.to_ascii_lowercase();
+    for (offset, byte) in block.iter().enumerate() {
+        lower[offset] = byte.to_ascii_lowercase();
     }
     state.write(&lower[..block.len()]);
 }

@@ -16,7 +16,7 @@ pub(crate) struct KeyBlock {
 
 impl KeyBlock {
     ghost use Rattle.std.specs.Prelude.{◌≡◌, ◌∷◌, ◌++◌, [], List, ℕ, encode_utf8, fold, take};
-    ghost use Rattle.markdown_scanners_tree.specs.linklabel.Key.{blocks_behind};
+    ghost use Rattle.markdown_scanners_tree.specs.linklabel.Key.{blocks_after};
 
     /// No bytes.
     pub(crate) fn new() -> KeyBlock
@@ -31,8 +31,8 @@ impl KeyBlock {
     /// Adds a byte, after a write of those that fill a block.
     pub(crate) fn push<H: Hasher>(&mut self, byte: u8, state: &mut H)
         ensures { (rest : List ℕ)
-            → fold H.write state.new (blocks_behind (take self.new.len self.new.bytes) rest)
-            ≡ fold H.write state.old (blocks_behind (take self.old.len self.old.bytes)
+            → fold H.write state.new (blocks_after (take self.new.len self.new.bytes) rest)
+            ≡ fold H.write state.old (blocks_after (take self.old.len self.old.bytes)
             (byte ∷ rest)) }
     {
         if self.len == SIZE {
@@ -46,9 +46,9 @@ impl KeyBlock {
     /// Adds the bytes of a character.
     pub(crate) fn push_char<H: Hasher>(&mut self, c: char, state: &mut H)
         ensures { (rest : List ℕ)
-            → fold H.write state.new (blocks_behind (take self.new.len self.new.bytes) rest)
+            → fold H.write state.new (blocks_after (take self.new.len self.new.bytes) rest)
             ≡ fold H.write state.old
-            (blocks_behind (take self.old.len self.old.bytes) (encode_utf8 c ++ rest)) }
+            (blocks_after (take self.old.len self.old.bytes) (encode_utf8 c ++ rest)) }
     {
         let mut buffer = [0; 4];
         for byte in c.encode_utf8(&mut buffer).as_bytes() {
@@ -58,7 +58,7 @@ impl KeyBlock {
 
     /// Writes what is gathered.
     pub(crate) fn end<H: Hasher>(self, state: &mut H)
-        ensures { state.new ≡ fold H.write state.old (blocks_behind (take self.len self.bytes) []) }
+        ensures { state.new ≡ fold H.write state.old (blocks_after (take self.len self.bytes) []) }
     {
         state.write(&self.bytes[..self.len]);
     }

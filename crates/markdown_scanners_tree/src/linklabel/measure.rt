@@ -17,7 +17,7 @@ use crate::linklabel::word::is_ordinary;
 use crate::linklabel::words::leading_words;
 use crate::scanners::is_ascii_punctuation;
 
-// What the first pass over a label finds: the place of the closing bracket, how long the label is,
+// What the first pass over a label finds: the offset of the closing bracket, how long the label is,
 // and whether it stands in the text as it is.
 #[derive(Clone, Copy, Drop)]
 pub(crate) struct Measure {
@@ -154,22 +154,22 @@ fn ending_len(rest: &[u8]) -> usize
 }
 
 // How many spaces are read at once: a space, and one more where it stands after it.
-fn spaces_len(behind: &[u8]) -> usize
-    ensures { result ≡ spaces_len behind.now }
+fn spaces_len(after: &[u8]) -> usize
+    ensures { result ≡ spaces_len after.now }
 {
-    match behind {
+    match after {
         [b' ', ..] => 2,
         _ => 1,
     }
 }
 
 // The tally after a space, and one more where it stands after it.
-fn past_spaces(tally: Tally, behind: &[u8]) -> Tally
+fn past_spaces(tally: Tally, after: &[u8]) -> Tally
     requires { tally.left_out + 2 ≤ usize.MAX }
-    ensures { result ≡ tally_past_spaces tally behind.now }
+    ensures { result ≡ tally_past_spaces tally after.now }
 {
     let tally = tally.past_space(b' ');
-    match behind {
+    match after {
         [b' ', ..] => tally.past_space(b' '),
         _ => tally,
     }

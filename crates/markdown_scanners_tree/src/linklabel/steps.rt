@@ -15,16 +15,16 @@ pub(crate) fn is_dropped(rest: &[u8], is_in_table: bool) -> bool
 // How many bytes the handler skips at the start of a line, if the text goes on there.
 pub(crate) fn skip_at<F: Fn(&[u8]) -> Option<usize>>(
     bytes: &[u8],
-    place: usize,
+    offset: usize,
     handler: &F,
 ) -> Option<usize>
     requires callable { IsCallableAfterLineEndings F.Fn handler.now bytes.now }
     requires steady { IsSteadyAfterLines F.Fn handler.now bytes.now }
-    requires there { place ≤ length bytes.now }
-    requires after { IsAfterLineEnding bytes.now (drop place bytes.now) }
-    ensures found { SomeExactly (Skips F.Fn handler.now (drop place bytes.now)) result }
-    ensures only { IsOnly (Skips F.Fn handler.now (drop place bytes.now)) result }
-    ensures within { IfSome result (λ skip. place + skip ≤ length bytes.now) }
+    requires there { offset ≤ length bytes.now }
+    requires after { IsAfterLineEnding bytes.now (drop offset bytes.now) }
+    ensures found { SomeExactly (Skips F.Fn handler.now (drop offset bytes.now)) result }
+    ensures only { IsOnly (Skips F.Fn handler.now (drop offset bytes.now)) result }
+    ensures within { IfSome result (λ skip. offset + skip ≤ length bytes.now) }
 {
-    handler(&bytes[place..])
+    handler(&bytes[offset..])
 }

@@ -24,8 +24,8 @@ pub(crate) fn word_run(rest: &[u8], escaped: bool, is_in_table: bool) -> Run
     };
     while run.len < rest.len() {
         let byte = rest[run.len];
-        let behind = &rest[run.len + 1..];
-        let Some(escapes) = kept_byte(byte, behind, run.escapes, is_in_table) else {
+        let after = &rest[run.len + 1..];
+        let Some(escapes) = kept_byte(byte, after, run.escapes, is_in_table) else {
             return run;
         };
         run.escapes = escapes;
@@ -36,10 +36,10 @@ pub(crate) fn word_run(rest: &[u8], escaped: bool, is_in_table: bool) -> Run
 
 // Whether a byte of a word escapes what stands after it. None for a backslash that a cell of a
 // table drops or that ends the text, and for what is no byte of a word.
-fn kept_byte(byte: u8, behind: &[u8], escaped: bool, is_in_table: bool) -> Option<bool>
-    ensures { IfSome result (IsKeptByte is_in_table escaped (byte ∷ behind.now) byte) }
+fn kept_byte(byte: u8, after: &[u8], escaped: bool, is_in_table: bool) -> Option<bool>
+    ensures { IfSome result (IsKeptByte is_in_table escaped (byte ∷ after.now) byte) }
 {
-    match (byte, behind) {
+    match (byte, after) {
         (_, _) if is_ordinary(byte) => Some(false),
         // White space, as most words are followed by: one comparison tells it from the others.
         (_, _) if byte < b'[' => None,

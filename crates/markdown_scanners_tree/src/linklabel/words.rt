@@ -54,19 +54,19 @@ fn words_up_to(bytes: &[u8], from: usize, end: usize, is_in_table: bool) -> usiz
     ensures forward { from ≤ result }
     ensures within { result ≤ length bytes.now }
 {
-    let mut place = from;
-    while place < end {
-        if is_ordinary(bytes[place]) {
-            place += 1;
-        } else if place > 0 && joins_words(&bytes[place..]) {
-            place += 2;
-        } else if is_kept_escape(&bytes[place..], is_in_table) {
-            place += 2;
+    let mut offset = from;
+    while offset < end {
+        if is_ordinary(bytes[offset]) {
+            offset += 1;
+        } else if offset > 0 && joins_words(&bytes[offset..]) {
+            offset += 2;
+        } else if is_kept_escape(&bytes[offset..], is_in_table) {
+            offset += 2;
         } else {
-            return place;
+            return offset;
         }
     }
-    place
+    offset
 }
 
 // Whether a space stands there, and a word after it.

@@ -104,27 +104,27 @@ fn write_word(
     text: &str,
     mark: usize,
     end: usize,
-    place: usize,
+    offset: usize,
     is_in_table: bool,
 ) -> Result<usize, AllocError>
     requires ordered { mark ≤ end }
-    requires behind { end ≤ place }
-    requires within { place < length text.now }
+    requires after { end ≤ offset }
+    requires within { offset < length text.now }
     requires start { IsCharBoundary text.now mark }
-    requires ends { end < place → IsCharBoundary text.now end }
-    requires begins { end < place → IsCharBoundary text.now place }
+    requires ends { end < offset → IsCharBoundary text.now end }
+    requires begins { end < offset → IsCharBoundary text.now offset }
     ensures written { IfOk result (λ next. IsWordWritten is_in_table text.now
-        mark end place out.old out.new next) }
+        mark end offset out.old out.new next) }
     ensures capacity { string_capacity out.old ≤ string_capacity out.new }
-    ensures succeeds { string_len out.old + due_len (due_after end place) + (end - mark)
+    ensures succeeds { string_len out.old + due_len (due_after end offset) + (end - mark)
         ≤ string_capacity out.old → IsOk result }
 {
-    let mark = write_gap(out, text, mark, end, place)?;
-    if !is_dropped(&text.as_bytes()[place..], is_in_table) {
+    let mark = write_gap(out, text, mark, end, offset)?;
+    if !is_dropped(&text.as_bytes()[offset..], is_in_table) {
         return Ok(mark);
     }
-    out.push_str(&text[mark..place])?;
-    Ok(place + 1)
+    out.push_str(&text[mark..offset])?;
+    Ok(offset + 1)
 }
 
 // Where white space stands before a word, appends the text from `mark` up to `end`, where it begins,
@@ -135,33 +135,33 @@ fn write_gap(
     text: &str,
     mark: usize,
     end: usize,
-    place: usize,
+    offset: usize,
 ) -> Result<usize, AllocError>
     requires ordered { mark ≤ end }
-    requires behind { end ≤ place }
-    requires within { place < length text.now }
+    requires after { end ≤ offset }
+    requires within { offset < length text.now }
     requires start { IsCharBoundary text.now mark }
-    requires ends { end < place → IsCharBoundary text.now end }
-    requires begins { end < place → IsCharBoundary text.now place }
-    ensures order { IfOk result (λ next. next ≤ place) }
+    requires ends { end < offset → IsCharBoundary text.now end }
+    requires begins { end < offset → IsCharBoundary text.now offset }
+    ensures order { IfOk result (λ next. next ≤ offset) }
     ensures start { IfOk result (λ next. IsCharBoundary text.now next) }
-    ensures bytes { IfOk result (λ next. string_bytes out.new ++ slice_range text.now next place
+    ensures bytes { IfOk result (λ next. string_bytes out.new ++ slice_range text.now next offset
         ≡ (string_bytes out.old ++ slice_range text.now mark end)
-        ++ due_text (due_after end place)) }
-    ensures len { IfOk result (λ next. string_len out.new + (place - next)
-        ≡ string_len out.old + (end - mark) + due_len (due_after end place)) }
+        ++ due_text (due_after end offset)) }
+    ensures len { IfOk result (λ next. string_len out.new + (offset - next)
+        ≡ string_len out.old + (end - mark) + due_len (due_after end offset)) }
     ensures capacity { string_capacity out.old ≤ string_capacity out.new }
-    ensures succeeds { string_len out.old + due_len (due_after end place) + (end - mark)
+    ensures succeeds { string_len out.old + due_len (due_after end offset) + (end - mark)
         ≤ string_capacity out.old → IsOk result }
 {
-    if end == place {
+    if end == offset {
         return Ok(mark);
     }
     if end == 0 {
-        return Ok(place);
+        return Ok(offset);
     }
     push_with_space(out, text, mark, end)?;
-    Ok(place)
+    Ok(offset)
 }
 
 // Appends the text from `mark` up to `end`, and a space: in one part where a space stands there.

@@ -10,7 +10,7 @@ use crate::scanners::lines::scan_eol;
 
 /// The length in bytes of a thematic break at the front, with its line ending.
 ///
-/// Where no thematic break stands there, the error is a place before which none begins, so that
+/// Where no thematic break stands there, the error is an offset before which none begins, so that
 /// a caller need not look again there. (CommonMark 0.31.2, section 4.1.)
 #[tactic(auto, using(crate::proofs::scanners::breaks::BreakLemmas::thematic_breaks))]
 pub fn scan_hrule(bytes: &[u8]) -> Result<usize, usize>
@@ -20,7 +20,7 @@ pub fn scan_hrule(bytes: &[u8]) -> Result<usize, usize>
     ensures none { IfErr result (λ n. is_thematic_break bytes.now ≡ false) }
     ensures no_break { IfErr result (λ n. ¬ IsThematicBreak bytes.now) }
 
-    // The place of the error: where the scan stopped, and none begins before it.
+    // The offset of the error: where the scan stopped, and none begins before it.
     ensures stopped { IfErr result (λ n. n ≡ break_length bytes.now) }
     ensures none_before { IfErr result (NoBreakBefore bytes.now) }
 

@@ -4,7 +4,7 @@ ghost use Rattle.markdown_scanners_tree.specs.scanners.Escapes.{starts_escape as
 
 use crate::scanners::classes::is_ascii_punctuation;
 
-// Whether a backslash and punctuation stand at the place.
+// Whether a backslash and punctuation stand at the offset.
 pub(crate) fn starts_escape(bytes: &[u8], i: usize) -> bool
     requires { i < length bytes.now }
     ensures value { result ≡ starts_escape_at (drop i bytes.now) }

@@ -53,7 +53,7 @@ fn has_backtick(bytes: &[u8]) -> bool
         return false;
     }
     match memchr2(b'`', b'\n', bytes) {
-        Some(place) => bytes[place] == b'`',
+        Some(offset) => bytes[offset] == b'`',
         None => false,
     }
 }

@@ -258,14 +258,14 @@ fn holds_html_end(bytes: &[u8], kind: HtmlBlockKind) -> bool
     let first = first_of_end(kind);
     let mut from = 0;
     while from < bytes.len() {
-        let Some(offset) = memchr(first, &bytes[from..]) else {
+        let Some(found) = memchr(first, &bytes[from..]) else {
             return false;
         };
-        let place = from + offset;
-        if begins_html_end(&bytes[place..], kind) {
+        let offset = from + found;
+        if begins_html_end(&bytes[offset..], kind) {
             return true;
         }
-        from = place + 1;
+        from = offset + 1;
     }
     false
 }

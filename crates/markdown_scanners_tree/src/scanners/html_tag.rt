@@ -13,7 +13,7 @@ use crate::scanners::lines::scan_blank_line;
 use crate::scanners::tag_state::TagState;
 use std::alloc::{AllocError, Global};
 
-// A tag's bytes without those that a handler skips, and the place after it in its source.
+// A tag's bytes without those that a handler skips, and the offset after it in its source.
 #[derive(Drop)]
 struct TagLength {
     kept: usize,
@@ -54,29 +54,29 @@ fn measure_tag<F: Fn(&[u8]) -> usize>(bytes: &[u8], handler: Option<&F>) -> Opti
     ensures whole { IfSome result (λ tag. IfNone handler.entry (tag.kept ≡ tag.end)) }
     ensures within { IfSome result (λ tag. tag.end ≤ length bytes.now) }
 {
-    let (mut state, mut place) = TagState::after_first(bytes);
-    let mut kept = place;
+    let (mut state, mut offset) = TagState::after_first(bytes);
+    let mut kept = offset;
     let mut endings = 0;
-    while place < bytes.len() && !state.is_final() {
-        let byte = bytes[place];
+    while offset < bytes.len() && !state.is_final() {
+        let byte = bytes[offset];
         if is_line_ending(byte) {
             state = state.after_line_ending(byte);
-            place += 1;
+            offset += 1;
             kept += 1;
-            if ends_line_before(byte, &bytes[place..]) {
+            if ends_line_before(byte, &bytes[offset..]) {
                 let skips = handler?;
-                place += skips(&bytes[place..]);
+                offset += skips(&bytes[offset..]);
                 endings += 1;
             }
         } else {
-            let (after, passed) = state.read_in_line(&bytes[place..]);
+            let (after, passed) = state.read_in_line(&bytes[offset..]);
             state = after;
-            place += passed;
+            offset += passed;
             kept += passed;
         }
     }
     if state.is_tag_end(endings) {
-        Some(TagLength { kept, end: place })
+        Some(TagLength { kept, end: offset })
     } else {
         None
     }
@@ -98,13 +98,13 @@ fn copy_kept<F: Fn(&[u8]) -> usize>(
         → buffer.items ≡ bytes_of prefix) }
 {
     let mut buffer = Vec::with_capacity(alloc, kept)?;
-    let mut place = 0;
+    let mut offset = 0;
     while buffer.len() < kept {
-        let is_last = ends_source_line(&bytes[place..]);
-        buffer.push_reserved(bytes[place]);
-        place += 1;
+        let is_last = ends_source_line(&bytes[offset..]);
+        buffer.push_reserved(bytes[offset]);
+        offset += 1;
         if is_last {
-            place += handler(&bytes[place..]);
+            offset += handler(&bytes[offset..]);
         }
     }
     Ok(buffer)

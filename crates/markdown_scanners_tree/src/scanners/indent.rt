@@ -3,11 +3,11 @@ ghost use Rattle.std.specs.Prelude.{ℕ, ◌≡◌, ◌+◌, ◌-◌, ◌/◌, �
 ghost use Rattle.markdown_scanners_tree.specs.Columns.{next_tab_stop};
 ghost use Rattle.markdown_scanners_tree.specs.scanners.Indent.{IsIndent};
 
-/// The place of the last byte that was looked at, and the columns of the spaces and tabs before
+/// The offset of the last byte that was looked at, and the columns of the spaces and tabs before
 /// it, with tab stops of four. (CommonMark 0.31.2, section 2.2.)
 ///
 /// A space that fills `max` columns is counted and ends the scan. A tab that would go past `max`
-/// ends it unread, as does each other byte. The place is 0 for an empty text. `max` is at most
+/// ends it unread, as does each other byte. The offset is 0 for an empty text. `max` is at most
 /// `usize::MAX / 4`.
 pub fn calc_indent(text: &[u8], max: usize) -> (usize, usize)
     requires { max ≤ usize.MAX / 4 }

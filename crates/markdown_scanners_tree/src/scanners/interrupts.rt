@@ -3,7 +3,7 @@ ghost use Rattle.std.specs.Prelude.{◌≡◌, ◌↔◌, IsTrue};
 ghost use Rattle.markdown_scanners_tree.specs.Bytes.{begins_with, is_space_or_tab};
 ghost use Rattle.markdown_scanners_tree.specs.scanners.Breaks.{IsThematicBreak};
 ghost use Rattle.markdown_scanners_tree.specs.scanners.Interrupts.{InterruptsParagraph, Interrupts, IsSomeHeading, IsSomeFence, IsSomeQuote};
-ghost use Rattle.markdown_scanners_tree.specs.scanners.Interrupts.{IsInterruptingItem, IsInterruptingHtml, item_interrupts, behind_indent};
+ghost use Rattle.markdown_scanners_tree.specs.scanners.Interrupts.{IsInterruptingItem, IsInterruptingHtml, item_interrupts, after_indent};
 
 use crate::scanners::breaks::scan_hrule;
 use crate::scanners::fences::scan_code_fence;
@@ -30,7 +30,7 @@ pub fn interrupts_paragraph(line: &[u8]) -> bool
 
 // The line after at most three spaces; a tab makes more than three columns.
 fn without_indent(line: &[u8]) -> &[u8]
-    ensures { result.now ≡ behind_indent line.now }
+    ensures { result.now ≡ after_indent line.now }
 {
     &line[scan_ch_repeat(first_bytes(line, MOST_INDENT), b' ')..]
 }

@@ -109,7 +109,7 @@ fn far_head_len(bytes: &[u8]) -> usize
     ensures within { result ≤ length bytes.now }
 {
     match memchr2(b'\n', b'\r', bytes) {
-        Some(place) => place,
+        Some(offset) => offset,
         None => bytes.len(),
     }
 }
@@ -143,7 +143,7 @@ fn count_before(byte: u8, bytes: &[u8]) -> usize
     }
 }
 
-/// The place after the first LF, or the length where there is none. LF alone ends a line here;
+/// The offset after the first LF, or the length where there is none. LF alone ends a line here;
 /// `scan_line` knows CR too.
 pub fn scan_nextline(bytes: &[u8]) -> usize
     ensures next { result ≡ next_line bytes.now }
@@ -159,7 +159,7 @@ pub fn scan_nextline(bytes: &[u8]) -> usize
         }
     }
     match memchr(b'\n', &bytes[from..]) {
-        Some(place) => from + place + 1,
+        Some(offset) => from + offset + 1,
         None => bytes.len(),
     }
 }

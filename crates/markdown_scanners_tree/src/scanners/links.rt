@@ -25,7 +25,7 @@ use std::ops::Range;
 // How many bytes a scheme may have.
 const MOST_SCHEME_BYTES: usize = 32;
 
-/// The place of the first pipe among the first `len` bytes, or among all where there are fewer.
+/// The offset of the first pipe among the first `len` bytes, or among all where there are fewer.
 ///
 /// The form of `scan_wikilink_pipe` for bytes, which need not be UTF-8.
 pub fn scan_wikilink_pipe_bytes(bytes: &[u8], len: usize) -> Option<usize>
@@ -35,18 +35,18 @@ pub fn scan_wikilink_pipe_bytes(bytes: &[u8], len: usize) -> Option<usize>
 
     // A text may be cut before the pipe and after it.
     ensures before { IfSome result (λ n. IsUtf8 bytes.now → IsCharBoundary bytes.now n) }
-    ensures behind { IfSome result (λ n. IsUtf8 bytes.now → IsCharBoundary bytes.now (n + 1)) }
+    ensures after { IfSome result (λ n. IsUtf8 bytes.now → IsCharBoundary bytes.now (n + 1)) }
 {
     memchr(b'|', first_bytes(bytes, len))
 }
 
-/// The first pipe in the `len` bytes from `start` on, cut at the text's end: the place after the
-/// pipe, and the text before it. `start` is a place between two characters.
+/// The first pipe in the `len` bytes from `start` on, cut at the text's end: the offset after the
+/// pipe, and the text before it. `start` is an offset between two characters.
 pub fn scan_wikilink_pipe(text: &str, start: usize, len: usize) -> Option<(usize, &str)>
     requires { 0 < start → IsCharBoundary text.now start }
     ensures found { option_map (λ r. length r.1.now) result
         ≡ position (λ b. b == vertical_line) (take len (drop start text.now)) }
-    ensures place { IfSome result (λ r. r.0 ≡ start + length r.1.now + 1) }
+    ensures offset { IfSome result (λ r. r.0 ≡ start + length r.1.now + 1) }
     ensures slice { IfSome result (λ r. r.1.now ≡ slice_range text.now start (r.0 - 1)) }
     ensures boundary { IfSome result (λ r. IsCharBoundary text.now r.0) }
 {
@@ -78,7 +78,7 @@ pub fn scan_link_dest_bytes(bytes: &[u8], max_next: usize) -> Option<(usize, Ran
 }
 
 /// The link destination from `start` on: how many bytes it takes, angle brackets among them, and
-/// its raw text without them. Parentheses nest at most `max_next + 1` deep. `start` is a place
+/// its raw text without them. Parentheses nest at most `max_next + 1` deep. `start` is an offset
 /// between two characters.
 ///
 /// (CommonMark 0.31.2, section 6.3.)
@@ -180,7 +180,7 @@ pub fn scan_autolink_bytes(bytes: &[u8]) -> Option<usize>
     ensures within { IfSome result (λ n. n < length bytes.now) }
     ensures cut { IfSome result (λ n. slice_index bytes.now n ≡ greater_than_sign) }
     ensures before { IfSome result (λ n. IsUtf8 bytes.now → IsCharBoundary bytes.now n) }
-    ensures behind { IfSome result (λ n. IsUtf8 bytes.now → IsCharBoundary bytes.now (n + 1)) }
+    ensures after { IfSome result (λ n. IsUtf8 bytes.now → IsCharBoundary bytes.now (n + 1)) }
 {
     let scheme = scheme_len(bytes)?;
     let end = scheme + 1 + address_prefix_len(&bytes[scheme + 1..]);
@@ -191,8 +191,8 @@ pub fn scan_autolink_bytes(bytes: &[u8]) -> Option<usize>
     }
 }
 
-/// The absolute URI from `start` on that `>` ends: the place after the `>`, and the text before it.
-/// `start` is a place between two characters.
+/// The absolute URI from `start` on that `>` ends: the offset after the `>`, and the text before it.
+/// `start` is an offset between two characters.
 ///
 /// (CommonMark 0.31.2, section 6.5.)
 pub fn scan_autolink<'a>(text: &'a str, start: usize) -> Option<(usize, CowStr<'a>, LinkType)>
@@ -204,8 +204,8 @@ pub fn scan_autolink<'a>(text: &'a str, start: usize) -> Option<(usize, CowStr<'
     ensures only { IsOnly (IsUriAutolink (drop start text.now))
         (option_map (λ r. cow_text r.1) result) }
 
-    // It is lent from the text, and the answered place is after its `>`.
-    ensures place { IfSome result (λ r. r.0 ≡ start + length (cow_text r.1) + 1) }
+    // It is lent from the text, and the answered offset is after its `>`.
+    ensures offset { IfSome result (λ r. r.0 ≡ start + length (cow_text r.1) + 1) }
     ensures slice { IfSome result (λ r. cow_text r.1 ≡ slice_range text.now start (r.0 - 1)) }
     ensures boundary { IfSome result (λ r. IsCharBoundary text.now r.0) }
     ensures borrowed { IfSome result (λ r. IsBorrowed r.1) }

@@ -34,8 +34,8 @@ pub fn scan_listitem(bytes: &[u8]) -> Option<(usize, u8, usize, usize)>
     ensures within { IfSome result (λ r. r.0 ≤ length bytes.now) }
 {
     let (width, delimiter, start) = scan_marker(bytes)?;
-    let (place, space) = scan_item_space(&bytes[width..])?;
-    Some((width + place, delimiter, start, width + space))
+    let (offset, space) = scan_item_space(&bytes[width..])?;
+    Some((width + offset, delimiter, start, width + space))
 }
 
 // The length of a list marker at the front, its last byte and its start number.
@@ -107,12 +107,12 @@ fn scan_item_space(rest: &[u8]) -> Option<(usize, usize)>
     if scan_blank_line(rest).is_some() {
         return Some((0, 1));
     }
-    let (place, space) = calc_indent(rest, 5);
+    let (offset, space) = calc_indent(rest, 5);
     if space == 0 {
         None
     } else if space > 4 {
         Some((1, 1))
     } else {
-        Some((place, space))
+        Some((offset, space))
     }
 }

@@ -6,7 +6,8 @@ ghost use Rattle.std.specs.Str.{IsUtf8, IsCharBoundary};
 ghost use Rattle.markdown_scanners_tree.specs.SomeExactly.{SomeExactly, IsOnly};
 ghost use Rattle.markdown_scanners_tree.specs.scanners.links.FoundDestination.{IsDestination, RawTextStandsIn, with_raw_text};
 ghost use Rattle.markdown_scanners_tree.specs.scanners.reference_definitions.FoundDefinition.{PartsStandIn};
-ghost use Rattle.markdown_scanners_tree.specs.scanners.reference_definitions.ReferenceDefinition.{IsReferenceDefinition, IsLabelWithColon, IsTarget, IsSeparatedTitle, IsTitleLine, IsEnd, IsRestOfLine, IsCutAt};
+ghost use Rattle.markdown_scanners_tree.specs.scanners.reference_definitions.ReferenceDefinition.{IsReferenceDefinition, IsLabelWithColon, IsTarget, IsSeparatedTitle};
+ghost use Rattle.markdown_scanners_tree.specs.scanners.reference_definitions.ReferenceDefinition.{IsTitleLine, IsEnd, IsRestOfLine, IsCutAt};
 ghost use Rattle.markdown_scanners_tree.specs.scanners.reference_definitions.private.GapLength.{gap_length};
 
 use crate::linklabel::label_len;
@@ -17,7 +18,7 @@ use crate::scanners::runs::scan_spaces_and_tabs;
 use crate::scanners::titles::scan_link_title;
 use std::ops::Range;
 
-/// Where the parts of a link reference definition stand, by their places in the text that it begins.
+/// Where the parts of a link reference definition stand, by their offsets in the text that it begins.
 #[derive(Debug, Drop, PartialEq)]
 pub struct ReferenceDefinition {
     /// What stands between the brackets of its label.
@@ -78,7 +79,7 @@ fn scan_definition(bytes: &[u8], max_next: usize, reach: Reach) -> Option<Refere
     ensures parts { IfSome result (PartsStandIn bytes.now) }
 {
     let target = scan_target(bytes, max_next, reach)?;
-    let (title, len) = scan_end(bytes, target.place)?;
+    let (title, len) = scan_end(bytes, target.offset)?;
     Some(ReferenceDefinition {
         label: target.label,
         destination: target.destination,
@@ -87,27 +88,27 @@ fn scan_definition(bytes: &[u8], max_next: usize, reach: Reach) -> Option<Refere
     })
 }
 
-// The label and the destination of a definition, and the place after them.
+// The label and the destination of a definition, and the offset after them.
 #[derive(Drop)]
 struct Target {
     label: Range<usize>,
     destination: Range<usize>,
-    place: usize,
+    offset: usize,
 }
 
 // What a definition begins with.
 fn scan_target(bytes: &[u8], max_next: usize, reach: Reach) -> Option<Target>
     ensures found { SomeExactly
-        (λ t. IsTarget (max_next + 1) bytes.now t.label t.destination t.place) result }
-    ensures within { IfSome result (λ t. t.place ≤ length bytes.now) }
+        (λ t. IsTarget (max_next + 1) bytes.now t.label t.destination t.offset) result }
+    ensures within { IfSome result (λ t. t.offset ≤ length bytes.now) }
     ensures label { IfSome result (λ t. (0 < t.label.start) × (t.label.start ≤ t.label.end)
         × (t.label.end < t.destination.start)) }
     ensures destination { IfSome result (λ t. (t.destination.start ≤ t.destination.end)
-        × (t.destination.end ≤ t.place)) }
+        × (t.destination.end ≤ t.offset)) }
     ensures label_cut { IfSome result (λ t. IsUtf8 bytes.now → IsCutAt bytes.now t.label) }
     ensures destination_cut { IfSome result (λ t. IsUtf8 bytes.now
         → IsCutAt bytes.now t.destination) }
-    ensures behind { IfSome result (λ t. IsUtf8 bytes.now → IsCharBoundary bytes.now t.place) }
+    ensures after { IfSome result (λ t. IsUtf8 bytes.now → IsCharBoundary bytes.now t.offset) }
 {
     let named = scan_label_and_colon(bytes)?;
     let start = named + gap_len(&bytes[named..]);
@@ -118,7 +119,7 @@ fn scan_target(bytes: &[u8], max_next: usize, reach: Reach) -> Option<Target>
     Some(Target {
         label: 1..named - 2,
         destination: start + raw.start..start + raw.end,
-        place: start + taken,
+        offset: start + taken,
     })
 }
 
@@ -142,7 +143,7 @@ fn scan_label_and_colon(bytes: &[u8]) -> Option<usize>
     ensures within { IfSome result (λ n. (3 ≤ n) × (n ≤ length bytes.now)) }
     ensures begins { IfSome result (λ n. IsUtf8 bytes.now → IsCharBoundary bytes.now 1) }
     ensures ends { IfSome result (λ n. IsUtf8 bytes.now → IsCharBoundary bytes.now (n - 2)) }
-    ensures behind { IfSome result (λ n. IsUtf8 bytes.now → IsCharBoundary bytes.now n) }
+    ensures after { IfSome result (λ n. IsUtf8 bytes.now → IsCharBoundary bytes.now n) }
 {
     let inside = bytes.strip_prefix(b"[")?;
     let length = label_len(inside)?;
@@ -160,41 +161,41 @@ fn begins_with_colon(rest: &[u8]) -> bool
     matches!(rest, [b':', ..])
 }
 
-// How a definition ends whose destination ends at the place: the title, if it has one, and the place
+// How a definition ends whose destination ends at the offset: the title, if it has one, and the offset
 // after its last line.
-fn scan_end(bytes: &[u8], place: usize) -> Option<(Option<Range<usize>>, usize)>
-    requires { place ≤ length bytes.now }
-    ensures found { SomeExactly (λ r. IsEnd bytes.now place r.0 r.1) result }
-    ensures within { IfSome result (λ r. (place ≤ r.1) × (r.1 ≤ length bytes.now)) }
-    ensures title { IfSome result (λ r. IfSome r.0 (λ title. (place < title.start)
+fn scan_end(bytes: &[u8], offset: usize) -> Option<(Option<Range<usize>>, usize)>
+    requires { offset ≤ length bytes.now }
+    ensures found { SomeExactly (λ r. IsEnd bytes.now offset r.0 r.1) result }
+    ensures within { IfSome result (λ r. (offset ≤ r.1) × (r.1 ≤ length bytes.now)) }
+    ensures title { IfSome result (λ r. IfSome r.0 (λ title. (offset < title.start)
         × (title.start ≤ title.end) × (title.end < r.1))) }
     ensures title_cut { IfSome result (λ r. IfSome r.0 (λ title. IsUtf8 bytes.now
-        → IsCharBoundary bytes.now place → IsCutAt bytes.now title)) }
-    ensures behind { IfSome result (λ r. IsUtf8 bytes.now → IsCharBoundary bytes.now place
+        → IsCharBoundary bytes.now offset → IsCutAt bytes.now title)) }
+    ensures after { IfSome result (λ r. IsUtf8 bytes.now → IsCharBoundary bytes.now offset
         → IsCharBoundary bytes.now r.1) }
 {
-    match scan_title_line(bytes, place) {
+    match scan_title_line(bytes, offset) {
         Some((title, end)) => Some((Some(title), end)),
         None => {
-            let ending = scan_rest_of_line(&bytes[place..])?;
-            Some((None, place + ending))
+            let ending = scan_rest_of_line(&bytes[offset..])?;
+            Some((None, offset + ending))
         }
     }
 }
 
-// The title after the destination that ends at the place, and the place after its line.
-fn scan_title_line(bytes: &[u8], place: usize) -> Option<(Range<usize>, usize)>
-    requires { place ≤ length bytes.now }
-    ensures found { SomeExactly (λ r. IsTitleLine bytes.now place r.0 r.1) result }
+// The title after the destination that ends at the offset, and the offset after its line.
+fn scan_title_line(bytes: &[u8], offset: usize) -> Option<(Range<usize>, usize)>
+    requires { offset ≤ length bytes.now }
+    ensures found { SomeExactly (λ r. IsTitleLine bytes.now offset r.0 r.1) result }
     ensures within { IfSome result (λ r. r.1 ≤ length bytes.now) }
-    ensures title { IfSome result (λ r. (place < r.0.start) × (r.0.start ≤ r.0.end)
+    ensures title { IfSome result (λ r. (offset < r.0.start) × (r.0.start ≤ r.0.end)
         × (r.0.end < r.1)) }
-    ensures title_cut { IfSome result (λ r. IsUtf8 bytes.now → IsCharBoundary bytes.now place
+    ensures title_cut { IfSome result (λ r. IsUtf8 bytes.now → IsCharBoundary bytes.now offset
         → IsCutAt bytes.now r.0) }
-    ensures behind { IfSome result (λ r. IsUtf8 bytes.now → IsCharBoundary bytes.now place
+    ensures after { IfSome result (λ r. IsUtf8 bytes.now → IsCharBoundary bytes.now offset
         → IsCharBoundary bytes.now r.1) }
 {
-    let title = scan_separated_title(bytes, place)?;
+    let title = scan_separated_title(bytes, offset)?;
     let end = title.end + 1;
     let ending = scan_rest_of_line(&bytes[end..])?;
     Some((title, end + ending))
@@ -231,7 +232,7 @@ pub fn scan_separated_title(bytes: &[u8], offset: usize) -> Option<Range<usize>>
 fn gap_len(bytes: &[u8]) -> usize
     ensures gap { result ≡ gap_length bytes.now }
     ensures within { result ≤ length bytes.now }
-    ensures behind { IsUtf8 bytes.now → IsCharBoundary bytes.now result }
+    ensures after { IsUtf8 bytes.now → IsCharBoundary bytes.now result }
 {
     let spaces = scan_spaces_and_tabs(bytes);
     let first = spaces + scan_eol(&bytes[spaces..]).unwrap_or(0);
@@ -242,7 +243,7 @@ fn gap_len(bytes: &[u8]) -> usize
 fn scan_rest_of_line(bytes: &[u8]) -> Option<usize>
     ensures found { SomeExactly (IsRestOfLine bytes.now) result }
     ensures within { IfSome result (λ n. n ≤ length bytes.now) }
-    ensures behind { IfSome result (λ n. IsUtf8 bytes.now → IsCharBoundary bytes.now n) }
+    ensures after { IfSome result (λ n. IsUtf8 bytes.now → IsCharBoundary bytes.now n) }
 {
     let spaces = scan_spaces_and_tabs(bytes);
     let ending = scan_eol(&bytes[spaces..])?;

@@ -111,16 +111,16 @@ fn after_closing(byte: u8) -> TagState
     }
 }
 
-// The end of the bytes from the place on that pass the test.
-fn end_of<F: Fn(u8) -> bool>(bytes: &[u8], place: usize, passes: F) -> usize
+// The end of the bytes from the offset on that pass the test.
+fn end_of<F: Fn(u8) -> bool>(bytes: &[u8], offset: usize, passes: F) -> usize
     requires callable { F.IsAlwaysCallable passes }
-    requires inside { place ≤ length bytes.now }
+    requires inside { offset ≤ length bytes.now }
 
-    ensures run { (i : ℕ) → place ≤ i → i < result
+    ensures run { (i : ℕ) → offset ≤ i → i < result
         → F.post passes (slice_index bytes.now i) true }
-    ensures within { (place ≤ result) × (result ≤ length bytes.now) }
+    ensures within { (offset ≤ result) × (result ≤ length bytes.now) }
 {
-    let mut end = place;
+    let mut end = offset;
     while end < bytes.len() && passes(bytes[end]) {
         end += 1;
     }
@@ -143,31 +143,31 @@ impl TagState {
         }
     }
 
-    // The end of bytes from the place on that keep this state.
-    fn end_of_run(self, bytes: &[u8], place: usize) -> usize
-        requires { place ≤ length bytes.now }
-        ensures run { AllKeep self bytes.now place result }
-        ensures within { (place ≤ result) × (result ≤ length bytes.now) }
+    // The end of bytes from the offset on that keep this state.
+    fn end_of_run(self, bytes: &[u8], offset: usize) -> usize
+        requires { offset ≤ length bytes.now }
+        ensures run { AllKeep self bytes.now offset result }
+        ensures within { (offset ≤ result) × (result ≤ length bytes.now) }
     {
         match self {
-            TagState::Name | TagState::ClosingName => end_of(bytes, place, continues_tag_name),
-            TagState::AttributeName => end_of(bytes, place, continues_attribute),
+            TagState::Name | TagState::ClosingName => end_of(bytes, offset, continues_tag_name),
+            TagState::AttributeName => end_of(bytes, offset, continues_attribute),
             TagState::Spaced | TagState::AfterName | TagState::BeforeValue => {
-                end_of(bytes, place, is_ascii_whitespace_no_nl)
+                end_of(bytes, offset, is_ascii_whitespace_no_nl)
             }
             TagState::ClosingSpaced | TagState::ClosingEnded => end_of(
                 bytes,
-                place,
+                offset,
                 is_ascii_whitespace_no_nl,
             ),
-            TagState::Unquoted => end_of(bytes, place, is_unquoted_byte),
+            TagState::Unquoted => end_of(bytes, offset, is_unquoted_byte),
             TagState::Quoted(quote) => {
                 let stays = |byte: u8| -> bool
                     ensures { result ≡ is_quoted_in_line quote byte }
                 { byte != quote && !is_line_ending(byte) };
-                end_of(bytes, place, stays)
+                end_of(bytes, offset, stays)
             }
-            _ => place,
+            _ => offset,
         }
     }
 
@@ -186,16 +186,16 @@ impl TagState {
             ⊎ (is_at_line_end (drop result.1 bytes.now) ≡ true) }
     {
         let mut state = self;
-        let mut place = 0;
-        while place < bytes.len() && !is_line_ending(bytes[place]) {
-            state = state.next(bytes[place]);
-            place += 1;
+        let mut offset = 0;
+        while offset < bytes.len() && !is_line_ending(bytes[offset]) {
+            state = state.next(bytes[offset]);
+            offset += 1;
             if state.is_final() {
-                return (state, place);
+                return (state, offset);
             }
-            place = state.end_of_run(bytes, place);
+            offset = state.end_of_run(bytes, offset);
         }
-        (state, place)
+        (state, offset)
     }
 
     // After a byte of a line ending. A line with nothing in it calls nothing.

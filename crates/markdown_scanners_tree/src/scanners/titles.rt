@@ -26,7 +26,7 @@ pub fn scan_link_title(bytes: &[u8]) -> Option<usize>
     // A text may be cut where its own bytes begin and end, and after all that it takes.
     ensures begins { IfSome result (λ n. IsUtf8 bytes.now → IsCharBoundary bytes.now 1) }
     ensures ends { IfSome result (λ n. IsUtf8 bytes.now → IsCharBoundary bytes.now (n - 1)) }
-    ensures behind { IfSome result (λ n. IsUtf8 bytes.now → IsCharBoundary bytes.now n) }
+    ensures after { IfSome result (λ n. IsUtf8 bytes.now → IsCharBoundary bytes.now n) }
 {
     if bytes.is_empty() {
         return None;

@@ -104,45 +104,45 @@ fn push_meanings<E: Entities>(
     out.push_str(&text[run..])
 }
 
-// Where a changed piece stands at the place, appends the text from `run` up to it, and what stands
-// in for its front. Answers where the text begins that isn't appended yet, and the place after the
+// Where a changed piece stands at the offset, appends the text from `run` up to it, and what stands
+// in for its front. Answers where the text begins that isn't appended yet, and the offset after the
 // piece, or after a run of pieces that mean themselves.
 fn push_first<E: Entities>(
     out: &mut String,
     text: &str,
     run: usize,
-    place: usize,
+    offset: usize,
     is_in_table: bool,
     entities: &E,
 ) -> Result<(usize, usize), AllocError>
-    requires ordered { run ≤ place }
-    requires within { place < length text.now }
+    requires ordered { run ≤ offset }
+    requires within { offset < length text.now }
     requires start { IsCharBoundary text.now run }
     ensures within { IfOk result (λ r. r.1 ≤ length text.now) }
-    ensures on { IfOk result (λ r. place < r.1) }
+    ensures on { IfOk result (λ r. offset < r.1) }
     ensures pushed { IfOk result (λ r. IsPushed is_in_table (E.known entities.now) text.now
-        run place out.old out.new r.0 r.1) }
+        run offset out.old out.new r.0 r.1) }
     ensures capacity { string_capacity out.old ≤ string_capacity out.new }
-    ensures room { HasRoom is_in_table (E.known entities.now) text.now run place out.old
+    ensures room { HasRoom is_in_table (E.known entities.now) text.now run offset out.old
         → IsOk result }
 {
-    let bytes = &text.as_bytes()[place..];
+    let bytes = &text.as_bytes()[offset..];
     match bytes[0] {
         b'\r' => {
-            push_part(out, &text[run..place])?;
-            Ok((place + 1, place + 1))
+            push_part(out, &text[run..offset])?;
+            Ok((offset + 1, offset + 1))
         }
         b'\\' => {
             let dropped = escape_len(bytes, is_in_table);
             if dropped == 0 {
-                return Ok((run, place + lone_len(bytes)));
+                return Ok((run, offset + lone_len(bytes)));
             }
-            push_with_byte(out, &text[run..place], bytes[dropped])?;
+            push_with_byte(out, &text[run..offset], bytes[dropped])?;
             let length = dropped + 1;
-            Ok((place + length, place + length))
+            Ok((offset + length, offset + length))
         }
-        b'&' => push_ampersand(out, text, run, place, entities),
-        _ => Ok((run, place + plain_len(bytes))),
+        b'&' => push_ampersand(out, text, run, offset, entities),
+        _ => Ok((run, offset + plain_len(bytes))),
     }
 }
 
@@ -151,38 +151,38 @@ fn push_ampersand<E: Entities>(
     out: &mut String,
     text: &str,
     run: usize,
-    place: usize,
+    offset: usize,
     entities: &E,
 ) -> Result<(usize, usize), AllocError>
-    requires ordered { run ≤ place }
-    requires within { place < length text.now }
+    requires ordered { run ≤ offset }
+    requires within { offset < length text.now }
     requires start { IsCharBoundary text.now run }
-    requires begins { slice_index text.now place ≡ ampersand }
+    requires begins { slice_index text.now offset ≡ ampersand }
     ensures within { IfOk result (λ r. r.1 ≤ length text.now) }
-    ensures on { IfOk result (λ r. place < r.1) }
+    ensures on { IfOk result (λ r. offset < r.1) }
     ensures pushed { (in_table : Bool) → IfOk result (λ r. IsPushed in_table
-        (E.known entities.now) text.now run place out.old out.new r.0 r.1) }
+        (E.known entities.now) text.now run offset out.old out.new r.0 r.1) }
     ensures capacity { string_capacity out.old ≤ string_capacity out.new }
-    ensures room { (in_table : Bool) → HasRoom in_table (E.known entities.now) text.now run place
+    ensures room { (in_table : Bool) → HasRoom in_table (E.known entities.now) text.now run offset
         out.old → IsOk result }
 {
-    let bytes = &text.as_bytes()[place..];
+    let bytes = &text.as_bytes()[offset..];
     if bytes.len() > 1 && bytes[1] == b'#' {
         let Some((length, meaning)) = numbered_char(bytes) else {
             let plain = 1 + lone_len(&bytes[1..]);
-            return Ok((run, place + plain));
+            return Ok((run, offset + plain));
         };
-        push_with_char(out, &text[run..place], meaning)?;
-        return Ok((place + length, place + length));
+        push_with_char(out, &text[run..offset], meaning)?;
+        return Ok((offset + length, offset + length));
     }
     let (name, meaning) = scan_name(bytes, entities);
     let Some(meaning) = meaning else {
         let plain = name + 1;
-        return Ok((run, place + plain));
+        return Ok((run, offset + plain));
     };
     let length = name + 2;
-    push_both(out, &text[run..place], meaning)?;
-    Ok((place + length, place + length))
+    push_both(out, &text[run..offset], meaning)?;
+    Ok((offset + length, offset + length))
 }
 
 // Appends a text and an ASCII byte. With room for both no growth is refused. What is left of an escape

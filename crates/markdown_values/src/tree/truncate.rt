@@ -12,11 +12,11 @@ pub trait SpanItem {
 
     ghost with_range: { Self → ℕ → ℕ → Self };
 
-    /// The place of the range's first byte.
+    /// The offset of the range's first byte.
     fn start(&self) -> usize
         ensures { result ≡ (span self.now).start };
 
-    /// The place after the range's last byte.
+    /// The offset after the range's last byte.
     fn end(&self) -> usize
         ensures { result ≡ (span self.now).end };
 

@@ -81,7 +81,7 @@ pub enum Tag<'a> {
     Image {
         /// How it was written.
         link_type: LinkType,
-        /// The place of the image.
+        /// The offset of the image.
         dest_url: CowStr<'a>,
         /// The title; empty where there is none.
         title: CowStr<'a>,

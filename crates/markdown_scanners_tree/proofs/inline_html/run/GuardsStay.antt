@@ -13,10 +13,10 @@ use Rattle.markdown_scanners_tree.specs.inline_html.CountedText.{CountedBytes, p
 use Rattle.markdown_scanners_tree.specs.inline_html.InlineHtml.{Kind, Comment, Cdata, Declaration, Processing, Opening, Begins, Hyphen, Bracket, Nothing, closer}
 use Rattle.markdown_scanners_tree.specs.inline_html.InlineHtml.{lead, first_closer, closed_at, end_of, find_at, declared_at, opening_at, opener_before, cost}
 use Rattle.markdown_scanners_tree.specs.inline_html.Guard.{is_stopped, with_number, searched_guard, guarded_answer, guard_after, IsTrueGuard, IsTrueScan}
-use Rattle.markdown_scanners_tree.specs.inline_html.run.Run.{ShutKinds, Run, is_shut, shutting, shut_by, run_step, place_refusal, IsWithinBudget}
+use Rattle.markdown_scanners_tree.specs.inline_html.run.Run.{ShutKinds, Run, is_shut, shutting, shut_by, run_step, offset_refusal, IsWithinBudget}
 use Rattle.markdown_scanners_tree.specs.inline_html.run.private.RunFields.{says_shut, shut_kinds, run_of, AreRunFields}
 use Rattle.markdown_scanners_tree.proofs.inline_html.Openings.{declared_at-end}
-use Rattle.markdown_scanners_tree.proofs.inline_html.Scans.{cost-same, first_place-bounds}
+use Rattle.markdown_scanners_tree.proofs.inline_html.Scans.{cost-same, first_offset-bounds}
 use Rattle.markdown_scanners_tree.proofs.inline_html.TrueGuards.{opening_at-declared, opening_at-processing, opener-mark}
 use Rattle.markdown_scanners_tree.proofs.inline_html.ScanBounds.{end_of-bounds}
 use Rattle.markdown_scanners_tree.proofs.inline_html.run.Budget.{run_step-budget}
@@ -281,7 +281,7 @@ module _ (t : CountedBytes) (guard : HtmlScanGuard) (last e steps p : ℕ) (fiel
       rw (← answers) (ap (λ g. shut_kinds (length t.text) g (steps + 1)) (sym (with_number-own guard kind) ∙ ap (with_number guard kind) (stopped-number kind is where_to)) ∙ missed kind)
   kind-shut kind where_to false is None same answers = rw same (missed kind)
   kind-shut kind where_to false is (Some hit) same answers =
-      let within = first_place-bounds t.text (closer kind) (p + lead kind) hit same in
+      let within = first_offset-bounds t.text (closer kind) (p + lead kind) hit same in
       let room : 0 < length (closer kind) = closer-some kind in
       rw same (ShutKinds-same _ _ (λ other. hit-shut kind other hit is (omega arith) (comment-or kind (length t.text) hit within.1)))
 
@@ -346,7 +346,7 @@ module _ (t : CountedBytes) (guard : HtmlScanGuard) (last e steps p : ℕ) (fiel
         rw scan.finds (end-bounds (find_at t.text p) e p (length t.text) outside fields.find_end_in_text (end_of-bounds t.text (opening_at t.text p) p))
 
     true-later : (q : ℕ) → p < q → unwrap_or answer e ≤ q → IsTrueGuard t.text after q
-    true-later q later_place outside_find = scan.stays_true q later_place (outside-some answer e q outside_find)
+    true-later q later_offset outside_find = scan.stays_true q later_offset (outside-some answer e q outside_find)
 
     -- the fields are still those of a run
     pub fields-stay : last < p → AreRunFields u after p (unwrap_or answer e) (steps + 1)
@@ -370,7 +370,7 @@ module _ (t : CountedBytes) (guard : HtmlScanGuard) (last e steps p : ℕ) (fiel
           budget = budget;
         }
 
--- a place just after an opener, above the last place and not below the find, is not refused
+-- an offset just after an opener, above the last offset and not below the find, is not refused
 pub accepted : (run : Run) (p mark : ℕ) → opener_before run.text p ≡ Some mark → run.last < p → run.find_end ≤ p
-    → place_refusal run p ≡ None
+    → offset_refusal run p ≡ None
 accepted run p mark opener later outside = rw (opener, lt-leb p run.last later, le-ltb p run.find_end outside)

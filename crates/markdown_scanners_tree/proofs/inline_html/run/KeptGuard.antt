@@ -9,12 +9,12 @@ use Rattle.markdown_scanners_tree.specs.inline_html.CountedText.{CountedBytes, p
 use Rattle.markdown_scanners_tree.specs.inline_html.InlineHtml.{Comment, Cdata, Declaration, Processing, opener_before, opening_at}
 use Rattle.markdown_scanners_tree.specs.inline_html.Guard.{answer_of_scan, guard_after_scan, IsTrueGuard, IsTrueScan}
 use Rattle.markdown_scanners_tree.specs.inline_html.run.KeptGuard.{first_guard, AreScanPlaces, guard_after_scans, bytes_scanned, all_bytes_scanned, IsNextScan}
-use Rattle.markdown_scanners_tree.specs.inline_html.run.Run.{Run, new_run, place_refusal, run_step, run_stop, stop_at}
+use Rattle.markdown_scanners_tree.specs.inline_html.run.Run.{Run, new_run, offset_refusal, run_step, run_stop, stop_at}
 use Rattle.markdown_scanners_tree.specs.inline_html.run.private.RunFields.{run_of, AreRunFields}
 use Rattle.markdown_scanners_tree.proofs.inline_html.TrueGuards.{opener-bounds, true-opening}
 use Rattle.markdown_scanners_tree.proofs.inline_html.run.GuardsStay.{fields-stay, run-steps}
 
--- ---- a place that is not refused
+-- ---- an offset that is not refused
 
 -- what the three tests say of it
 record IsFree (opener : Option ℕ) (low inside : Bool) : Type 0 where
@@ -31,11 +31,11 @@ free-tests (Some mark) true inside e = cc
 free-tests (Some mark) false true e = cc
 free-tests (Some mark) false false e = record { mark = mark; opened = refl; later = refl; outside = refl }
 
-free-place : (run : Run) (p : ℕ) → place_refusal run p ≡ None
+free-offset : (run : Run) (p : ℕ) → offset_refusal run p ≡ None
     → IsFree (opener_before run.text p) (nat_le p run.last) (nat_lt p run.find_end)
-free-place run p free = free-tests (opener_before run.text p) (nat_le p run.last) (nat_lt p run.find_end) free
+free-offset run p free = free-tests (opener_before run.text p) (nat_le p run.last) (nat_lt p run.find_end) free
 
--- no place of a list is refused: not the first, and none of the others after it
+-- no offset of a list is refused: not the first, and none of the others after it
 all-free : (why : Option HtmlStop) (i : ℕ) (others : Option (ℕ × HtmlStop)) → stop_at why i others ≡ None
     → (why ≡ None) × (others ≡ None)
 all-free None i others e = (refl, e)
@@ -43,9 +43,9 @@ all-free (Some stop) i others e = cc
 
 -- ---- one scan, as a step
 
-module _ (t : CountedBytes) (guard : HtmlScanGuard) (last e steps : ℕ) (fields : AreRunFields t guard last e steps) (p : ℕ) (free : place_refusal (run_of t guard last e steps) p ≡ None) where
+module _ (t : CountedBytes) (guard : HtmlScanGuard) (last e steps : ℕ) (fields : AreRunFields t guard last e steps) (p : ℕ) (free : offset_refusal (run_of t guard last e steps) p ≡ None) where
   is : IsFree (opener_before t.text p) (nat_le p last) (nat_lt p e)
-  is = free-place (run_of t guard last e steps) p free
+  is = free-offset (run_of t guard last e steps) p free
 
   after-last : last < p
   after-last = leb-false p last is.later
@@ -79,40 +79,40 @@ module _ (t : CountedBytes) (guard : HtmlScanGuard) (last e steps : ℕ) (fields
 -- ---- all scans
 
 -- what scans pass over is within the budget of the steps before them and theirs
-scans-sum : (places : List ℕ) (t : CountedBytes) (guard : HtmlScanGuard) (last e steps i : ℕ) → AreRunFields t guard last e steps
-    → run_stop (run_of t guard last e steps) i places ≡ None
-    → t.passed + all_bytes_scanned t.text guard places ≤ 4 * length t.text + 8 * (steps + length places)
+scans-sum : (offsets : List ℕ) (t : CountedBytes) (guard : HtmlScanGuard) (last e steps i : ℕ) → AreRunFields t guard last e steps
+    → run_stop (run_of t guard last e steps) i offsets ≡ None
+    → t.passed + all_bytes_scanned t.text guard offsets ≤ 4 * length t.text + 8 * (steps + length offsets)
 scans-sum [] t guard last e steps i fields free = omega (arith, fields.budget.whole)
-scans-sum (p ∷ places) t guard last e steps i fields free =
-    let parts = all-free (place_refusal (run_of t guard last e steps) p) i _ free in
-    let others = subst (λ run. run_stop run (i + 1) places ≡ None) (sym (next-run t guard last e steps fields p parts.0)) parts.1 in
-    let sum = scans-sum places _ _ p _ (steps + 1) (i + 1) (next-fields t guard last e steps fields p parts.0) others in
+scans-sum (p ∷ offsets) t guard last e steps i fields free =
+    let parts = all-free (offset_refusal (run_of t guard last e steps) p) i _ free in
+    let others = subst (λ run. run_stop run (i + 1) offsets ≡ None) (sym (next-run t guard last e steps fields p parts.0)) parts.1 in
+    let sum = scans-sum offsets _ _ p _ (steps + 1) (i + 1) (next-fields t guard last e steps fields p parts.0) others in
     omega (arith, sum)
 
--- the guard that scans leave is true at the next place
+-- the guard that scans leave is true at the next offset
 true-next : (earlier : List ℕ) (p : ℕ) (t : CountedBytes) (guard : HtmlScanGuard) (last e steps i : ℕ) → AreRunFields t guard last e steps
     → run_stop (run_of t guard last e steps) i (earlier ++ p ∷ []) ≡ None
     → IsTrueGuard t.text (guard_after_scans t.text guard earlier) p
 true-next [] p t guard last e steps i fields free =
-    let parts = all-free (place_refusal (run_of t guard last e steps) p) i _ free in
+    let parts = all-free (offset_refusal (run_of t guard last e steps) p) i _ free in
     true-here t guard last e steps fields p parts.0
 true-next (q ∷ earlier) p t guard last e steps i fields free =
-    let parts = all-free (place_refusal (run_of t guard last e steps) q) i _ free in
+    let parts = all-free (offset_refusal (run_of t guard last e steps) q) i _ free in
     let others = subst (λ run. run_stop run (i + 1) (earlier ++ p ∷ []) ≡ None) (sym (next-run t guard last e steps fields q parts.0)) parts.1 in
     true-next earlier p _ _ q _ (steps + 1) (i + 1) (next-fields t guard last e steps fields q parts.0) others
 
--- an opener ends at each place of a list of which none is refused
+-- an opener ends at each offset of a list of which none is refused
 opened-in : (earlier : List ℕ) (p : ℕ) (run : Run) (i : ℕ) → run_stop run i (earlier ++ p ∷ []) ≡ None
     → opener_before run.text p ≡ None → ⊥
 opened-in [] p run i free none =
-    let is = free-place run p (all-free (place_refusal run p) i _ free).0 in
+    let is = free-offset run p (all-free (offset_refusal run p) i _ free).0 in
     let clash : None ≡ Some is.mark = sym none ∙ is.opened in cc
 opened-in (q ∷ earlier) p run i free none =
-    opened-in earlier p (run_step run q) (i + 1) (all-free (place_refusal run q) i _ free).1 none
+    opened-in earlier p (run_step run q) (i + 1) (all-free (offset_refusal run q) i _ free).1 none
 
 -- ---- from the front of a text
 
--- the first guard stops nothing at a place above 0
+-- the first guard stops nothing at an offset above 0
 pub first-true : (text : List ℕ) (q : ℕ) → 0 < q → IsTrueGuard text first_guard q
 first-true text q some Comment stopped = absurd (omega (arith, ltb-true q 0 stopped))
 first-true text q some Cdata stopped = absurd (omega (arith, ltb-true q 0 stopped))
@@ -146,7 +146,7 @@ bytes-more : (text : List ℕ) (guard : HtmlScanGuard) (earlier : List ℕ) (p :
 bytes-more text guard [] p = omega arith
 bytes-more text guard (q ∷ earlier) p = omega (arith, bytes-more text (guard_after_scan opening_at text guard q) earlier p)
 
--- a scan at the last of some places of which a run refuses none, under the guard that scans at the others leave
+-- a scan at the last of some offsets of which a run refuses none, under the guard that scans at the others leave
 pub next_scan : (text earlier : List ℕ) (p : ℕ) → AreScanPlaces text (earlier ++ p ∷ []) → IsNextScan text earlier p
 next_scan text earlier p free =
     let counted : CountedBytes = record { text = text; passed = 0 } in

@@ -12,19 +12,19 @@ pub returns-then-not-begins : goal.returns-then-not-begins
 returns-then-not-begins c =
     let text = c.args.text.now in
     let begins = c.if-not-begins.ensures in
-    let scan = scan-bracket text.text c.args.guard.now c.args.place in
-    rw (declared_at-bracket text.text c.args.place c.requires.stands (sym begins.answer)) (record {
+    let scan = scan-bracket text.text c.args.guard.now c.args.offset in
+    rw (declared_at-bracket text.text c.args.offset c.requires.stands (sym begins.answer)) (record {
       answer = scan.answers;
       guards = scan.guards;
       counts = scan-counts text c.starts-begins.new.self _ scan begins.counts refl;
     })
 
-pub returns-then-place-guard : goal.returns-then-place-guard
-returns-then-place-guard c =
+pub returns-then-offset-guard : goal.returns-then-offset-guard
+returns-then-offset-guard c =
     let text = c.args.text.now in
     let begins = c.if-not-begins.ensures in
-    let scan = scan-stopped text.text c.args.guard.now c.args.place Cdata (lt-ltb _ _ c.if-place-guard.true) in
-    rw (declared_at-cdata text.text c.args.place c.requires.stands (sym begins.answer)) (record {
+    let scan = scan-stopped text.text c.args.guard.now c.args.offset Cdata (lt-ltb _ _ c.if-offset-guard.true) in
+    rw (declared_at-cdata text.text c.args.offset c.requires.stands (sym begins.answer)) (record {
       answer = scan.answers;
       guards = scan.guards;
       counts = scan-counts text c.starts-begins.new.self _ scan begins.counts refl;
@@ -35,12 +35,12 @@ pub returns-in_err-hit : goal.returns-in_err-hit
 returns-in_err-hit c =
     let text = c.args.text.now in
     let guard = c.args.guard.now in
-    let p = c.args.place in
+    let p = c.args.offset in
     let u = c.starts-begins.new.self in
     let v = c.find_or_shut.new.text in
     let begins = c.if-not-begins.ensures in
     let found = c.in_err-hit.ensures in
-    let free = le-ltb _ _ c.if-place-guard.false in
+    let free = le-ltb _ _ c.if-offset-guard.false in
     let room : p + 1 + 6 ≤ length text.text = stands-length text.text (codes "CDATA[") (p + 1) (sym begins.answer) in
     let scan = scan-searched text u v guard p _ Cdata None free
     begins.counts found.answer found.counts (omega arith) in
@@ -54,13 +54,13 @@ pub returns : goal.returns
 returns c =
     let text = c.args.text.now in
     let guard = c.args.guard.now in
-    let p = c.args.place in
+    let p = c.args.offset in
     let u = c.starts-begins.new.self in
     let v = c.find_or_shut.new.text in
     let hit = Some c.in_ok-hit.hit in
     let begins = c.if-not-begins.ensures in
     let found = c.in_ok-hit.ensures in
-    let free = le-ltb _ _ c.if-place-guard.false in
+    let free = le-ltb _ _ c.if-offset-guard.false in
     let room : p + 1 + 6 ≤ length text.text = stands-length text.text (codes "CDATA[") (p + 1) (sym begins.answer) in
     let scan = scan-searched text u v guard p _ Cdata hit free
     begins.counts found.answer found.counts (omega arith) in
@@ -70,5 +70,5 @@ returns c =
       counts = scan.1 1 refl;
     })
 
-pub overflow_add-place : goal.overflow_add-place
-overflow_add-place c = grind (arith, elements)
+pub overflow_add-offset : goal.overflow_add-offset
+overflow_add-offset c = grind (arith, elements)

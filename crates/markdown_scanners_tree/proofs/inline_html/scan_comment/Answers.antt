@@ -21,28 +21,28 @@ no_such_byte : (o : Option ℕ) (b : ℕ) → true ≡ not (option_eq ◌==◌ o
 no_such_byte None b e = none-some b
 no_such_byte (Some a) b e = λ same. false≢true (sym (e ∙ ap not (eq-eqb a b (same_Some a b same))))
 
-pub returns-then-place-guard : goal.returns-then-place-guard
-returns-then-place-guard c =
+pub returns-then-offset-guard : goal.returns-then-offset-guard
+returns-then-offset-guard c =
     let text = c.args.text.now in
-    let stopped = lt-ltb _ _ c.if-place-guard.true in
+    let stopped = lt-ltb _ _ c.if-offset-guard.true in
     ⊎_elim
     (λ second.
-    let scan = scan-stopped text.text c.args.guard.now c.args.place Comment stopped in
-    rw (declared_at-comment text.text c.args.place c.requires.stands second)
+    let scan = scan-stopped text.text c.args.guard.now c.args.offset Comment stopped in
+    rw (declared_at-comment text.text c.args.offset c.requires.stands second)
     (record { answer = scan.answers; guards = scan.guards; counts = scan-counts text text 0 scan (passing-none text) refl }))
     (λ other.
-    let scan = scan-hyphen-stopped text.text c.args.guard.now c.args.place stopped in
-    rw (declared_at-hyphen text.text c.args.place c.requires.stands other)
+    let scan = scan-hyphen-stopped text.text c.args.guard.now c.args.offset stopped in
+    rw (declared_at-hyphen text.text c.args.offset c.requires.stands other)
     (record { answer = scan.answers; guards = scan.guards; counts = scan-counts text text 0 scan (passing-none text) refl }))
-    (some_or_not (slice_get text.text (c.args.place + 1)) hyphen)
+    (some_or_not (slice_get text.text (c.args.offset + 1)) hyphen)
 
 pub returns-then-ne : goal.returns-then-ne
 returns-then-ne c =
     let text = c.args.text.now in
     let other =
     subst (λ o. o ≢ Some hyphen) c.look-second.ensures.answer (no_such_byte c.look-second.result hyphen c.if-ne.ensures) in
-    let scan = scan-hyphen text.text c.args.guard.now c.args.place (le-ltb _ _ c.if-place-guard.false) in
-    rw (declared_at-hyphen text.text c.args.place c.requires.stands other)
+    let scan = scan-hyphen text.text c.args.guard.now c.args.offset (le-ltb _ _ c.if-offset-guard.false) in
+    rw (declared_at-hyphen text.text c.args.offset c.requires.stands other)
     (record { answer = scan.answers; guards = scan.guards; counts = scan-counts text c.look-second.new.self _ scan c.look-second.ensures.counts refl })
 
 -- the search after the look at the second byte
@@ -50,12 +50,12 @@ pub returns-in_err-hit : goal.returns-in_err-hit
 returns-in_err-hit c =
     let text = c.args.text.now in
     let guard = c.args.guard.now in
-    let p = c.args.place in
+    let p = c.args.offset in
     let u = c.look-second.new.self in
     let v = c.find_or_shut.new.text in
     let looked = c.look-second.ensures in
     let found = c.in_err-hit.ensures in
-    let free = le-ltb _ _ c.if-place-guard.false in
+    let free = le-ltb _ _ c.if-offset-guard.false in
     let there = sym looked.answer ∙ is_some_byte c.look-second.result hyphen c.if-ne.ensures in
     let start : p + 0 ≡ p = omega arith in
     let room : p < length text.text = slice_get_within text.text p hyphen c.requires.stands in
@@ -71,13 +71,13 @@ pub returns : goal.returns
 returns c =
     let text = c.args.text.now in
     let guard = c.args.guard.now in
-    let p = c.args.place in
+    let p = c.args.offset in
     let u = c.look-second.new.self in
     let v = c.find_or_shut.new.text in
     let hit = Some c.in_ok-hit.hit in
     let looked = c.look-second.ensures in
     let found = c.in_ok-hit.ensures in
-    let free = le-ltb _ _ c.if-place-guard.false in
+    let free = le-ltb _ _ c.if-offset-guard.false in
     let there = sym looked.answer ∙ is_some_byte c.look-second.result hyphen c.if-ne.ensures in
     let start : p + 0 ≡ p = omega arith in
     let room : p < length text.text = slice_get_within text.text p hyphen c.requires.stands in
@@ -89,5 +89,5 @@ returns c =
       counts = scan.1 1 refl;
     })
 
-pub overflow_add-place : goal.overflow_add-place
-overflow_add-place c = grind (arith, elements)
+pub overflow_add-offset : goal.overflow_add-offset
+overflow_add-offset c = grind (arith, elements)

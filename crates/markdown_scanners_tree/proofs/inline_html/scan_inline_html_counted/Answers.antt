@@ -1,4 +1,4 @@
--- What begins at the place is given by the mark.
+-- What begins at the offset is given by the mark.
 use Rattle.std.proofs.Common.{◌≡◌, None, Some, sym, ap, ◌∙◌, arith}
 use Rattle.markdown_scanners_tree.specs.inline_html.Guard.{is_stopped}
 use Rattle.markdown_scanners_tree.specs.inline_html.InlineHtml.{Begins, Processing, declared_at}
@@ -9,7 +9,7 @@ use Rattle.markdown_scanners_tree.proofs.inline_html.scan_inline_html_counted.Go
 pub returns-in-Some-eq33 : goal.returns-in-Some-eq33
 returns-in-Some-eq33 c =
     let text = c.args.text.now.text in
-    let p = c.args.place in
+    let p = c.args.offset in
     let guard = c.args.guard.now in
     let opener = sym c.in-Some-eq33.ensures.answer in
     let bang = opener-bang text p c.in-Some-eq33.field-0 opener c.in-Some-eq33.field-0-test in
@@ -30,7 +30,7 @@ returns-in-Some-eq33 c =
 pub returns-in-Some : goal.returns-in-Some
 returns-in-Some c =
     let text = c.args.text.now.text in
-    let p = c.args.place in
+    let p = c.args.offset in
     let guard = c.args.guard.now in
     let opener = sym c.in-Some.ensures.answer in
     let question = opener-question text p c.in-Some.field-0 opener c.in-Some.field-0-test.1 in

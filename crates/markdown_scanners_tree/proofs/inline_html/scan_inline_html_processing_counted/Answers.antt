@@ -7,15 +7,15 @@ use Rattle.markdown_scanners_tree.proofs.inline_html.Scans.{scan-stopped, scan-s
 use Rattle.markdown_scanners_tree.proofs.inline_html.TrueGuards.{true-processing}
 use Rattle.markdown_scanners_tree.proofs.inline_html.scan_inline_html_processing_counted.Goals as goal
 
-pub returns-then-place-guard : goal.returns-then-place-guard
-returns-then-place-guard c =
+pub returns-then-offset-guard : goal.returns-then-offset-guard
+returns-then-offset-guard c =
     let text = c.args.text.now in
-    let scan = scan-stopped text.text c.args.guard.now c.args.place Processing (le-leb _ _ c.if-place-guard.true) in
+    let scan = scan-stopped text.text c.args.guard.now c.args.offset Processing (le-leb _ _ c.if-offset-guard.true) in
     record {
       answer = scan.answers;
       guards = scan.guards;
       counts = passing-none text ∙ ap (passing text) scan.counts;
-      finds = true-processing text.text c.args.guard.now c.args.place _ _ scan.answers scan.guards;
+      finds = true-processing text.text c.args.guard.now c.args.offset _ _ scan.answers scan.guards;
     }
 
 -- the search
@@ -23,10 +23,10 @@ pub returns-in_err-hit : goal.returns-in_err-hit
 returns-in_err-hit c =
     let text = c.args.text.now in
     let guard = c.args.guard.now in
-    let p = c.args.place in
+    let p = c.args.offset in
     let v = c.find_or_shut.new.text in
     let found = c.in_err-hit.ensures in
-    let free = lt-leb _ _ c.if-place-guard.false in
+    let free = lt-leb _ _ c.if-offset-guard.false in
     let start : p + 0 ≡ p = omega arith in
     let scan = scan-searched text text v guard p 0 Processing None free (passing-none text)
     (rw start found.answer) (rw start found.counts) (omega (arith, c.requires.within)) in
@@ -43,11 +43,11 @@ pub returns : goal.returns
 returns c =
     let text = c.args.text.now in
     let guard = c.args.guard.now in
-    let p = c.args.place in
+    let p = c.args.offset in
     let v = c.find_or_shut.new.text in
     let hit = Some c.in_ok-hit.hit in
     let found = c.in_ok-hit.ensures in
-    let free = lt-leb _ _ c.if-place-guard.false in
+    let free = lt-leb _ _ c.if-offset-guard.false in
     let start : p + 0 ≡ p = omega arith in
     let scan = scan-searched text text v guard p 0 Processing hit free (passing-none text)
     (rw start found.answer) (rw start found.counts) (omega (arith, c.requires.within)) in

@@ -19,29 +19,29 @@ use Rattle.markdown_scanners_tree.proofs.line.SpaceLemmas.{state_of, further-col
 use Rattle.markdown_scanners_tree.proofs.line.HeadLemmas.{step-fits}
 
 -- the state that a run on the line has when it has taken k columns of the written out line; c is
--- the column of its place
+-- the column of its offset
 pub record Tied (line : List ℕ) (k c : ℕ) (s : LineState) : Type 0 where
-  pub shape : s ≡ state_of line s.place s.pending c
+  pub shape : s ≡ state_of line s.offset s.pending c
   pub at : k + s.pending ≡ c
-  pub below : (later : ℕ) → k ≤ later → bytes_below 0 line later ≡ s.place + bytes_below c (drop s.place line) later
-  pub on : (later : ℕ) → k ≤ later → is_on_byte 0 line later ≡ is_on_byte c (drop s.place line) later
+  pub below : (later : ℕ) → k ≤ later → bytes_below 0 line later ≡ s.offset + bytes_below c (drop s.offset line) later
+  pub on : (later : ℕ) → k ≤ later → is_on_byte 0 line later ≡ is_on_byte c (drop s.offset line) later
   pub rest : drop k (expanded line) ≡ rest_of s
 
-module _ (line : List ℕ) (k c place p t : ℕ) (tied : Tied line k c (state_of line place p c))
-    (fits : c + t ≤ p + head_end c (drop place line))
-    (rest : rest_of (columns_further t (state_of line place p c)) ≡ drop t (rest_of (state_of line place p c))) where
-  tied_next : let m = bytes_below c (drop place line) (c + t - p) in
-      Tied line (k + t) (column_past c (take m (drop place line))) (columns_further t (state_of line place p c))
+module _ (line : List ℕ) (k c offset p t : ℕ) (tied : Tied line k c (state_of line offset p c))
+    (fits : c + t ≤ p + head_end c (drop offset line))
+    (rest : rest_of (columns_further t (state_of line offset p c)) ≡ drop t (rest_of (state_of line offset p c))) where
+  tied_next : let m = bytes_below c (drop offset line) (c + t - p) in
+      Tied line (k + t) (column_past c (take m (drop offset line))) (columns_further t (state_of line offset p c))
   tied_next =
-      let back = drop place line in
+      let back = drop offset line in
       let m = bytes_below c back (c + t - p) in
       let c' = column_past c (take m back) in
       let at : k + p ≡ c = tied.at in
       let here : c + t - p ≡ k + t = omega arith in
       let reached : c + t - p ≤ c' = past-fits back c (c + t - p) m (omega arith) refl in
-      let move = further-column line place p c t in
-      let dropped : drop m (drop place line) ≡ drop (place + m) line = drop-drop m place line in
-      let after : Tied line (k + t) c' (state_of line (place + m) (p + c' - (c + t)) c') = record {
+      let move = further-column line offset p c t in
+      let dropped : drop m (drop offset line) ≡ drop (offset + m) line = drop-drop m offset line in
+      let after : Tied line (k + t) c' (state_of line (offset + m) (p + c' - (c + t)) c') = record {
         shape = refl;
         at = omega arith;
         below = λ later h.
@@ -64,15 +64,15 @@ tied_on line k c s tied =
     (λ yes.
     let none : s.pending ≡ 0 = grind (arith, nat_tests) in
     let here : k ≡ c = omega arith in
-    rw (yes, here) (on_here (drop s.place line) c))
+    rw (yes, here) (on_here (drop s.offset line) c))
     (λ no.
     let some : k < c = grind (arith, nat_tests) in
-    rw (no) (off_before (drop s.place line) c k some))
+    rw (no) (off_before (drop s.offset line) c k some))
 
-pub tied_scanned : (line : List ℕ) (k c : ℕ) (s : LineState) → Tied line k c s → bytes_below 0 line k ≡ s.place
+pub tied_scanned : (line : List ℕ) (k c : ℕ) (s : LineState) → Tied line k c s → bytes_below 0 line k ≡ s.offset
 tied_scanned line k c s tied =
     let at = tied.at in
-    let none = none_below (drop s.place line) c k (omega arith) in
+    let none = none_below (drop s.offset line) c k (omega arith) in
     tied.below k (omega arith) ∙ rw none (omega arith)
 
 -- answers before a run
@@ -85,25 +85,25 @@ pub record SoFar (line : List ℕ) (calls left : List LineCall) (answers : List 
   pub tied : Tied line k c s
   pub run : plain_run line calls ≡ after_answers answers (run_from line k left)
 
--- the column after a call, and the column of the place then
+-- the column after a call, and the column of the offset then
 abbrev pub next_column : LineState → ℕ → ℕ → ℕ
 next_column s c t = column_past c (take (bytes_below c (unscanned s) (c + t - s.pending)) (unscanned s))
 
 pub tied_next-state : (line : List ℕ) (k c t : ℕ) (s : LineState) → Tied line k c s
-    → c + t ≤ s.pending + head_end c (drop s.place line) → rest_of (columns_further t s) ≡ drop t (rest_of s)
+    → c + t ≤ s.pending + head_end c (drop s.offset line) → rest_of (columns_further t s) ≡ drop t (rest_of s)
     → Tied line (k + t) (next_column s c t) (columns_further t s)
 tied_next-state line k c t s tied fits rest =
-    let P : LineState → Type 0 = λ x. Tied line k c x → c + t ≤ x.pending + head_end c (drop x.place line)
+    let P : LineState → Type 0 = λ x. Tied line k c x → c + t ≤ x.pending + head_end c (drop x.offset line)
     → rest_of (columns_further t x) ≡ drop t (rest_of x)
     → Tied line (k + t) (next_column x c t) (columns_further t x) in
-    subst P (sym tied.shape) (λ a b d. tied_next line k c s.place s.pending t a b d) tied fits rest
+    subst P (sym tied.shape) (λ a b d. tied_next line k c s.offset s.pending t a b d) tied fits rest
 
 pub step-fits-state : (call : LineCall) (line : List ℕ) (k c : ℕ) (s : LineState) → Tied line k c s
-    → c + (plain_step call (rest_of s)).taken ≤ s.pending + head_end c (drop s.place line)
+    → c + (plain_step call (rest_of s)).taken ≤ s.pending + head_end c (drop s.offset line)
 step-fits-state call line k c s tied =
     let P : LineState → Type 0 =
-    λ x. c + (plain_step call (rest_of x)).taken ≤ x.pending + head_end c (drop x.place line) in
-    subst P (sym tied.shape) (step-fits call line s.place s.pending c)
+    λ x. c + (plain_step call (rest_of x)).taken ≤ x.pending + head_end c (drop x.offset line) in
+    subst P (sym tied.shape) (step-fits call line s.offset s.pending c)
 
 -- a run whose first call is not refused, and one whose first call is
 pub run_from-goes : (line : List ℕ) (k : ℕ) (call : LineCall) (left : List LineCall)
@@ -153,7 +153,7 @@ so_far_next line calls left answers s s' k c call so allowed state rest =
 pub so_far_done : (line : List ℕ) (calls : List LineCall) (answers : List LineAnswer) (s : LineState) (k c : ℕ) →
     SoFar line calls [] answers s k c →
     (answers ≡ (plain_run line calls).answers) × (None ≡ indexed_stop (plain_run line calls))
-    × (rest_of s ≡ rest_after line (plain_run line calls)) × (s.place ≡ scanned_after line (plain_run line calls))
+    × (rest_of s ≡ rest_after line (plain_run line calls)) × (s.offset ≡ scanned_after line (plain_run line calls))
 so_far_done line calls answers s k c so =
     rw (so.run) (sym (append-nil answers), refl, sym so.tied.rest, sym (tied_scanned line k c s so.tied))
 
@@ -161,7 +161,7 @@ pub so_far_stopped : (line : List ℕ) (calls left : List LineCall) (call : Line
     (answers : List LineAnswer) (s : LineState) (k c : ℕ) →
     SoFar line calls (call ∷ left) answers s k c → line_refusal (s.pending == 0) call ≡ Some reason →
     (answers ≡ (plain_run line calls).answers) × (Some (length answers, reason) ≡ indexed_stop (plain_run line calls))
-    × (rest_of s ≡ rest_after line (plain_run line calls)) × (s.place ≡ scanned_after line (plain_run line calls))
+    × (rest_of s ≡ rest_after line (plain_run line calls)) × (s.offset ≡ scanned_after line (plain_run line calls))
 so_far_stopped line calls left call reason answers s k c so refused =
     let stops =
     run_from-stops line k call left reason (ap (λ b. line_refusal b call) (tied_on line k c s so.tied) ∙ refused) in

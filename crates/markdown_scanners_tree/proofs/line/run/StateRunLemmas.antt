@@ -14,7 +14,7 @@ use Rattle.markdown_scanners_tree.specs.line.ItemRules.{start_of}
 use Rattle.markdown_scanners_tree.specs.line.PlainStep.{PlainStep, plain_step}
 use Rattle.markdown_scanners_tree.specs.line.State.{LineState, columns_further, rest_of}
 use Rattle.markdown_scanners_tree.specs.line.run.PlainRun.{PlainRun, line_refusal, plain_run, rest_after, run_from, scanned_after}
-use Rattle.markdown_scanners_tree.specs.line.run.StateRun.{StateRun, before_run, behind_answers, learnt_by_call, state_run}
+use Rattle.markdown_scanners_tree.specs.line.run.StateRun.{StateRun, before_run, after_answers, learnt_by_call, state_run}
 use Rattle.markdown_scanners_tree.specs.declared.line.known_breaks.KnownBreaks.{KnownBreaks}
 use Rattle.markdown_scanners_tree.specs.declared.line.run.LineCall.{LineCall}
 use Rattle.markdown_scanners_tree.specs.declared.line.run.LineStop.{LineStop}
@@ -51,7 +51,7 @@ written_inside b c k w later inside =
     ]
 
 -- What is written out from a column on, after a byte at a lower one.
-written_behind : (b : ℕ) (bs : List ℕ) (c k : ℕ) → c < k → is_line_ending b ≡ false →
+written_after : (b : ℕ) (bs : List ℕ) (c k : ℕ) → c < k → is_line_ending b ≡ false →
     let after = column_after c b in
     let left = bytes_below after bs k in
     let end = column_past after (take left bs) in
@@ -59,7 +59,7 @@ written_behind : (b : ℕ) (bs : List ℕ) (c k : ℕ) → c < k → is_line_end
     let reached = column_past c (take m (b ∷ bs)) in
     (after ≤ k → drop (k - after) (written_out after bs) ≡ spaces (end - k) ++ written_out end (drop left bs))
     → drop (k - c) (written_out c (b ∷ bs)) ≡ spaces (reached - k) ++ written_out reached (drop m (b ∷ bs))
-written_behind b bs c k later goes more =
+written_after b bs c k later goes more =
     let after = column_after c b in
     let below : nat_lt c k ≡ true = grind (arith, nat_tests) in
     let one : bytes_below c (b ∷ bs) k ≡ suc (bytes_below after bs k) =
@@ -91,22 +91,22 @@ written_from (b ∷ bs) c k from fits =
     (λ goes.
     elim (cases_lt c k) [
       | inr same ↦ written_here (b ∷ bs) c k (omega arith)
-      | inl later ↦ written_behind b bs c k later goes
+      | inl later ↦ written_after b bs c k later goes
           (λ past. written_from bs (column_after c b) k past (rw (head_end-cons c b bs goes) at fits))
     ])
 
 -- As many columns further no more is left than these columns less.
-rest_further : (line : List ℕ) (place p c t : ℕ) → c + t ≤ p + head_end c (drop place line)
-    → rest_of (columns_further t (state_of line place p c)) ≡ drop t (rest_of (state_of line place p c))
-rest_further line place p c t fits =
-    let back = drop place line in
+rest_further : (line : List ℕ) (offset p c t : ℕ) → c + t ≤ p + head_end c (drop offset line)
+    → rest_of (columns_further t (state_of line offset p c)) ≡ drop t (rest_of (state_of line offset p c))
+rest_further line offset p c t fits =
+    let back = drop offset line in
     let m = bytes_below c back (c + t - p) in
     let reached = column_past c (take m back) in
     let left = p + reached - (c + t) in
-    let moved : rest_of (columns_further t (state_of line place p c)) ≡ spaces left ++ written_out reached (drop m back) =
-    ap rest_of (further-column line place p c t)
-    ∙ ap (λ w. spaces left ++ w) (written_out-phase (drop (place + m) line) reached
-    ∙ ap (written_out reached) (sym (drop-drop m place line))) in
+    let moved : rest_of (columns_further t (state_of line offset p c)) ≡ spaces left ++ written_out reached (drop m back) =
+    ap rest_of (further-column line offset p c t)
+    ∙ ap (λ w. spaces left ++ w) (written_out-phase (drop (offset + m) line) reached
+    ∙ ap (written_out reached) (sym (drop-drop m offset line))) in
     let same : spaces left ++ written_out reached (drop m back) ≡ drop t (spaces p ++ written_out c back) =
     elim (cases_lt p t) [
       | inl past ↦ (
@@ -130,11 +130,11 @@ rest_further line place p c t fits =
     moved ∙ same ∙ ap (λ w. drop t (spaces p ++ w)) (sym (written_out-phase back c))
 
 rest_further-state : (line : List ℕ) (k c t : ℕ) (s : LineState) → Tied line k c s
-    → c + t ≤ s.pending + head_end c (drop s.place line) → rest_of (columns_further t s) ≡ drop t (rest_of s)
+    → c + t ≤ s.pending + head_end c (drop s.offset line) → rest_of (columns_further t s) ≡ drop t (rest_of s)
 rest_further-state line k c t s tied =
-    let P : LineState → Type 0 = λ x. c + t ≤ x.pending + head_end c (drop x.place line)
+    let P : LineState → Type 0 = λ x. c + t ≤ x.pending + head_end c (drop x.offset line)
     → rest_of (columns_further t x) ≡ drop t (rest_of x) in
-    subst P (sym tied.shape) (rest_further line s.place s.pending c t)
+    subst P (sym tied.shape) (rest_further line s.offset s.pending c t)
 
 -- a run whose first call is not refused, and one whose first call is
 run_goes : (s : LineState) (known : KnownBreaks) (call : LineCall) (left : List LineCall)
@@ -161,12 +161,12 @@ run_stops s known call left reason h =
           (state_run (columns_further step.taken s) (learnt_by_call call s known) left)
     ]) h
 
--- The runs tell the same, and stop at one place.
+-- The runs tell the same, and stop at one offset.
 record AreAlike (line : List ℕ) (run : StateRun) (plain : PlainRun) : Type 0 where
   pub answers : run.answers ≡ plain.answers
   pub stop : run.stop ≡ plain.stop
   pub rest : rest_of run.state ≡ rest_after line plain
-  pub scanned : run.state.place ≡ scanned_after line plain
+  pub scanned : run.state.offset ≡ scanned_after line plain
 
 alike_from : (calls : List LineCall) (line : List ℕ) (k c : ℕ) (s : LineState) (known : KnownBreaks)
     → Tied line k c s → AreAlike line (state_run s known calls) (run_from line k calls)
@@ -213,7 +213,7 @@ pub run_at_front : (line : List ℕ) (known : KnownBreaks) (calls : List LineCal
     let run = state_run (start_of line) known calls in
     let plain = plain_run line calls in
     (run.answers ≡ plain.answers) × (run.stop ≡ plain.stop) × (rest_of run.state ≡ rest_after line plain)
-    × (run.state.place ≡ scanned_after line plain)
+    × (run.state.offset ≡ scanned_after line plain)
 run_at_front line known calls =
     let alike = alike_from calls line 0 0 (start_of line) known (record {
       shape = refl;
@@ -228,7 +228,7 @@ run_at_front line known calls =
 pub run_in_parts : (calls more : List LineCall) (s : LineState) (known : KnownBreaks) →
     let first = state_run s known calls in
     first.stop ≡ None
-    → state_run s known (calls ++ more) ≡ behind_answers first.answers (state_run first.state first.known more)
+    → state_run s known (calls ++ more) ≡ after_answers first.answers (state_run first.state first.known more)
 run_in_parts [] more s known = λ ended. refl
 run_in_parts (call ∷ calls) more s known =
     by (run_in_parts calls more next (learnt_by_call call s known)) (line_refusal (s.pending == 0) call) refl
@@ -241,11 +241,11 @@ run_in_parts (call ∷ calls) more s known =
 
     by : (let others = state_run next (learnt_by_call call s known) calls in
         others.stop ≡ None → state_run next (learnt_by_call call s known) (calls ++ more)
-        ≡ behind_answers others.answers (state_run others.state others.known more)) → (o : Option LineStop) → line_refusal (s.pending == 0) call ≡ o →
+        ≡ after_answers others.answers (state_run others.state others.known more)) → (o : Option LineStop) → line_refusal (s.pending == 0) call ≡ o →
         let first = state_run s known (call ∷ calls) in
         first.stop ≡ None
         → state_run s known (call ∷ (calls ++ more))
-        ≡ behind_answers first.answers (state_run first.state first.known more)
+        ≡ after_answers first.answers (state_run first.state first.known more)
     by same (Some stop) is = rw (run_stops s known call calls stop is) (λ ended. absurd (none-some stop (sym ended)))
     by same None is =
         rw (run_goes s known call calls is, run_goes s known call (calls ++ more) is)

@@ -9,7 +9,7 @@ use Rattle.std.proofs.lemmas.Bool.Decides.{nat_tests}
 use Rattle.std.proofs.Math.Seq.{drop-append_seam, take-append_seam}
 use Rattle.markdown_scanners_tree.specs.Bytes.{begins_with, line_ending, line_head, line_length}
 use Rattle.markdown_scanners_tree.specs.scanners.Breaks.{is_break_marker, is_break_byte, IsThematicBreakOf, IsThematicBreak, is_thematic_break}
-use Rattle.markdown_scanners_tree.proofs.PrefixLemmas.{from_place, both_true, list_all-prefix, list_all-implies, list_all-drop, begins_with-implies, begins_with-after_prefix, prefix_len-parts}
+use Rattle.markdown_scanners_tree.proofs.PrefixLemmas.{from_offset, both_true, list_all-prefix, list_all-implies, list_all-drop, begins_with-implies, begins_with-after_prefix, prefix_len-parts}
 use Rattle.markdown_scanners_tree.proofs.scanners.lines.BlankLemmas.{ends_no_line, first-line_ending, line_ending-exists, head_parts, line_length-parts}
 use Rattle.markdown_scanners_tree.proofs.scanners.breaks.BreakLemmas.{is_thematic_break-found, is_thematic_break-none}
 
@@ -224,7 +224,7 @@ module _ (bytes : List ℕ) (marker run : ℕ) (marked : is_break_marker marker 
     pub scanned_none : None ≡ line_ending (take (length bytes - run) (drop run bytes))
         → (is_thematic_break bytes ≡ false) × ((k : ℕ) → k < run → is_thematic_break (drop k bytes) ≡ false)
     scanned_none ends =
-        let none : None ≡ line_ending (drop run bytes) = rw (from_place bytes run) at ends in
+        let none : None ≡ line_ending (drop run bytes) = rw (from_offset bytes run) at ends in
         let refused : HasThreeAndEnd marker (take run bytes) (drop run bytes) → ⊥ =
         λ found. (let some = found.0.1 in cc) in (
           is_thematic_break-none bytes (none_at_all refused),
@@ -235,7 +235,7 @@ module _ (bytes : List ℕ) (marker run : ℕ) (marked : is_break_marker marker 
         → Some ending ≡ line_ending (take (length bytes - run) (drop run bytes)) → markers < 3
         → (is_thematic_break bytes ≡ false) × ((k : ℕ) → k < run + ending → is_thematic_break (drop k bytes) ≡ false)
     scanned_few ending ends few =
-        let some : Some ending ≡ line_ending (drop run bytes) = rw (from_place bytes run) at ends in (
+        let some : Some ending ≡ line_ending (drop run bytes) = rw (from_offset bytes run) at ends in (
           is_thematic_break-none bytes (none_at_all
               (λ (found : HasThreeAndEnd marker (take run bytes) (drop run bytes)). omega (arith, found.1, is_count))),
           λ k lt. is_thematic_break-none (drop k bytes) (none_in_line ending (sym some)
@@ -245,6 +245,6 @@ module _ (bytes : List ℕ) (marker run : ℕ) (marked : is_break_marker marker 
     pub scanned_break : (ending : ℕ) → Some ending ≡ line_ending (take (length bytes - run) (drop run bytes))
         → 3 ≤ markers → (is_thematic_break bytes ≡ true) × (run + ending ≡ line_length bytes)
     scanned_break ending ends three =
-        let some : Some ending ≡ line_ending (drop run bytes) = rw (from_place bytes run) at ends in
+        let some : Some ending ≡ line_ending (drop run bytes) = rw (from_offset bytes run) at ends in
         let found = found_in_line ending (sym some) (omega (arith, three, is_count)) in
         (is_thematic_break-found bytes found.0, found.1)

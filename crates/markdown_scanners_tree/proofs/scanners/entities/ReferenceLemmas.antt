@@ -27,7 +27,7 @@ number_first radix limit bytes n number is =
       first radix [] rest bytes e a one = absurd (omega (arith, one))
       first radix (d ∷ ds) rest bytes e a one = rw e a.0
 
--- the three kinds, by places
+-- the three kinds, by offsets
 pub record IsDecimalAt (bytes meaning : List ℕ) : Type 0 where
   pub at_least_two : 2 ≤ length bytes
   pub mark : get_or bytes 1 0 ≡ number_sign
@@ -140,7 +140,7 @@ decimal_no_letter bytes meaning is letter =
           absurd (omega (arith, subst (λ b. digit_value b < 10) (eqb-true (get_or bytes 2 0) capital_x large) at))
     ]
 
--- what is at the places is a reference at the front
+-- what is at the offsets is a reference at the front
 pub decimal_found : (known : Lookup) (bytes : List ℕ) (n number : ℕ) → 2 ≤ length bytes → get_or bytes 1 0 ≡ number_sign
     → StartsWithNumber 10 7 (drop 2 bytes) n number
     → StartsWithReference known bytes (n + 3) (encode_utf8 (referenced_char number))
@@ -235,7 +235,7 @@ entity_ended known (a ∷ bs) n meaning some same is =
           ∙ is.means;
     }
 
--- a reference at the front is of one of the three kinds at its places
+-- a reference at the front is of one of the three kinds at its offsets
 kinds_at : (known : Lookup) (bytes : List ℕ) (n : ℕ) (meaning : List ℕ) → StartsWithReference known bytes n meaning
     → IsDecimalAt bytes meaning ⊎ (IsHexadecimalAt bytes meaning ⊎ IsEntityAt known bytes meaning)
 kinds_at known bytes n meaning is = elim is.is_reference [

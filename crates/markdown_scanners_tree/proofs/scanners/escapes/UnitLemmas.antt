@@ -24,14 +24,14 @@ units_joined (b ∷ c ∷ bs) = elim (cases_Bool (starts_escape (b ∷ c ∷ bs)
   | inr plain ↦ ap concat (units_single b (c ∷ bs) plain) ∙ ap (λ rest. b ∷ rest) (units_joined (c ∷ bs))
 ]
 
--- the same at a place
-pub drop_at_place : (bs : List ℕ) (i : ℕ) → i < length bs → drop i bs ≡ get_or bs i 0 ∷ drop (i + 1) bs
-drop_at_place bs i l = drop-cons bs i 0 l ∙ ap (λ k. get_or bs i 0 ∷ drop k bs) (sym (add-one i))
+-- the same at an offset
+pub drop_at_offset : (bs : List ℕ) (i : ℕ) → i < length bs → drop i bs ≡ get_or bs i 0 ∷ drop (i + 1) bs
+drop_at_offset bs i l = drop-cons bs i 0 l ∙ ap (λ k. get_or bs i 0 ∷ drop k bs) (sym (add-one i))
 
 pub units_single_at : (bs : List ℕ) (i : ℕ) → i < length bs → starts_escape (drop i bs) ≡ false
     → units (drop i bs) ≡ (get_or bs i 0 ∷ []) ∷ units (drop (i + 1) bs)
 units_single_at bs i l plain =
-    let e = drop_at_place bs i l in
+    let e = drop_at_offset bs i l in
     ap units e ∙ units_single (get_or bs i 0) (drop (i + 1) bs) (ap starts_escape (sym e) ∙ plain)
 
 pub units_escape_at : (bs : List ℕ) (i : ℕ) → i + 2 ≤ length bs → starts_escape (drop i bs) ≡ true
@@ -39,19 +39,19 @@ pub units_escape_at : (bs : List ℕ) (i : ℕ) → i + 2 ≤ length bs → star
 units_escape_at bs i l escape =
     let two : i + 1 + 1 ≡ i + 2 = omega arith in
     let e : drop i bs ≡ get_or bs i 0 ∷ get_or bs (i + 1) 0 ∷ drop (i + 2) bs =
-    drop_at_place bs i (omega (arith, l))
-    ∙ (ap (λ r. get_or bs i 0 ∷ r) (drop_at_place bs (i + 1) (omega (arith, l)))
+    drop_at_offset bs i (omega (arith, l))
+    ∙ (ap (λ r. get_or bs i 0 ∷ r) (drop_at_offset bs (i + 1) (omega (arith, l)))
     ∙ ap (λ k. get_or bs i 0 ∷ get_or bs (i + 1) 0 ∷ drop k bs) two) in
     ap units e ∙ units_escape (get_or bs i 0) (get_or bs (i + 1) 0) (drop (i + 2) bs)
     (ap starts_escape (sym e) ∙ escape)
 
 pub plain_byte : (bs : List ℕ) (i : ℕ) → i < length bs → get_or bs i 0 ≢ backslash → starts_escape (drop i bs) ≡ false
-plain_byte bs i l other = ap starts_escape (drop_at_place bs i l) ∙ go (get_or bs i 0) (drop (i + 1) bs) other where
+plain_byte bs i l other = ap starts_escape (drop_at_offset bs i l) ∙ go (get_or bs i 0) (drop (i + 1) bs) other where
   go : (b : ℕ) (rest : List ℕ) → b ≢ backslash → starts_escape (b ∷ rest) ≡ false
   go b [] other = refl
   go b (c ∷ rest) other = rw (ne_eqb b backslash other) refl
 
 pub escape_at_end : (bs : List ℕ) (i : ℕ) → i + 1 ≡ length bs → starts_escape (drop i bs) ≡ false
 escape_at_end bs i l =
-    ap starts_escape (drop_at_place bs i (omega (arith, l))
+    ap starts_escape (drop_at_offset bs i (omega (arith, l))
     ∙ ap (λ r. get_or bs i 0 ∷ r) (drop_all (i + 1) bs (omega (arith, l))))

@@ -9,7 +9,7 @@ use Rattle.markdown_values.specs.declared.values.HeadingLevel.{HeadingLevel}
 use Rattle.markdown_scanners_tree.specs.Ascii.{number_sign}
 use Rattle.markdown_scanners_tree.specs.Bytes.{begins_with, ends_or_begins_with, is_white_space, IsBlankLine}
 use Rattle.markdown_scanners_tree.specs.scanners.Headings.{IsAtxHeading, underline_byte, IsSetextUnderline}
-use Rattle.markdown_scanners_tree.proofs.PrefixLemmas.{from_place, prefix_len-parts}
+use Rattle.markdown_scanners_tree.proofs.PrefixLemmas.{from_offset, prefix_len-parts}
 use Rattle.markdown_scanners_tree.proofs.RunLemmas.{list_all-replicate, run-scanned, run-only, begun_by, run_begins}
 
 -- the run of `#` of a heading has the level's number
@@ -49,7 +49,7 @@ underline-scanned bytes byte run blank level of_level begins is_run line =
       of_level = of_level;
       is_run = scanned.0;
       at_least_one = let some = run_some bytes begins in omega (arith, scanned.1, is_run, some);
-      blank_rest = subst (λ (rest : List ℕ). IsBlankLine rest blank) (from_place bytes run) line;
+      blank_rest = subst (λ (rest : List ℕ). IsBlankLine rest blank) (from_offset bytes run) line;
       counted = ap (λ n. n + blank) (sym scanned.1);
     }
   where
@@ -68,4 +68,4 @@ underline-open bytes byte run begins is_run none n level line =
     let rest : line.rest ≡ drop run bytes =
     only.1 ∙ ap (λ k. drop (prefix_len (λ b. b == k) bytes) bytes) same ∙ ap (λ n. drop n bytes) (sym is_run) in
     none line.blank
-    (subst (λ (rest : List ℕ). IsBlankLine rest line.blank) (rest ∙ sym (from_place bytes run)) line.blank_rest)
+    (subst (λ (rest : List ℕ). IsBlankLine rest line.blank) (rest ∙ sym (from_offset bytes run)) line.blank_rest)

@@ -11,7 +11,7 @@ use Rattle.markdown_scanners_tree.specs.Ascii.{slash}
 use Rattle.markdown_scanners_tree.specs.Bytes.{begins_with, is_alphanumeric}
 use Rattle.markdown_scanners_tree.specs.scanners.html_block.HtmlBlock.{block_names, IsBlockName, ends_block_name, IsBlockStart}
 use Rattle.markdown_scanners_tree.specs.scanners.html_block.private.BlockRows.{after_slash}
-use Rattle.markdown_scanners_tree.proofs.PrefixLemmas.{both_true, list_all-prefix, prefix_len-parts, from_place}
+use Rattle.markdown_scanners_tree.proofs.PrefixLemmas.{both_true, list_all-prefix, prefix_len-parts, from_offset}
 
 abbrev run : List ℕ → ℕ
 run = prefix_len is_alphanumeric
@@ -98,7 +98,7 @@ module _ (bytes after : List ℕ) (n : ℕ) (ended : Bool) (a : after ≡ after_
   name_is = ap (λ z. take z after) k ∙ ap (λ z. take (run z) z) a
 
   rest_is : take (length after - n) (drop n after) ≡ drop (run (after_slash bytes)) (after_slash bytes)
-  rest_is = from_place after n ∙ ap (λ z. drop z after) k ∙ ap (λ z. drop (run z) z) a
+  rest_is = from_offset after n ∙ ap (λ z. drop z after) k ∙ ap (λ z. drop (run z) z) a
 
   pub starts_where_ended : (named : Bool) → (IsTrue named ↔ IsBlockName (take n after)) → ended ≡ true
       → IsTrue named ↔ IsBlockStart bytes

@@ -13,7 +13,7 @@ use Rattle.markdown_scanners_tree.specs.declared.scanners.html_kinds.HtmlBlockKi
 use Rattle.markdown_scanners_tree.specs.scanners.html_block.private.BlockRows.{texts}
 use Rattle.markdown_scanners_tree.specs.scanners.html_kinds.HtmlKinds.{begins_with_text, name_among, raw_text_names, begins_html_end, is_somewhere}
 use Rattle.markdown_scanners_tree.specs.scanners.html_kinds.private.Marks.{first_of_end}
-use Rattle.markdown_scanners_tree.proofs.PrefixLemmas.{both_true, from_place}
+use Rattle.markdown_scanners_tree.proofs.PrefixLemmas.{both_true, from_offset}
 
 -- a row that does not stand at the front is passed over
 pub name_next : (rows : List (Bor (List ℕ))) (row : Bor (List ℕ)) (bytes : List ℕ) (i : ℕ) {answer : _}
@@ -60,13 +60,13 @@ module _ (test : List ℕ → Bool) where
       | inr fails ↦ fails
     ]
 
-    pub somewhere_behind : (bytes : List ℕ) (k : ℕ) → k ≤ length bytes → Nowhere (Passes (is_byte first) bytes) 0 k
+    pub somewhere_after : (bytes : List ℕ) (k : ℕ) → k ≤ length bytes → Nowhere (Passes (is_byte first) bytes) 0 k
         → is_somewhere test bytes ≡ is_somewhere test (drop k bytes)
-    somewhere_behind bytes zero inside none = refl
-    somewhere_behind [] (suc k) inside none = refl
-    somewhere_behind (b ∷ bs) (suc k) inside none =
+    somewhere_after bytes zero inside none = refl
+    somewhere_after [] (suc k) inside none = refl
+    somewhere_after (b ∷ bs) (suc k) inside none =
         here b bs (none_here b bs (none 0 (omega arith) (omega arith)))
-        ∙ somewhere_behind bs k (omega arith) (λ j low high. none (suc j) (omega arith) (omega arith))
+        ∙ somewhere_after bs k (omega arith) (λ j low high. none (suc j) (omega arith) (omega arith))
 
 -- `>` stands after the name that was found
 abbrev at_name : Option ℕ → List ℕ → Bool
@@ -76,12 +76,12 @@ pub raw_end-found : (bytes name : List ℕ) (n : ℕ) → begins_with_text (code
     → Some n ≡ name_among raw_text_names name
     → begins_with (λ b. b == 62) (take (length name - n) (drop n name)) ≡ begins_html_end RawText bytes
 raw_end-found bytes name n opens is found =
-    ap (begins_with (λ b. b == 62)) (from_place name n)
+    ap (begins_with (λ b. b == 62)) (from_offset name n)
     ∙ ap (λ t. at_name t name) found
     ∙ ap (λ z. at_name (name_among raw_text_names z) z) is
     ∙ sym (ap (λ t. t && at_name (name_among raw_text_names (drop 2 bytes)) (drop 2 bytes)) opens)
 
--- the three answers of a search for the first byte of what ends a block, from a place on
+-- the three answers of a search for the first byte of what ends a block, from an offset on
 module _ (kind : HtmlBlockKind) (bytes : List ℕ) (from : ℕ) where
   abbrev rest : List ℕ
   rest = take (length bytes - from) (drop from bytes)
@@ -93,39 +93,39 @@ module _ (kind : HtmlBlockKind) (bytes : List ℕ) (from : ℕ) where
       → (b == first) ≡ true
   is_first first e b bs h = ap (λ f. b == f) e ∙ first_is kind b bs h
 
-  behind : (k first : ℕ) → first ≡ first_of_end kind → k ≤ length rest → Nowhere (Passes (is_byte first) rest) 0 k
+  after : (k first : ℕ) → first ≡ first_of_end kind → k ≤ length rest → Nowhere (Passes (is_byte first) rest) 0 k
       → ends (drop from bytes) ≡ ends (drop (from + k) bytes)
-  behind k first e inside none =
-      ap ends (sym (from_place bytes from))
-      ∙ somewhere_behind (begins_html_end kind) first (is_first first e) rest k inside none
-      ∙ ap (λ z. ends (drop k z)) (from_place bytes from)
+  after k first e inside none =
+      ap ends (sym (from_offset bytes from))
+      ∙ somewhere_after (begins_html_end kind) first (is_first first e) rest k inside none
+      ∙ ap (λ z. ends (drop k z)) (from_offset bytes from)
       ∙ ap ends (drop-drop k from bytes)
 
   pub search_none : (first : ℕ) → first ≡ first_of_end kind → Nowhere (Passes (is_byte first) rest) 0 (length rest)
       → ends (drop from bytes) ≡ false
   search_none first e none =
-      ap ends (sym (from_place bytes from))
-      ∙ somewhere_behind (begins_html_end kind) first (is_first first e) rest (length rest) (omega arith) none
+      ap ends (sym (from_offset bytes from))
+      ∙ somewhere_after (begins_html_end kind) first (is_first first e) rest (length rest) (omega arith) none
       ∙ ap ends (drop_all (length rest) rest (omega arith))
 
   module _ (k first : ℕ) (e : first ≡ first_of_end kind)
       (found : NoneBefore (Passes (is_byte first) rest) 0 (length rest) k × Passes (is_byte first) rest k) where
     at : from + k < length bytes
-    at = let size : length rest ≡ length bytes - from = ap length (from_place bytes from) ∙ length-drop from bytes in
+    at = let size : length rest ≡ length bytes - from = ap length (from_offset bytes from) ∙ length-drop from bytes in
         let high = found.0.high in omega arith
 
     here_is : begins_html_end kind (take (length bytes - (from + k)) (drop (from + k) bytes))
         ≡ begins_html_end kind (drop (from + k) bytes)
-    here_is = ap (begins_html_end kind) (from_place bytes (from + k))
+    here_is = ap (begins_html_end kind) (from_offset bytes (from + k))
 
     pub search_found : begins_html_end kind (take (length bytes - (from + k)) (drop (from + k) bytes)) ≡ true
         → ends (drop from bytes) ≡ true
     search_found there =
-        behind k first e (omega (arith, found.0.high)) found.0.before
+        after k first e (omega (arith, found.0.high)) found.0.before
         ∙ somewhere_there (begins_html_end kind) bytes (from + k) at (sym here_is ∙ there)
 
     pub search_later : begins_html_end kind (take (length bytes - (from + k)) (drop (from + k) bytes)) ≡ false
         → ends (drop from bytes) ≡ ends (drop (from + k + 1) bytes)
     search_later gone =
-        behind k first e (omega (arith, found.0.high)) found.0.before
+        after k first e (omega (arith, found.0.high)) found.0.before
         ∙ somewhere_later (begins_html_end kind) bytes (from + k) at (sym here_is ∙ gone)

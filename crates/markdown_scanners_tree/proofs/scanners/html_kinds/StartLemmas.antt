@@ -1,4 +1,4 @@
--- The kind of the HTML block that begins at a place is one, and the tests of a scan tell it.
+-- The kind of the HTML block that begins at an offset is one, and the tests of a scan tell it.
 use Rattle.std.proofs.Common.{ℕ, zero, suc, List, [], ◌∷◌, ◌++◌, ◌<◌, ◌≡◌, ◌⊎◌, ◌==◌, not, Bool, true, false, cond, IsTrue, Option, Some, None}
 use Rattle.std.proofs.Common.{drop, refl, sym, ap, ◌∙◌, subst, arith, inl, inr}
 use Rattle.std.specs.Prelude.{codes, nat_le, is_some}
@@ -316,10 +316,10 @@ marked_interruption rest some = by (marked_kind rest) refl some
     by (Some k) is some = (k, marked_start rest k is, marked_low rest k is)
 
 -- what stands after the `<` that was found
-pub behind_opener : (bytes rest : List ℕ) → begins_with_text (codes "<") bytes ≡ true → rest ≡ drop 1 bytes
+pub after_opener : (bytes rest : List ℕ) → begins_with_text (codes "<") bytes ≡ true → rest ≡ drop 1 bytes
     → bytes ≡ 60 ∷ rest
-behind_opener [] rest opened is = cc
-behind_opener (b ∷ bs) rest opened is =
+after_opener [] rest opened is = cc
+after_opener (b ∷ bs) rest opened is =
     let first : b ≡ 60 = eqb-true b 60 (both_true _ _ opened).0 in
     ap (λ z. z ∷ bs) first ∙ ap (λ z. 60 ∷ z) (sym is)
 

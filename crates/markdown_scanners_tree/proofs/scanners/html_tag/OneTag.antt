@@ -5,7 +5,7 @@ use denote.Ref.{Bor}
 use Rattle.markdown_scanners_tree.specs.Kept.{KeptByte, bytes_of, kept_text, line_endings}
 use Rattle.markdown_scanners_tree.specs.Handler.{IsSteady}
 use Rattle.markdown_scanners_tree.specs.scanners.html_tag.HtmlTag.{IsTagAloneInLine}
-use Rattle.markdown_scanners_tree.specs.scanners.html_tag.KeptTag.{AnswersIfAny, IsKeptTag, place_after}
+use Rattle.markdown_scanners_tree.specs.scanners.html_tag.KeptTag.{AnswersIfAny, IsKeptTag, offset_after}
 use Rattle.markdown_scanners_tree.specs.scanners.tag_state.private.TagMachine.{state_after}
 use Rattle.markdown_scanners_tree.specs.declared.scanners.tag_state.TagState.TheVariants.{Start}
 use Rattle.markdown_scanners_tree.proofs.OneKeptText.{Extends, two_fronts, one_kept_text}
@@ -67,4 +67,4 @@ one_tag_alone bytes n other is is' =
     let tag' = kept_from_alone (λ rest skip. ⊥) (λ rest skip a. a) bytes other is' in
     let same : tag.0 ≡ tag'.0 =
     one_kept_tag (λ rest skip. ⊥) (λ rest k l a b. absurd a) bytes tag.0 tag'.0 tag.1 tag'.1 in
-    sym tag.2 ∙ (ap (place_after 0) same ∙ tag'.2)
+    sym tag.2 ∙ (ap (offset_after 0) same ∙ tag'.2)

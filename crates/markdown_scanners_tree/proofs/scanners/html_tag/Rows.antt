@@ -2,7 +2,7 @@
 use Rattle.std.proofs.Common.{ℕ, List, [], ◌∷◌, ◌++◌, ◌≡◌, false, refl, codes}
 use Rattle.markdown_scanners_tree.specs.Ascii.{tab, line_feed, carriage_return}
 use Rattle.markdown_scanners_tree.specs.Kept.{kept_text, line_endings}
-use Rattle.markdown_scanners_tree.specs.scanners.html_tag.KeptTag.{place_after, tag_buffer}
+use Rattle.markdown_scanners_tree.specs.scanners.html_tag.KeptTag.{offset_after, tag_buffer}
 use Rattle.markdown_scanners_tree.specs.scanners.tag_state.private.TagMachine.{state_after, is_tag_end}
 use Rattle.markdown_scanners_tree.specs.declared.scanners.tag_state.TagState.TheVariants.{Start}
 use Rattle.markdown_scanners_tree.proofs.scanners.tag_state.TagEnds.{IsTagOf, tag_exactly}
@@ -59,13 +59,13 @@ parted_count = refl
 joined_count : line_endings (kept_text (codes "a" ++ carriage_return ∷ line_feed ∷ codes "b") (0 ∷ [])) ≡ 1
 joined_count = refl
 
--- the kept text of "<foo\n> bar>" with the skip 2: its text, and the place after it
+-- the kept text of "<foo\n> bar>" with the skip 2: its text, and the offset after it
 text_over_lines : tag_buffer (kept_text (codes "<foo" ++ line_feed ∷ codes "> bar>") (2 ∷ []))
     ≡ codes "<foo" ++ line_feed ∷ codes "bar>"
 text_over_lines = refl
 
-place_over_lines : place_after 0 (kept_text (codes "<foo" ++ line_feed ∷ codes "> bar>") (2 ∷ [])) ≡ 11
-place_over_lines = refl
+offset_over_lines : offset_after 0 (kept_text (codes "<foo" ++ line_feed ∷ codes "> bar>") (2 ∷ [])) ≡ 11
+offset_over_lines = refl
 
 nothing_skipped : tag_buffer (kept_text (codes "<a" ++ carriage_return ∷ line_feed ∷ codes ">") (0 ∷ [])) ≡ []
 nothing_skipped = refl

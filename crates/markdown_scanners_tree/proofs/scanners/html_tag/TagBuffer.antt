@@ -1,25 +1,25 @@
--- The text of a tag that is handed back, by its length and the place after it.
+-- The text of a tag that is handed back, by its length and the offset after it.
 use Rattle.std.proofs.Common.{ℕ, List, [], ◌≡◌, ◌==◌, true, false, cond, length, refl, sym, ap, subst, Option, Some, None, IfNone, arith}
 use Rattle.std.specs.Fn.{Shared}
 use denote.Ref.{Bor}
 use Rattle.std.proofs.lemmas.Bool.Decides.{nat_tests}
 use Rattle.markdown_scanners_tree.specs.Kept.{KeptByte, bytes_of}
 use Rattle.markdown_scanners_tree.specs.Handler.{Answers}
-use Rattle.markdown_scanners_tree.specs.scanners.html_tag.KeptTag.{AnswersIfAny, IsKeptPrefix, place_after, tag_buffer}
+use Rattle.markdown_scanners_tree.specs.scanners.html_tag.KeptTag.{AnswersIfAny, IsKeptPrefix, offset_after, tag_buffer}
 
-pub buffer_built : (prefix : List KeptByte) (kept end : ℕ) → kept ≡ length prefix → end ≡ place_after 0 prefix
+pub buffer_built : (prefix : List KeptByte) (kept end : ℕ) → kept ≡ length prefix → end ≡ offset_after 0 prefix
     → (kept ≡ end → ⊥) → bytes_of prefix ≡ tag_buffer prefix
 buffer_built prefix kept end e f other =
-    let differ : (place_after 0 prefix == length prefix) ≡ false = rw (sym e, sym f) (by) in
+    let differ : (offset_after 0 prefix == length prefix) ≡ false = rw (sym e, sym f) (by) in
     sym (ap (λ t. cond t [] (bytes_of prefix)) differ)
   where
     by : (end == kept) ≡ false
     by = grind (arith, nat_tests)
 
-pub buffer_empty : (prefix : List KeptByte) (kept end : ℕ) → kept ≡ length prefix → end ≡ place_after 0 prefix
+pub buffer_empty : (prefix : List KeptByte) (kept end : ℕ) → kept ≡ length prefix → end ≡ offset_after 0 prefix
     → kept ≡ end → [] ≡ tag_buffer prefix
 buffer_empty prefix kept end e f same =
-    let equal : (place_after 0 prefix == length prefix) ≡ true = rw (sym e, sym f, same) (by) in
+    let equal : (offset_after 0 prefix == length prefix) ≡ true = rw (sym e, sym f, same) (by) in
     sym (ap (λ t. cond t [] (bytes_of prefix)) equal)
   where
     by : (end == end) ≡ true

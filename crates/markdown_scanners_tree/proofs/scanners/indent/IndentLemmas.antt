@@ -70,15 +70,15 @@ prefix-unique limit c (b ∷ prefix) rest (b' ∷ prefix') rest' same all stop a
     let prefixes : prefix ≡ prefix' = tails.0 in
     (cc, tails.1)
 
--- the indent of a text: the last place that was looked at, and the columns
+-- the indent of a text: the last offset that was looked at, and the columns
 pub one_indent : (text : List ℕ) (limit : ℕ) (indent other : ℕ × ℕ) → IsIndent text limit indent.0 indent.1
     → IsIndent text limit other.0 other.1 → indent ≡ other
 one_indent text limit indent other is is' =
     let same = prefix-unique limit 0 is.prefix is.rest is'.prefix is'.rest (sym is.parts ∙ is'.parts) is.passed
     is.stopped is'.passed is'.stopped in
-    let place : indent.0 ≡ other.0 = is.last_place ∙ rw (same.0, same.1) (sym is'.last_place) in
+    let offset : indent.0 ≡ other.0 = is.last_offset ∙ rw (same.0, same.1) (sym is'.last_offset) in
     let total : indent.1 ≡ other.1 = is.counted ∙ rw (same.0, same.1) (sym is'.counted) in
-    λ i. (place i, total i)
+    λ i. (offset i, total i)
 
 -- which bytes go on
 pub space_goes : (limit column : ℕ) → ¬ (column + 1 ≡ limit) → goes_on limit column 32 ≡ true
@@ -110,7 +110,7 @@ module _ (text : List ℕ) (limit i column : ℕ) (inside : i < length text)
         parts = sym (take-append-drop i text);
         passed = all;
         stopped = rw next (rw (← is_column) (not_false _ stops));
-        last_place = rw next (sym long);
+        last_offset = rw next (sym long);
         counted = counted ∙ ap (λ k. k + (if get_or text i 0 == 32 then 1 else 0)) is_column ∙ rw next refl;
       }
 

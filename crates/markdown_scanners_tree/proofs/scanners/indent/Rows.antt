@@ -10,7 +10,7 @@ indent-row = record {
   parts = refl;
   passed = refl;
   stopped = refl;
-  last_place = refl;
+  last_offset = refl;
   counted = refl;
 }
 
@@ -21,7 +21,7 @@ indent_tab-row = record {
   parts = refl;
   passed = refl;
   stopped = refl;
-  last_place = refl;
+  last_offset = refl;
   counted = refl;
 }
 
@@ -32,6 +32,6 @@ indent_past-row = record {
   parts = refl;
   passed = refl;
   stopped = refl;
-  last_place = refl;
+  last_offset = refl;
   counted = refl;
 }

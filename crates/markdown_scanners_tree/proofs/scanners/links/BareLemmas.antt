@@ -270,7 +270,7 @@ so_far_plain most d i (suc n) bytes is few =
     (no_end (get_or bytes (i + n) 0) d plain.high (λ close none. plain.no_close close))
     (turns_other _ d d plain.no_open plain.no_close refl) before.depth_at_most)
 
--- the place at which the loop stops
+-- the offset at which the loop stops
 abbrev pub IsStop : List ℕ → ℕ → ℕ → Type 0
 IsStop bytes i d = (length bytes ≤ i) ⊎ ((i < length bytes) × (ends_at (get_or bytes i 0) d ≡ true))
 

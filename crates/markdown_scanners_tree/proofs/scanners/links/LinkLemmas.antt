@@ -24,7 +24,7 @@ position-searched byte bytes None none =
 position-searched byte bytes (Some k) first =
     rw (prefix_len-found byte bytes k first, lt-ltb k (length bytes) first.0.high) refl
 
--- the text from a place on, as a slice of its bytes
+-- the text from an offset on, as a slice of its bytes
 pub slice_is_rest : (bytes text : List ℕ) (start : ℕ) → bytes ≡ text
     → take (length bytes - start) (drop start bytes) ≡ drop start text
 slice_is_rest bytes text start same = take_rest bytes start ∙ ap (drop start) same
@@ -194,26 +194,26 @@ opened_by [] first = absurd (omega (arith, first))
 opened_by (b ∷ text) first = ap (λ x. x ∷ text) first
 
 -- a text may be cut on both sides of an ASCII byte
-pub cut_before : (bytes : List ℕ) (n place : ℕ) → n ≡ place → n < length bytes → get_or bytes n 0 < 128
-    → IsCharBoundary bytes place
-cut_before bytes n place at inside ascii =
+pub cut_before : (bytes : List ℕ) (n offset : ℕ) → n ≡ offset → n < length bytes → get_or bytes n 0 < 128
+    → IsCharBoundary bytes offset
+cut_before bytes n offset at inside ascii =
     subst (IsCharBoundary bytes) at (IsCharBoundary-before_ascii bytes n inside ascii)
 
-pub cut_behind : (bytes : List ℕ) (n place : ℕ) → n + 1 ≡ place → IsUtf8 bytes → n < length bytes
-    → get_or bytes n 0 < 128 → IsCharBoundary bytes place
-cut_behind bytes n place at utf8 inside ascii =
+pub cut_after : (bytes : List ℕ) (n offset : ℕ) → n + 1 ≡ offset → IsUtf8 bytes → n < length bytes
+    → get_or bytes n 0 < 128 → IsCharBoundary bytes offset
+cut_after bytes n offset at utf8 inside ascii =
     subst (IsCharBoundary bytes) at (IsCharBoundary-after_ascii bytes n utf8 inside ascii)
 
--- and at a place that is its end or before one
+-- and at an offset that is its end or before one
 pub cut_at_end : (bytes : List ℕ) (n : ℕ) → n ≤ length bytes → (n < length bytes → get_or bytes n 0 < 128)
     → IsCharBoundary bytes n
 cut_at_end bytes n within ascii = (within, λ inside high. absurd (omega (arith, ascii inside, high)))
 
 -- a byte of what stands after the first byte
-pub byte_behind : (bytes : List ℕ) (n byte : ℕ) → n < length (take (length bytes - 1) (drop 1 bytes))
+pub byte_after : (bytes : List ℕ) (n byte : ℕ) → n < length (take (length bytes - 1) (drop 1 bytes))
     → get_or (take (length bytes - 1) (drop 1 bytes)) n 0 ≡ byte
     → (1 + n < length bytes) × (get_or bytes (1 + n) 0 ≡ byte)
-byte_behind bytes n byte inside here =
+byte_after bytes n byte inside here =
     let rest : take (length bytes - 1) (drop 1 bytes) ≡ drop 1 bytes = take_rest bytes 1 in (
       omega (arith, inside, ap length rest, length-drop 1 bytes),
       sym (get_or-drop 1 bytes n 0) ∙ (ap (λ t. get_or t n 0) (sym rest) ∙ here),
@@ -224,12 +224,12 @@ pub record IsFoundByte (byte : ℕ) (bytes : List ℕ) (found : Option ℕ) : Ty
   pub within : IfSome found (λ n. n < length bytes)
   pub cut : IfSome found (λ n. get_or bytes n 0 ≡ byte)
   pub before : IfSome found (λ n. IsUtf8 bytes → IsCharBoundary bytes n)
-  pub behind : IfSome found (λ n. IsUtf8 bytes → IsCharBoundary bytes (n + 1))
+  pub after : IfSome found (λ n. IsUtf8 bytes → IsCharBoundary bytes (n + 1))
 
 pub searched_first : (byte k : ℕ) (bytes front : List ℕ) (found : Option ℕ) → front ≡ take k bytes
     → IsFirstByte (is_byte byte) front found → byte < 128 → IsFoundByte byte bytes found
 searched_first byte k bytes front None first none ascii =
-    record { within = tt; cut = tt; before = tt; behind = tt }
+    record { within = tt; cut = tt; before = tt; after = tt }
 searched_first byte k bytes front (Some n) first (at, here) ascii =
     let few : n < k = omega (arith, at.high, ap length first, length-take k bytes) in
     let inside : n < length bytes = omega (arith, at.high, ap length first, length-take k bytes) in
@@ -239,10 +239,10 @@ searched_first byte k bytes front (Some n) first (at, here) ascii =
       within = inside;
       cut = is;
       before = λ utf8. cut_before bytes n n refl inside (omega (arith, is, ascii));
-      behind = λ utf8. cut_behind bytes n (n + 1) refl utf8 inside (omega (arith, is, ascii));
+      after = λ utf8. cut_after bytes n (n + 1) refl utf8 inside (omega (arith, is, ascii));
     }
 
--- a part of what stands from a place of a text on, as a part of the text
+-- a part of what stands from an offset of a text on, as a part of the text
 pub part_of_rest : (bytes text part : List ℕ) (start from to : ℕ) → bytes ≡ drop start text
     → part ≡ take (start + to - (start + from)) (drop (start + from) text)
     → part ≡ take (to - from) (drop from bytes)
@@ -256,11 +256,11 @@ destination_of_rest most bytes text taken raw part same is found =
     subst (λ t. IsLinkDestination most t taken part) same
     (subst (IsLinkDestination most bytes taken) (sym is) found)
 
--- a place in it between two characters, as a place in the text
-pub place_of_rest : (bytes text : List ℕ) (start n : ℕ) → bytes ≡ drop start text → IsUtf8 text
+-- an offset in it between two characters, as an offset in the text
+pub offset_of_rest : (bytes text : List ℕ) (start n : ℕ) → bytes ≡ drop start text → IsUtf8 text
     → (0 < start → IsCharBoundary text start) → (IsUtf8 bytes → IsCharBoundary bytes n)
     → IsCharBoundary text (start + n)
-place_of_rest bytes text start n same utf8 at_start at =
+offset_of_rest bytes text start n same utf8 at_start at =
     let begins : IsCharBoundary text start = elim (cases_lt 0 start) [
       | inl some ↦ at_start some
       | inr none ↦ subst (IsCharBoundary text) (omega (arith, none)) (IsCharBoundary-start text utf8)

@@ -109,14 +109,14 @@ all_digits (d ∷ digits) all =
     (omega (arith, digit_value_digit d in_range, in_range.1), all_digits digits both.1)
 
 -- an indent of no column belongs to no item, unless its line is blank
-pub item_space-none : (rest : List ℕ) (place : ℕ) → ((n : ℕ) → ¬ IsBlankLine rest n) → IsIndent rest 5 place 0
+pub item_space-none : (rest : List ℕ) (offset : ℕ) → ((n : ℕ) → ¬ IsBlankLine rest n) → IsIndent rest 5 offset 0
     → (at space : ℕ) → ¬ IsItemSpace rest at space
-item_space-none rest place none indent at space (blank n line) = none n line
-item_space-none rest place none indent at space (indented_code p s not_blank other deep) =
-    let same : 0 ≡ s = ap (λ (r : ℕ × ℕ). r.1) (one_indent rest 5 (place, 0) (p, s) indent other) in
+item_space-none rest offset none indent at space (blank n line) = none n line
+item_space-none rest offset none indent at space (indented_code p s not_blank other deep) =
+    let same : 0 ≡ s = ap (λ (r : ℕ × ℕ). r.1) (one_indent rest 5 (offset, 0) (p, s) indent other) in
     omega (arith, same, deep)
-item_space-none rest place none indent at space (text p s not_blank other some few) =
-    let same : 0 ≡ s = ap (λ (r : ℕ × ℕ). r.1) (one_indent rest 5 (place, 0) (p, s) indent other) in
+item_space-none rest offset none indent at space (text p s not_blank other some few) =
+    let same : 0 ≡ s = ap (λ (r : ℕ × ℕ). r.1) (one_indent rest 5 (offset, 0) (p, s) indent other) in
     omega (arith, same, some)
 
 pub bullet-scanned : (bytes : List ℕ) → begins_with is_bullet bytes ≡ true

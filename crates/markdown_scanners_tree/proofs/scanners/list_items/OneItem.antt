@@ -24,10 +24,10 @@ marker-delimiter marker delimiter start rest (bullet b is) = rw is refl
 marker-delimiter marker delimiter start rest (ordered digits d one few all is) =
     let bytes = (digits ++ d ∷ []) ++ rest in
     let at = ordered-parts digits d rest one all is in
-    let place : length digits + 0 ≡ prefix_len is_digit bytes + 1 - 1 = omega (arith, at.1) in
+    let offset : length digits + 0 ≡ prefix_len is_digit bytes + 1 - 1 = omega (arith, at.1) in
     let last : d ≡ get_or bytes (length digits + 0) 0 =
     sym (ap (λ t. get_or t 0 0) at.2) ∙ get_or-drop (length digits) bytes 0 0 in
-    rw at.0 (last ∙ ap (λ n. get_or bytes n 0) place)
+    rw at.0 (last ∙ ap (λ n. get_or bytes n 0) offset)
 
 marker-start : (marker : List ℕ) (delimiter start : ℕ) (rest : List ℕ) → IsListMarker marker delimiter start
     → start ≡ marker_start (marker ++ rest)
@@ -52,22 +52,22 @@ one_marker bytes marker rest marker' rest' delimiter start delimiter' start' par
 )
 
 -- the space after a marker that belongs to the indent
-one_space : (rest : List ℕ) (place space place' space' : ℕ) → IsItemSpace rest place space
-    → IsItemSpace rest place' space' → (place ≡ place') × (space ≡ space')
-one_space rest place space place' space' (blank n line) (blank n' line') = (refl, refl)
-one_space rest place space place' space' (blank n line) (indented_code p s none is deep) = absurd (none n line)
-one_space rest place space place' space' (blank n line) (text p s none is some few) = absurd (none n line)
-one_space rest place space place' space' (indented_code p s none is deep) (blank n line) = absurd (none n line)
-one_space rest place space place' space' (indented_code p s none is deep) (indented_code p' s' none' is' deep') =
+one_space : (rest : List ℕ) (offset space offset' space' : ℕ) → IsItemSpace rest offset space
+    → IsItemSpace rest offset' space' → (offset ≡ offset') × (space ≡ space')
+one_space rest offset space offset' space' (blank n line) (blank n' line') = (refl, refl)
+one_space rest offset space offset' space' (blank n line) (indented_code p s none is deep) = absurd (none n line)
+one_space rest offset space offset' space' (blank n line) (text p s none is some few) = absurd (none n line)
+one_space rest offset space offset' space' (indented_code p s none is deep) (blank n line) = absurd (none n line)
+one_space rest offset space offset' space' (indented_code p s none is deep) (indented_code p' s' none' is' deep') =
     (refl, refl)
-one_space rest place space place' space' (indented_code p s none is deep) (text p' s' none' is' some few) =
+one_space rest offset space offset' space' (indented_code p s none is deep) (text p' s' none' is' some few) =
     let same : s ≡ s' = ap (λ (r : ℕ × ℕ). r.1) (one_indent rest 5 (p, s) (p', s') is is') in
     absurd (omega (arith, same, deep, few))
-one_space rest place space place' space' (text p s none is some few) (blank n line) = absurd (none n line)
-one_space rest place space place' space' (text p s none is some few) (indented_code p' s' none' is' deep) =
+one_space rest offset space offset' space' (text p s none is some few) (blank n line) = absurd (none n line)
+one_space rest offset space offset' space' (text p s none is some few) (indented_code p' s' none' is' deep) =
     let same : s ≡ s' = ap (λ (r : ℕ × ℕ). r.1) (one_indent rest 5 (p, s) (p', s') is is') in
     absurd (omega (arith, same, deep, few))
-one_space rest place space place' space' (text p s none is some few) (text p' s' none' is' some' few') =
+one_space rest offset space offset' space' (text p s none is some few) (text p' s' none' is' some' few') =
     let same : ◌≡◌ {A = ℕ × ℕ} (p, s) (p', s') = one_indent rest 5 (p, s) (p', s') is is' in
     (ap (λ (r : ℕ × ℕ). r.0) same, ap (λ (r : ℕ × ℕ). r.1) same)
 
@@ -88,8 +88,8 @@ one_item bytes item other is is' =
     let width : length is.marker ≡ length is'.marker =
     sym (marker_ends bytes _ _ _ _ is) ∙ marker_ends bytes _ _ _ _ is' in
     let rest : is.rest ≡ is'.rest = rest_follows bytes _ _ _ _ is ∙ sym (rest_follows bytes _ _ _ _ is') in
-    let spaces = one_space is'.rest is.place is.space is'.place is'.space
-    (subst (λ r. IsItemSpace r is.place is.space) rest is.is_space) is'.is_space in
+    let spaces = one_space is'.rest is.offset is.space is'.offset is'.space
+    (subst (λ r. IsItemSpace r is.offset is.space) rest is.is_space) is'.is_space in
     let long : item.0 ≡ other.0 = omega (arith, is.counted, is'.counted, width, spaces.0) in
     let marked =
     one_marker bytes is.marker is.rest is'.marker is'.rest item.1 item.2 other.1 other.2 is.parts is.is_marker is'.parts

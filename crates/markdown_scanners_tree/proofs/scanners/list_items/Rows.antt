@@ -13,7 +13,7 @@ item-row : IsListItem (45 ∷ 32 ∷ 32 ∷ 32 ∷ 120 ∷ []) 4 45 0 4
 item-row = record {
   marker = 45 ∷ [];
   rest = 32 ∷ 32 ∷ 32 ∷ 120 ∷ [];
-  place = 3;
+  offset = 3;
   space = 3;
   parts = refl;
   is_marker = bullet 45 refl;
@@ -25,7 +25,7 @@ item-row = record {
         parts = refl;
         passed = refl;
         stopped = refl;
-        last_place = refl;
+        last_offset = refl;
         counted = refl;
       }) (omega arith) (omega arith);
   counted = refl;
@@ -37,7 +37,7 @@ item_code-row : IsListItem (49 ∷ 46 ∷ 32 ∷ 32 ∷ 32 ∷ 32 ∷ 32 ∷ 32 
 item_code-row = record {
   marker = 49 ∷ 46 ∷ [];
   rest = 32 ∷ 32 ∷ 32 ∷ 32 ∷ 32 ∷ 32 ∷ 120 ∷ [];
-  place = 1;
+  offset = 1;
   space = 1;
   parts = refl;
   is_marker = ordered (49 ∷ []) 46 (omega arith) (omega arith) refl refl;
@@ -49,7 +49,7 @@ item_code-row = record {
         parts = refl;
         passed = refl;
         stopped = refl;
-        last_place = refl;
+        last_offset = refl;
         counted = refl;
       }) (omega arith);
   counted = refl;
@@ -61,7 +61,7 @@ item_blank-row : IsListItem (45 ∷ 11 ∷ 10 ∷ []) 1 45 0 2
 item_blank-row = record {
   marker = 45 ∷ [];
   rest = 11 ∷ 10 ∷ [];
-  place = 0;
+  offset = 0;
   space = 1;
   parts = refl;
   is_marker = bullet 45 refl;

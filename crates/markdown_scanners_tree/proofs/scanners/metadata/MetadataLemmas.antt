@@ -12,7 +12,7 @@ use Rattle.markdown_scanners_tree.specs.Ascii.{line_feed, hyphen, full_stop}
 use Rattle.markdown_scanners_tree.specs.Bytes.{begins_with, line_ending, IsBlankLine}
 use Rattle.markdown_scanners_tree.specs.scanners.Lines.{is_no_line_feed}
 use Rattle.markdown_scanners_tree.specs.scanners.Metadata.{is_closing_byte, IsLineOfThree, is_after_opening, IsOpeningLine, IsClosingMetadataBlock, HasLaterClose, IsBlockOf}
-use Rattle.markdown_scanners_tree.proofs.PrefixLemmas.{from_place, list_all-prefix, prefix_len-parts}
+use Rattle.markdown_scanners_tree.proofs.PrefixLemmas.{from_offset, list_all-prefix, prefix_len-parts}
 use Rattle.markdown_scanners_tree.proofs.ScanLemmas.{prefix_len-found, prefix_len-not_found}
 use Rattle.markdown_scanners_tree.proofs.RunLemmas.{run-scanned, run-only, prefix-only}
 
@@ -140,7 +140,7 @@ module _ (bytes : List ℕ) (byte run : ℕ) (is_run : run ≡ prefix_len (λ b.
         ap (begins_with (λ b. b == line_feed)) after in
         cc
 
--- a closing line after the LF at place k
+-- a closing line after the LF at offset k
 later-at : (opening n : ℕ) (bytes : List ℕ) (k : ℕ) → k < length bytes → get_or bytes k 0 ≡ line_feed
     → IsClosingMetadataBlock (drop (k + 1) bytes) opening n → HasLaterClose bytes opening
 later-at opening n bytes k inside here close = record {
@@ -201,56 +201,56 @@ later-none opening bytes none close = no_feed bytes none close.before close.afte
           | inr stops ↦ (let more = rw stops at none in omega (arith, more))
         ]
 
--- what a search for the next LF from place i on tells of later lines that close
+-- what a search for the next LF from offset i on tells of later lines that close
 module _ (opening : ℕ) (bytes : List ℕ) (i : ℕ) where
   module _ (line : ℕ) (first : NoneBefore (Passes (is_byte line_feed) (take (length bytes - i) (drop i bytes))) 0
       (length (take (length bytes - i) (drop i bytes))) line
       × Passes (is_byte line_feed) (take (length bytes - i) (drop i bytes)) line) where
-    at_place : NoneBefore (Passes (is_byte line_feed) (drop i bytes)) 0 (length (drop i bytes)) line
+    at_offset : NoneBefore (Passes (is_byte line_feed) (drop i bytes)) 0 (length (drop i bytes)) line
         × Passes (is_byte line_feed) (drop i bytes) line
-    at_place = subst (λ (rest : List ℕ). NoneBefore (Passes (is_byte line_feed) rest) 0 (length rest) line
-        × Passes (is_byte line_feed) rest line) (from_place bytes i) first
+    at_offset = subst (λ (rest : List ℕ). NoneBefore (Passes (is_byte line_feed) rest) 0 (length rest) line
+        × Passes (is_byte line_feed) rest line) (from_offset bytes i) first
 
     pub line-within : i + line < length bytes
-    line-within = let high = at_place.0.high in omega (arith, high, length-drop i bytes)
+    line-within = let high = at_offset.0.high in omega (arith, high, length-drop i bytes)
 
-    next_place : drop (i + (line + 1)) bytes ≡ drop (suc line) (drop i bytes)
-    next_place = ap (λ n. drop (i + n) bytes) (add-one line) ∙ sym (drop-drop (suc line) i bytes)
+    next_offset : drop (i + (line + 1)) bytes ≡ drop (suc line) (drop i bytes)
+    next_offset = ap (λ n. drop (i + n) bytes) (add-one line) ∙ sym (drop-drop (suc line) i bytes)
 
     pub line-closed : (n : ℕ)
         → IsClosingMetadataBlock (take (length bytes - (i + (line + 1))) (drop (i + (line + 1)) bytes)) opening n
         → HasLaterClose bytes opening
     line-closed n close =
         let here : get_or bytes (i + line) 0 ≡ line_feed =
-        sym (get_or-drop i bytes line 0) ∙ eqb-true (get_or (drop i bytes) line 0) line_feed at_place.1 in
-        let place : i + (line + 1) ≡ i + line + 1 = omega arith in
+        sym (get_or-drop i bytes line 0) ∙ eqb-true (get_or (drop i bytes) line 0) line_feed at_offset.1 in
+        let offset : i + (line + 1) ≡ i + line + 1 = omega arith in
         later-at opening n bytes (i + line) line-within here
-        (subst (λ (rest : List ℕ). IsClosingMetadataBlock rest opening n) (from_place bytes (i + (line + 1))
-        ∙ ap (λ k. drop k bytes) place) close)
+        (subst (λ (rest : List ℕ). IsClosingMetadataBlock rest opening n) (from_offset bytes (i + (line + 1))
+        ∙ ap (λ k. drop k bytes) offset) close)
 
     pub line-open : ((n : ℕ)
         → ¬ IsClosingMetadataBlock (take (length bytes - (i + (line + 1))) (drop (i + (line + 1)) bytes)) opening n)
         → HasLaterClose (drop i bytes) opening → HasLaterClose (drop (i + (line + 1)) bytes) opening
     line-open none close =
         let after : take (length bytes - (i + (line + 1))) (drop (i + (line + 1)) bytes)
-        ≡ drop (suc line) (drop i bytes) = from_place bytes (i + (line + 1)) ∙ next_place in
+        ≡ drop (suc line) (drop i bytes) = from_offset bytes (i + (line + 1)) ∙ next_offset in
         let none_there : (n : ℕ)
         → ¬ IsClosingMetadataBlock (drop (suc line) (drop i bytes)) opening n = λ n closed. none n
         (subst (λ (rest : List ℕ). IsClosingMetadataBlock rest opening n) (sym after) closed) in
-        subst (λ (rest : List ℕ). HasLaterClose rest opening) (sym next_place) (later-skip opening (drop i bytes) line
-        (prefix_len-found line_feed (drop i bytes) line at_place) none_there close)
+        subst (λ (rest : List ℕ). HasLaterClose rest opening) (sym next_offset) (later-skip opening (drop i bytes) line
+        (prefix_len-found line_feed (drop i bytes) line at_offset) none_there close)
 
   pub no_line : Nowhere (Passes (is_byte line_feed) (take (length bytes - i) (drop i bytes))) 0
       (length (take (length bytes - i) (drop i bytes))) → ¬ HasLaterClose (drop i bytes) opening
   no_line none =
       let none_there = subst (λ (rest : List ℕ). Nowhere (Passes (is_byte line_feed) rest) 0 (length rest))
-      (from_place bytes i) none in
+      (from_offset bytes i) none in
       later-none opening (drop i bytes) (prefix_len-not_found line_feed (drop i bytes) none_there)
 
 -- blocks, by what the scans of the body answered
 module _ (byte : ℕ) (bytes : List ℕ) (n : ℕ) (opening : IsOpeningLine byte bytes (drop n bytes)) where
   body_is : (block : IsBlockOf byte bytes) → block.body ≡ take (length bytes - n) (drop n bytes)
-  body_is block = opening-unique byte bytes block.body (drop n bytes) block.opening opening ∙ sym (from_place bytes n)
+  body_is block = opening-unique byte bytes block.body (drop n bytes) block.opening opening ∙ sym (from_offset bytes n)
 
   pub block-blank : (k : ℕ) → IsBlankLine (take (length bytes - n) (drop n bytes)) k → ¬ IsBlockOf byte bytes
   block-blank k line block =
@@ -269,7 +269,7 @@ module _ (byte : ℕ) (bytes : List ℕ) (n : ℕ) (opening : IsOpeningLine byte
       → HasLaterClose (take (length bytes - n) (drop n bytes)) byte → IsBlockOf byte bytes
   block-scanned not_blank not_closed close = record {
     body = take (length bytes - n) (drop n bytes);
-    opening = subst (λ (body : List ℕ). IsOpeningLine byte bytes body) (sym (from_place bytes n)) opening;
+    opening = subst (λ (body : List ℕ). IsOpeningLine byte bytes body) (sym (from_offset bytes n)) opening;
     not_blank = not_blank;
     not_closed = not_closed;
     closed = close;

@@ -11,17 +11,18 @@ use Rattle.markdown_scanners_tree.specs.linklabel.Length.{IsLabelLength}
 use Rattle.markdown_scanners_tree.specs.scanners.html_kinds.HtmlKinds.{begins_with_text}
 use Rattle.markdown_scanners_tree.specs.scanners.links.LinkDestination.{IsLinkDestination, StandsInside}
 use Rattle.markdown_scanners_tree.specs.scanners.titles.LinkTitle.{IsLinkTitle}
-use Rattle.markdown_scanners_tree.specs.scanners.reference_definitions.ReferenceDefinition.{IsRestOfLine, IsLabelWithColon, bracket_count, IsTarget, IsSeparatedTitle, IsTitleLine, IsEnd, IsUntitled, IsCutAt}
+use Rattle.markdown_scanners_tree.specs.scanners.reference_definitions.ReferenceDefinition.{IsRestOfLine, IsLabelWithColon, bracket_count, IsTarget}
+use Rattle.markdown_scanners_tree.specs.scanners.reference_definitions.ReferenceDefinition.{IsSeparatedTitle, IsTitleLine, IsEnd, IsUntitled, IsCutAt}
 use Rattle.markdown_scanners_tree.specs.scanners.reference_definitions.private.GapLength.{gap_length}
-use Rattle.markdown_scanners_tree.proofs.PrefixLemmas.{both_true, from_place}
-use Rattle.markdown_scanners_tree.proofs.scanners.links.LinkLemmas.{cut_before, cut_behind}
+use Rattle.markdown_scanners_tree.proofs.PrefixLemmas.{both_true, from_offset}
+use Rattle.markdown_scanners_tree.proofs.scanners.links.LinkLemmas.{cut_before, cut_after}
 use Rattle.markdown_scanners_tree.proofs.scanners.reference_definitions.GapLemmas.{gap_only, gap_there, destination_solid, title_solid}
 use Rattle.markdown_scanners_tree.proofs.scanners.reference_definitions.OneDefinition.{one_label_with_colon}
 
-pub behind_bracket : (bytes inside : List ℕ) → begins_with_text (codes "[") bytes ≡ true → inside ≡ drop 1 bytes
+pub after_bracket : (bytes inside : List ℕ) → begins_with_text (codes "[") bytes ≡ true → inside ≡ drop 1 bytes
     → bytes ≡ 91 ∷ inside
-behind_bracket [] inside opened is = cc
-behind_bracket (b ∷ bs) inside opened is =
+after_bracket [] inside opened is = cc
+after_bracket (b ∷ bs) inside opened is =
     let first : b ≡ 91 = eqb-true b 91 (both_true _ _ opened).0 in
     ap (λ z. z ∷ bs) first ∙ ap (λ z. 91 ∷ z) (sym is)
 
@@ -31,9 +32,9 @@ begun_by b [] first = cc
 begun_by b (c ∷ text) first = ap (λ x. x ∷ text) (eqb-true c b first)
 
 -- a list after one more element
-get_or-behind : (x : ℕ) (xs : List ℕ) (n : ℕ) → 1 ≤ n → get_or (x ∷ xs) n 0 ≡ get_or xs (n - 1) 0
-get_or-behind x xs zero some = absurd (omega (arith, some))
-get_or-behind x xs (suc n) some = (let e : n ≡ suc n - 1 = omega arith in ap (λ k. get_or xs k 0) e)
+get_or-after : (x : ℕ) (xs : List ℕ) (n : ℕ) → 1 ≤ n → get_or (x ∷ xs) n 0 ≡ get_or xs (n - 1) 0
+get_or-after x xs zero some = absurd (omega (arith, some))
+get_or-after x xs (suc n) some = (let e : n ≡ suc n - 1 = omega arith in ap (λ k. get_or xs k 0) e)
 
 -- A label with its colon, where the opening bracket stands.
 module _ (bytes inside : List ℕ) (opens : bytes ≡ 91 ∷ inside) where
@@ -53,7 +54,7 @@ module _ (bytes inside : List ℕ) (opens : bytes ≡ 91 ∷ inside) where
       label_length = n;
       opens = opens;
       is_label = is_label;
-      colon_follows = begun_by 58 (drop n inside) (ap (begins_with (λ b. b == 58)) (sym (from_place inside n)) ∙ colon);
+      colon_follows = begun_by 58 (drop n inside) (ap (begins_with (λ b. b == 58)) (sym (from_offset inside n)) ∙ colon);
       counted = refl;
     }
 
@@ -65,28 +66,28 @@ module _ (bytes inside : List ℕ) (opens : bytes ≡ 91 ∷ inside) where
         let here : drop n inside ≡ 58 ∷ is.rest =
         ap (λ k. drop k inside) (sym same) ∙ (ap (drop is.label_length) (sym (inside_is a is)) ∙ is.colon_follows) in
         let turned : true ≡ false =
-        sym (ap (begins_with (λ b. b == 58)) here) ∙ (ap (begins_with (λ b. b == 58)) (sym (from_place inside n)) ∙ other) in
+        sym (ap (begins_with (λ b. b == 58)) here) ∙ (ap (begins_with (λ b. b == 58)) (sym (from_offset inside n)) ∙ other) in
         cc
 
     -- the cuts after the opening bracket, before the closing one, and after the colon
     pub cut_opened : IsUtf8 bytes → IsCharBoundary bytes 1
     cut_opened utf8 =
-        cut_behind bytes 0 1 (omega arith) utf8 (omega (arith, ap length opens)) (omega (arith, ap (λ t. get_or t 0 0) opens))
+        cut_after bytes 0 1 (omega arith) utf8 (omega (arith, ap length opens)) (omega (arith, ap (λ t. get_or t 0 0) opens))
 
     pub cut_closed : 1 ≤ n → n ≤ length inside → get_or inside (n - 1) 0 ≡ 93 → IsCharBoundary bytes (n + 2 - 2)
     cut_closed some within closed =
-        let here : get_or bytes n 0 ≡ 93 = ap (λ t. get_or t n 0) opens ∙ (get_or-behind 91 inside n some ∙ closed) in
+        let here : get_or bytes n 0 ≡ 93 = ap (λ t. get_or t n 0) opens ∙ (get_or-after 91 inside n some ∙ closed) in
         cut_before bytes n (n + 2 - 2) (omega arith) (omega (arith, within, ap length opens)) (omega (arith, here))
 
     pub cut_named : begins_with (λ b. b == 58) (take (length inside - n) (drop n inside)) ≡ true → IsUtf8 bytes
         → IsCharBoundary bytes (n + 2)
     cut_named colon utf8 =
         let here : drop n inside ≡ 58 ∷ drop 1 (drop n inside) =
-        begun_by 58 (drop n inside) (ap (begins_with (λ b. b == 58)) (sym (from_place inside n)) ∙ colon) in
+        begun_by 58 (drop n inside) (ap (begins_with (λ b. b == 58)) (sym (from_offset inside n)) ∙ colon) in
         let byte : get_or bytes (suc n) 0 ≡ 58 =
         ap (λ t. get_or t (suc n) 0) opens
         ∙ (ap (λ k. get_or inside k 0) (omega arith) ∙ (sym (get_or-drop n inside 0 0) ∙ ap (λ t. get_or t 0 0) here)) in
-        cut_behind bytes (suc n) (n + 2) (omega arith) utf8
+        cut_after bytes (suc n) (n + 2) (omega arith) utf8
         (omega (arith, ap length opens, ap length here, length-drop n inside)) (omega (arith, byte))
 
 unbracketed : (text : List ℕ) → ((after : List ℕ) → text ≢ 60 ∷ after) → bracket_count text ≡ 0
@@ -97,10 +98,10 @@ unbracketed (b ∷ text) other = elim (cases_Bool (b == 60)) [
 ]
 
 -- where a destination's own bytes stand among those that it takes
-pub raw_place : (most : ℕ) (text : List ℕ) (taken start end : ℕ)
+pub raw_offset : (most : ℕ) (text : List ℕ) (taken start end : ℕ)
     → IsLinkDestination most text taken (slice_range text start end) → StandsInside taken start end
     → taken ≤ length text → 1 ≤ taken → (start ≡ bracket_count text) × (end + bracket_count text ≡ taken)
-raw_place most text taken start end (inl is) (inl whole) within some =
+raw_offset most text taken start end (inl is) (inl whole) within some =
     absurd (omega (
       arith,
       whole.0,
@@ -114,13 +115,13 @@ raw_place most text taken start end (inl is) (inl whole) within some =
       length-take (taken - 1 - 1) (drop 1 text),
       length-drop 1 text,
     ))
-raw_place most text taken start end (inl is) (inr inner) within some =
+raw_offset most text taken start end (inl is) (inr inner) within some =
     let bracket : bracket_count text ≡ 1 = ap bracket_count is.opens in
     (omega (arith, inner.0, bracket), omega (arith, inner.1, bracket))
-raw_place most text taken start end (inr is) (inl whole) within some =
+raw_offset most text taken start end (inr is) (inl whole) within some =
     let none = unbracketed text is.unpointed in
     (omega (arith, whole.0, none), omega (arith, whole.1, none))
-raw_place most text taken start end (inr is) (inr inner) within some =
+raw_offset most text taken start end (inr is) (inr inner) within some =
     absurd (omega (
       arith,
       inner.0,
@@ -141,14 +142,14 @@ module _ (most : ℕ) (bytes : List ℕ) (named gap : ℕ) (is_named : IsLabelWi
   from_destination = take (length bytes - (named + gap)) (drop (named + gap) bytes)
 
   gap_length_is : gap ≡ gap_length (drop named bytes)
-  gap_length_is = gap_is ∙ ap gap_length (from_place bytes named)
+  gap_length_is = gap_is ∙ ap gap_length (from_offset bytes named)
 
   rest_is : from_destination ≡ drop gap (drop named bytes)
-  rest_is = from_place bytes (named + gap) ∙ sym (drop-drop gap named bytes)
+  rest_is = from_offset bytes (named + gap) ∙ sym (drop-drop gap named bytes)
 
   pub no_target : ((n : ℕ) (raw : List ℕ) → IsLinkDestination most from_destination n raw → 1 ≤ n → ⊥)
-      → (label destination : Range ℕ) (place : ℕ) → ¬ IsTarget most bytes label destination place
-  no_target none label destination place is =
+      → (label destination : Range ℕ) (offset : ℕ) → ¬ IsTarget most bytes label destination offset
+  no_target none label destination offset is =
       let same = one_label_with_colon bytes is.named named is.is_named is_named in
       let only =
       gap_only (drop named bytes) is.gap is.rest (ap (λ n. drop n bytes) (sym same) ∙ is.parts) is.is_gap
@@ -163,9 +164,9 @@ module _ (most : ℕ) (bytes : List ℕ) (named gap : ℕ) (is_named : IsLabelWi
       → IsTarget most bytes (record { start = 1; end = named - 2 })
       (record { start = named + gap + start; end = named + gap + end }) (named + gap + taken)
   target_found taken start end is inside within some gap_within long =
-      let place = raw_place most from_destination taken start end is inside within some in
+      let offset = raw_offset most from_destination taken start end is inside within some in
       let counted : length (take gap (drop named bytes)) ≡ gap =
-      omega (arith, length-take gap (drop named bytes), gap_within, ap length (from_place bytes named)) in
+      omega (arith, length-take gap (drop named bytes), gap_within, ap length (from_offset bytes named)) in
       record {
         named = named;
         gap = take gap (drop named bytes);
@@ -177,11 +178,11 @@ module _ (most : ℕ) (bytes : List ℕ) (named gap : ℕ) (is_named : IsLabelWi
         is_gap = gap_there (drop named bytes) gap gap_length_is;
         is_destination = is;
         some = some;
-        place_is = omega (arith, counted);
+        offset_is = omega (arith, counted);
         label_begins = refl;
         label_ends = omega (arith, long);
-        destination_begins = omega (arith, counted, place.0);
-        destination_ends = omega (arith, place.1);
+        destination_begins = omega (arith, counted, offset.0);
+        destination_ends = omega (arith, offset.1);
       }
 
 -- A title after the gap at an offset.
@@ -191,10 +192,10 @@ module _ (bytes : List ℕ) (offset gap : ℕ) (gap_is : gap ≡ gap_length (tak
   from_title = take (length bytes - (offset + gap)) (drop (offset + gap) bytes)
 
   gap_length_is' : gap ≡ gap_length (drop offset bytes)
-  gap_length_is' = gap_is ∙ ap gap_length (from_place bytes offset)
+  gap_length_is' = gap_is ∙ ap gap_length (from_offset bytes offset)
 
   title_rest_is : from_title ≡ drop gap (drop offset bytes)
-  title_rest_is = from_place bytes (offset + gap) ∙ sym (drop-drop gap offset bytes)
+  title_rest_is = from_offset bytes (offset + gap) ∙ sym (drop-drop gap offset bytes)
 
   at_title : (title : Range ℕ) → (is : IsSeparatedTitle bytes offset title) → (length is.gap ≡ gap) × (is.rest ≡ from_title)
   at_title title is =
@@ -213,7 +214,7 @@ module _ (bytes : List ℕ) (offset gap : ℕ) (gap_is : gap ≡ gap_length (tak
       → IsSeparatedTitle bytes offset (record { start = offset + gap + 1; end = offset + gap + taken - 1 })
   title_found taken some within is long =
       let counted : length (take gap (drop offset bytes)) ≡ gap =
-      omega (arith, length-take gap (drop offset bytes), within, ap length (from_place bytes offset)) in
+      omega (arith, length-take gap (drop offset bytes), within, ap length (from_offset bytes offset)) in
       record {
         gap = take gap (drop offset bytes);
         rest = from_title;
@@ -227,45 +228,45 @@ module _ (bytes : List ℕ) (offset gap : ℕ) (gap_is : gap ≡ gap_length (tak
       }
 
 -- the rest of the line after a title
-pub title_line : (bytes : List ℕ) (place : ℕ) (title : Range ℕ) (ending : ℕ) → IsSeparatedTitle bytes place title
+pub title_line : (bytes : List ℕ) (offset : ℕ) (title : Range ℕ) (ending : ℕ) → IsSeparatedTitle bytes offset title
     → IsRestOfLine (take (length bytes - (title.end + 1)) (drop (title.end + 1) bytes)) ending
-    → IsTitleLine bytes place title (title.end + 1 + ending)
-title_line bytes place title ending is further = record {
+    → IsTitleLine bytes offset title (title.end + 1 + ending)
+title_line bytes offset title ending is further = record {
   ending = ending;
   is_titled = is;
-  nothing_further = subst (λ t. IsRestOfLine t ending) (from_place bytes (title.end + 1)) further;
+  nothing_further = subst (λ t. IsRestOfLine t ending) (from_offset bytes (title.end + 1)) further;
   len_is = refl;
 }
 
-pub something_further : (bytes : List ℕ) (place : ℕ) (title : Range ℕ)
-    → ((other : Range ℕ) → IsSeparatedTitle bytes place other → other ≡ title)
+pub something_further : (bytes : List ℕ) (offset : ℕ) (title : Range ℕ)
+    → ((other : Range ℕ) → IsSeparatedTitle bytes offset other → other ≡ title)
     → ((n : ℕ) → ¬ IsRestOfLine (take (length bytes - (title.end + 1)) (drop (title.end + 1) bytes)) n)
-    → (r : Range ℕ × ℕ) → ¬ IsTitleLine bytes place r.0 r.1
-something_further bytes place title only none r is =
+    → (r : Range ℕ × ℕ) → ¬ IsTitleLine bytes offset r.0 r.1
+something_further bytes offset title only none r is =
     let here : drop (r.0.end + 1) bytes ≡ take (length bytes - (title.end + 1)) (drop (title.end + 1) bytes) =
-    ap (λ (t : Range ℕ). drop (t.end + 1) bytes) (only r.0 is.is_titled) ∙ sym (from_place bytes (title.end + 1)) in
+    ap (λ (t : Range ℕ). drop (t.end + 1) bytes) (only r.0 is.is_titled) ∙ sym (from_offset bytes (title.end + 1)) in
     none is.ending (subst (λ t. IsRestOfLine t is.ending) here is.nothing_further)
 
--- no title, and the rest of a line from a place on
-pub untitled : (bytes : List ℕ) (place ending : ℕ) → ((r : Range ℕ × ℕ) → ¬ IsTitleLine bytes place r.0 r.1)
-    → IsRestOfLine (take (length bytes - place) (drop place bytes)) ending → IsUntitled bytes place (place + ending)
-untitled bytes place ending none further = record {
+-- no title, and the rest of a line from an offset on
+pub untitled : (bytes : List ℕ) (offset ending : ℕ) → ((r : Range ℕ × ℕ) → ¬ IsTitleLine bytes offset r.0 r.1)
+    → IsRestOfLine (take (length bytes - offset) (drop offset bytes)) ending → IsUntitled bytes offset (offset + ending)
+untitled bytes offset ending none further = record {
   ending = ending;
-  nothing_further = subst (λ t. IsRestOfLine t ending) (from_place bytes place) further;
+  nothing_further = subst (λ t. IsRestOfLine t ending) (from_offset bytes offset) further;
   no_title = λ title end is. none (title, end) is;
   len_is = refl;
 }
 
-pub no_end : (bytes : List ℕ) (place : ℕ) → ((r : Range ℕ × ℕ) → ¬ IsTitleLine bytes place r.0 r.1)
-    → ((n : ℕ) → ¬ IsRestOfLine (take (length bytes - place) (drop place bytes)) n) → (title : Option (Range ℕ)) (len : ℕ)
-    → ¬ IsEnd bytes place title len
-no_end bytes place none nothing None len is =
-    nothing is.ending (subst (λ t. IsRestOfLine t is.ending) (sym (from_place bytes place)) is.nothing_further)
-no_end bytes place none nothing (Some title) len is = none (title, len) is
+pub no_end : (bytes : List ℕ) (offset : ℕ) → ((r : Range ℕ × ℕ) → ¬ IsTitleLine bytes offset r.0 r.1)
+    → ((n : ℕ) → ¬ IsRestOfLine (take (length bytes - offset) (drop offset bytes)) n) → (title : Option (Range ℕ)) (len : ℕ)
+    → ¬ IsEnd bytes offset title len
+no_end bytes offset none nothing None len is =
+    nothing is.ending (subst (λ t. IsRestOfLine t is.ending) (sym (from_offset bytes offset)) is.nothing_further)
+no_end bytes offset none nothing (Some title) len is = none (title, len) is
 
 -- a title that may be cut out, where a text may be cut before it
-pub title_cut : (bytes : List ℕ) (place : ℕ) (title : Option (Range ℕ))
-    → IfSome title (λ t. IsUtf8 bytes → IsCharBoundary bytes place → IsCutAt bytes t)
-    → (IsUtf8 bytes → IsCharBoundary bytes place) → IfSome title (λ t. IsUtf8 bytes → IsCutAt bytes t)
-title_cut bytes place None cut at = tt
-title_cut bytes place (Some title) cut at = λ utf8. cut utf8 (at utf8)
+pub title_cut : (bytes : List ℕ) (offset : ℕ) (title : Option (Range ℕ))
+    → IfSome title (λ t. IsUtf8 bytes → IsCharBoundary bytes offset → IsCutAt bytes t)
+    → (IsUtf8 bytes → IsCharBoundary bytes offset) → IfSome title (λ t. IsUtf8 bytes → IsCutAt bytes t)
+title_cut bytes offset None cut at = tt
+title_cut bytes offset (Some title) cut at = λ utf8. cut utf8 (at utf8)

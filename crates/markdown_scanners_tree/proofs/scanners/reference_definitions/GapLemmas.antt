@@ -15,8 +15,8 @@ use Rattle.markdown_scanners_tree.specs.scanners.links.LinkDestination.{stands_b
 use Rattle.markdown_scanners_tree.specs.scanners.titles.LinkTitle.{IsLinkTitle}
 use Rattle.markdown_scanners_tree.specs.scanners.reference_definitions.ReferenceDefinition.{IsGap, IsRestOfLine}
 use Rattle.markdown_scanners_tree.specs.scanners.reference_definitions.private.GapLength.{gap_length}
-use Rattle.markdown_scanners_tree.proofs.HandlerLemmas.{cut_behind_front}
-use Rattle.markdown_scanners_tree.proofs.PrefixLemmas.{both_true, prefix_len-parts, list_all-prefix, list_all-implies, begins_with-implies, from_place}
+use Rattle.markdown_scanners_tree.proofs.HandlerLemmas.{cut_after_front}
+use Rattle.markdown_scanners_tree.proofs.PrefixLemmas.{both_true, prefix_len-parts, list_all-prefix, list_all-implies, begins_with-implies, from_offset}
 use Rattle.markdown_scanners_tree.proofs.RunLemmas.{prefix-only, one_prefix}
 use Rattle.markdown_scanners_tree.proofs.scanners.lines.BlankLemmas.{first-line_ending}
 use Rattle.markdown_scanners_tree.proofs.scanners.links.BareLemmas.{head_of}
@@ -100,10 +100,10 @@ no_feed rest none = begins_with-implies (λ c. c == 10) is_line_ending feed_ends
     feed_ends : (b : ℕ) → (b == 10) ≡ true → is_line_ending b ≡ true
     feed_ends b is = rw is refl
 
-no_feed_behind : (after rest : List ℕ) → list_all is_space_or_tab after ≡ true → IsSolid rest
+no_feed_after : (after rest : List ℕ) → list_all is_space_or_tab after ≡ true → IsSolid rest
     → begins_with (λ c. c == 10) (after ++ rest) ≡ false
-no_feed_behind [] rest all solid = no_feed rest solid.no_ending
-no_feed_behind (a ∷ after) rest all solid = not_feed a (both_true (is_space_or_tab a) _ all).0
+no_feed_after [] rest all solid = no_feed rest solid.no_ending
+no_feed_after (a ∷ after) rest all solid = not_feed a (both_true (is_space_or_tab a) _ all).0
   where
     not_feed : (b : ℕ) → is_space_or_tab b ≡ true → (b == 10) ≡ false
     not_feed b is = grind (arith, nat_tests)
@@ -129,10 +129,10 @@ gap_of before [] after rest all is all' solid =
     let whole : text ≡ joined ++ rest = sym (append_assoc before after rest) in
     let first : prefix_len is_space_or_tab text ≡ length joined =
     ap (prefix_len is_space_or_tab) whole ∙ prefix_len-parts is_space_or_tab joined rest both solid.no_space in
-    let behind : drop (length joined) text ≡ rest = ap (drop (length joined)) whole ∙ drop-append_seam joined rest in
+    let following : drop (length joined) text ≡ rest = ap (drop (length joined)) whole ∙ drop-append_seam joined rest in
     let ending : unwrap_or (line_ending (drop (length joined) text)) 0 ≡ 0 =
-    ap (λ t. unwrap_or (line_ending t) 0) behind ∙ no_ending_len rest solid.no_ending in
-    let further : drop (length joined + 0) text ≡ rest = ap (λ k. drop k text) (omega arith) ∙ behind in
+    ap (λ t. unwrap_or (line_ending t) 0) following ∙ no_ending_len rest solid.no_ending in
+    let further : drop (length joined + 0) text ≡ rest = ap (λ k. drop k text) (omega arith) ∙ following in
     let second : prefix_len is_space_or_tab (drop (length joined + 0) text) ≡ 0 =
     ap (prefix_len is_space_or_tab) further ∙ prefix_len-parts is_space_or_tab [] rest refl solid.no_space in
     gap_by text (length joined) 0 0 first ending second ∙ omega arith
@@ -142,14 +142,14 @@ gap_of before (e ∷ es) after rest all is all' solid =
     let stops : begins_with is_space_or_tab (ending ++ (after ++ rest)) ≡ false =
     first-line_ending is_space_or_tab refl refl ending (length ending) is in
     let first = prefix_len-parts is_space_or_tab before (ending ++ (after ++ rest)) all stops in
-    let behind : drop (length before) text ≡ ending ++ (after ++ rest) =
+    let following : drop (length before) text ≡ ending ++ (after ++ rest) =
     drop-append_seam before (ending ++ (after ++ rest)) in
     let ends : unwrap_or (line_ending (drop (length before) text)) 0 ≡ length ending =
-    ap (λ t. unwrap_or (line_ending t) 0) behind
-    ∙ ap (λ o. unwrap_or o 0) (ending_whole ending (after ++ rest) (omega arith) is (no_feed_behind after rest all' solid)) in
+    ap (λ t. unwrap_or (line_ending t) 0) following
+    ∙ ap (λ o. unwrap_or o 0) (ending_whole ending (after ++ rest) (omega arith) is (no_feed_after after rest all' solid)) in
     let further : drop (length before + length ending) text ≡ after ++ rest =
     sym (drop-drop (length ending) (length before) text)
-    ∙ (ap (drop (length ending)) behind ∙ drop-append_seam ending (after ++ rest)) in
+    ∙ (ap (drop (length ending)) following ∙ drop-append_seam ending (after ++ rest)) in
     let second : prefix_len is_space_or_tab (drop (length before + length ending) text) ≡ length after =
     ap (prefix_len is_space_or_tab) further ∙ prefix_len-parts is_space_or_tab after rest all' solid.no_space in
     gap_by text (length before) (length ending) (length after) first ends second
@@ -226,8 +226,8 @@ pub gap_scanned : (text : List ℕ) (spaces ending more : ℕ) (found : Option �
     → spaces + ending + more ≡ gap_length text
 gap_scanned text spaces ending more found run ends ending_is more_is =
     sym (gap_by text spaces ending more (sym run)
-    (ap (λ o. unwrap_or o 0) (sym (ends ∙ ap line_ending (from_place text spaces))) ∙ sym ending_is)
-    (sym (more_is ∙ ap (prefix_len is_space_or_tab) (from_place text (spaces + ending)))))
+    (ap (λ o. unwrap_or o 0) (sym (ends ∙ ap line_ending (from_offset text spaces))) ∙ sym ending_is)
+    (sym (more_is ∙ ap (prefix_len is_space_or_tab) (from_offset text (spaces + ending)))))
 
 -- the rest of a line, by what scans of it answer
 pub rest_scanned : (bytes : List ℕ) (i ending : ℕ) → i ≡ prefix_len is_space_or_tab bytes
@@ -238,7 +238,7 @@ rest_scanned bytes i ending run ends = record {
   ending = ending;
   parts = sym (take-append-drop i bytes);
   all_spaces = rw run (list_all-prefix is_space_or_tab bytes);
-  ends = sym (ends ∙ ap line_ending (from_place bytes i));
+  ends = sym (ends ∙ ap line_ending (from_offset bytes i));
   counted = ap (λ k. k + ending) (sym (ap (λ k. length (take k bytes)) run ∙ length-prefix_len is_space_or_tab bytes ∙ sym run));
 }
 
@@ -247,7 +247,7 @@ pub rest_not_scanned : (bytes : List ℕ) (i : ℕ) → i ≡ prefix_len is_spac
 rest_not_scanned bytes i run none n is =
     let only = prefix-only is_space_or_tab refl refl bytes is.spaces is.after is.ending is.parts is.all_spaces is.ends in
     let lost : None ≡ Some is.ending =
-    none ∙ (ap line_ending (from_place bytes i) ∙ (ap (λ k. line_ending (drop k bytes)) run
+    none ∙ (ap line_ending (from_offset bytes i) ∙ (ap (λ k. line_ending (drop k bytes)) run
     ∙ (ap line_ending (sym only.1) ∙ is.ends))) in
     cc
 
@@ -321,17 +321,17 @@ optional_ending rest = by rest (line_ending rest) refl
     by rest None is = (omega arith, refl)
     by rest (Some ending) is = ending_ascii rest ending is
 
-pub cut_behind_gap : (text : List ℕ) (n : ℕ) → n ≡ gap_length text → IsUtf8 text → IsCharBoundary text n
-cut_behind_gap text n is utf8 =
+pub cut_after_gap : (text : List ℕ) (n : ℕ) → n ≡ gap_length text → IsUtf8 text → IsCharBoundary text n
+cut_after_gap text n is utf8 =
     let s = prefix_len is_space_or_tab text in
     let e = unwrap_or (line_ending (drop s text)) 0 in
     let first = front_longer text s e (spaces_front text) (optional_ending (drop s text)) in
-    cut_behind_front text n utf8 (subst (IsAsciiFront text) (sym is)
+    cut_after_front text n utf8 (subst (IsAsciiFront text) (sym is)
     (front_longer text (s + e) (prefix_len is_space_or_tab (drop (s + e) text)) first (spaces_front (drop (s + e) text))))
 
-pub cut_behind_rest : (text : List ℕ) (s ending : ℕ) → s ≡ prefix_len is_space_or_tab text
+pub cut_after_rest : (text : List ℕ) (s ending : ℕ) → s ≡ prefix_len is_space_or_tab text
     → Some ending ≡ line_ending (take (length text - s) (drop s text)) → IsUtf8 text → IsCharBoundary text (s + ending)
-cut_behind_rest text s ending run ends utf8 =
-    cut_behind_front text (s + ending) utf8
+cut_after_rest text s ending run ends utf8 =
+    cut_after_front text (s + ending) utf8
     (front_longer text s ending (subst (IsAsciiFront text) (sym run) (spaces_front text))
-    (ending_ascii (drop s text) ending (sym (ends ∙ ap line_ending (from_place text s)))))
+    (ending_ascii (drop s text) ending (sym (ends ∙ ap line_ending (from_offset text s)))))

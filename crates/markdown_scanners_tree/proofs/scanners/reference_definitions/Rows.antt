@@ -57,7 +57,7 @@ titled_row : IsReferenceDefinition 32 (codes "[a]: <b>" ++ line_feed ∷ codes "
   len = 15;
 })
 titled_row = record {
-  place = 8;
+  offset = 8;
   target = record {
     named = 4;
     gap = codes " ";
@@ -102,7 +102,7 @@ titled_row = record {
       slice = refl;
     });
     some = omega arith;
-    place_is = refl;
+    offset_is = refl;
     label_begins = refl;
     label_ends = refl;
     destination_begins = refl;

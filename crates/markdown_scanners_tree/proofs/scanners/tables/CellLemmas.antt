@@ -10,7 +10,7 @@ use Rattle.markdown_scanners_tree.specs.Ascii.{vertical_line}
 use Rattle.markdown_scanners_tree.specs.Bytes.{begins_with, line_ending}
 use Rattle.markdown_scanners_tree.specs.scanners.tables.DelimiterRow.{is_cell_byte, is_cell, alignment, alignment_by, ended_cell, is_space, is_hyphen, is_colon, is_pipe}
 use Rattle.markdown_scanners_tree.specs.scanners.tables.private.ScannedCells.{AreCells}
-use Rattle.markdown_scanners_tree.proofs.PrefixLemmas.{from_place, both_true, same_cut}
+use Rattle.markdown_scanners_tree.proofs.PrefixLemmas.{from_offset, both_true, same_cut}
 use Rattle.markdown_scanners_tree.proofs.scanners.lines.BlankLemmas.{first-line_ending}
 
 list_any-filter : (bytes : List ℕ) → list_any is_colon (filter (λ b. not (is_space b)) bytes) ≡ list_any is_colon bytes
@@ -107,7 +107,7 @@ pub alignment-scanned : (cell : List ℕ) (i : ℕ) (begins later : Bool) → i 
     → begins ≡ (get_or cell i 0 == 58) → later ≡ list_any is_colon (take (length cell - (i + 1)) (drop (i + 1) cell))
     → alignment_by begins later ≡ alignment cell
 alignment-scanned cell i begins later run lt is_first is_later =
-    rw (is_first, is_later, from_place cell (i + 1), run)
+    rw (is_first, is_later, from_offset cell (i + 1), run)
     (sym (alignment-parts cell (let below : prefix_len is_space cell < length cell = omega arith in below)))
 
 -- The cells of a delimiter row are determined.

@@ -11,7 +11,7 @@ use Rattle.markdown_scanners_tree.specs.Bytes.{begins_with, line_ending}
 use Rattle.markdown_scanners_tree.specs.scanners.tables.DelimiterRow.{is_cell_byte, is_cell, alignment, counted_last_cell, is_empty, is_space, is_hyphen, is_pipe}
 use Rattle.markdown_scanners_tree.specs.scanners.tables.BegunRow.{begins_with_cell}
 use Rattle.markdown_scanners_tree.specs.scanners.tables.private.ScannedCells.{AreCells, NoCells, AreScannedCells}
-use Rattle.markdown_scanners_tree.proofs.PrefixLemmas.{from_place, both_true, list_all-prefix, begins_with-after_prefix}
+use Rattle.markdown_scanners_tree.proofs.PrefixLemmas.{from_offset, both_true, list_all-prefix, begins_with-after_prefix}
 use Rattle.markdown_scanners_tree.proofs.scanners.tables.CellLemmas.{AreCells-tail, AreCells-cons, AreCells-last}
 
 -- How far a scan of a delimiter row has come: the cells of the row are those that are done, and then those of what is
@@ -113,7 +113,7 @@ module _ (bytes : List ℕ) (done : List (List ℕ)) (i n : ℕ) (alignments : L
     (inside : i ≤ length bytes)
     (run : n ≡ prefix_len is_cell_byte (take (length bytes - i) (drop i bytes))) where
   run_is : n ≡ prefix_len is_cell_byte (drop i bytes)
-  run_is = rw (from_place bytes i) at run
+  run_is = rw (from_offset bytes i) at run
 
   pub scanned_cell : n < length (take (length bytes - i) (drop i bytes))
       → begins_with is_pipe (drop n (take (length bytes - i) (drop i bytes))) ≡ true → (hyphen : Bool)
@@ -122,7 +122,7 @@ module _ (bytes : List ℕ) (done : List (List ℕ)) (i n : ℕ) (alignments : L
       → (x : List (List ℕ)) × (new ≡ map alignment x) × Progress bytes x (drop (i + (n + 1)) bytes)
       × (i + (n + 1) ≤ length bytes)
   scanned_cell below pipe hyphen has is new a pushed is_alignment =
-      let piped : begins_with is_pipe (drop n (drop i bytes)) ≡ true = rw (from_place bytes i) at pipe in
+      let piped : begins_with is_pipe (drop n (drop i bytes)) ≡ true = rw (from_offset bytes i) at pipe in
       let has_hyphen : list_any is_hyphen (take n (drop i bytes)) ≡ true =
       rw (cell_slice bytes i n) at (sym has ∙ is) in
       let step = Progress-step bytes done (drop i bytes) n run_is piped has_hyphen progress in (
@@ -136,7 +136,7 @@ module _ (bytes : List ℕ) (done : List (List ℕ)) (i n : ℕ) (alignments : L
   pub scanned_refused : begins_with is_pipe (drop n (take (length bytes - i) (drop i bytes))) ≡ true → (hyphen : Bool)
       → hyphen ≡ list_any is_hyphen (take (i + n - i) (drop i bytes)) → hyphen ≡ false → NoCells bytes
   scanned_refused pipe hyphen has is =
-      let piped : begins_with is_pipe (drop n (drop i bytes)) ≡ true = rw (from_place bytes i) at pipe in
+      let piped : begins_with is_pipe (drop n (drop i bytes)) ≡ true = rw (from_offset bytes i) at pipe in
       let no_hyphen : list_any is_hyphen (take n (drop i bytes)) ≡ false =
       rw (cell_slice bytes i n) at (sym has ∙ is) in
       Progress-refused bytes done (drop i bytes) n run_is piped no_hyphen progress
@@ -146,9 +146,9 @@ module _ (bytes : List ℕ) (done : List (List ℕ)) (i n : ℕ) (alignments : L
       (take (length bytes - i) (drop i bytes))) ≡ false) where
     pub scanned_no_end : None ≡ line_ending (take (length bytes - (i + n)) (drop (i + n) bytes)) → NoCells bytes
     scanned_no_end no_end =
-        let stop : begins_with is_pipe (drop n (drop i bytes)) ≡ false = rw (← run, from_place bytes i) at no_pipe in
+        let stop : begins_with is_pipe (drop n (drop i bytes)) ≡ false = rw (← run, from_offset bytes i) at no_pipe in
         let none : line_ending (drop n (drop i bytes)) ≡ None =
-        rw (drop-drop n i bytes) (sym (rw (from_place bytes (i + n)) at no_end)) in
+        rw (drop-drop n i bytes) (sym (rw (from_offset bytes (i + n)) at no_end)) in
         Progress-no_end bytes done (drop i bytes) n run_is stop none progress
 
   pub scanned_last : (ending : ℕ) → n ≤ length (take (length bytes - i) (drop i bytes))
@@ -159,7 +159,7 @@ module _ (bytes : List ℕ) (done : List (List ℕ)) (i n : ℕ) (alignments : L
       → AreScannedCells bytes (i + n + ending) new (not empty) hyphen
   scanned_last ending within ends new pushed len empty counted_len is_empty_is hyphen has =
       let some : line_ending (drop n (drop i bytes)) ≡ Some ending =
-      rw (drop-drop n i bytes) (sym (rw (from_place bytes (i + n)) at ends)) in
+      rw (drop-drop n i bytes) (sym (rw (from_offset bytes (i + n)) at ends)) in
       let room = within_slice bytes i n within in
       record {
         cells = done;
@@ -187,7 +187,7 @@ push_none alignments last none = rw none (sym (append-nil alignments))
 module _ (bytes : List ℕ) (i n : ℕ) (before : (i ≡ 0) ⊎ (begins_with_cell bytes ≡ true))
     (run : n ≡ prefix_len is_cell_byte (take (length bytes - i) (drop i bytes))) where
   at_front : (first : i ≡ 0) → n ≡ prefix_len is_cell_byte bytes
-  at_front first = rw (from_place bytes i, first) at run
+  at_front first = rw (from_offset bytes i, first) at run
 
   pub begun_by_ended : begins_with is_pipe (drop n (take (length bytes - i) (drop i bytes))) ≡ true → (hyphen : Bool)
       → hyphen ≡ list_any is_hyphen (take (i + n - i) (drop i bytes)) → hyphen ≡ true → begins_with_cell bytes ≡ true
@@ -195,7 +195,7 @@ module _ (bytes : List ℕ) (i n : ℕ) (before : (i ≡ 0) ⊎ (begins_with_cel
       elim before [
         | inr begun ↦ begun
         | inl first ↦ (
-            let piped : begins_with is_pipe (drop n bytes) ≡ true = rw (from_place bytes i, first) at pipe in
+            let piped : begins_with is_pipe (drop n bytes) ≡ true = rw (from_offset bytes i, first) at pipe in
             let some : list_any is_hyphen (take n bytes) ≡ true = rw (cell_slice bytes i n, first) at (sym has ∙ is) in
             rw (← at_front first, piped, some) refl
             )
@@ -210,7 +210,7 @@ module _ (bytes : List ℕ) (i n : ℕ) (before : (i ≡ 0) ⊎ (begins_with_cel
         | inr begun ↦ begun
         | inl first ↦ (
             let none : begins_with is_pipe (drop n bytes) ≡ false =
-            rw (← run, from_place bytes i, first) at no_pipe in
+            rw (← run, from_offset bytes i, first) at no_pipe in
             let some : list_any (λ b. not (is_space b)) (take n bytes) ≡ true =
             rw (cell_slice bytes i n, first) at counts in
             rw (← at_front first, none, some) refl

@@ -14,7 +14,7 @@ use Rattle.markdown_scanners_tree.specs.Bytes.{begins_with}
 use Rattle.markdown_scanners_tree.specs.scanners.tables.DelimiterRow.{is_cell_byte, is_cell, alignment, ended_cell, delimiter_row, counted_cells}
 use Rattle.markdown_scanners_tree.specs.scanners.tables.DelimiterRow.{is_empty, IsDelimiterRow, NoDelimiterRow, is_space, is_hyphen, is_pipe}
 use Rattle.markdown_scanners_tree.specs.scanners.tables.private.ScannedCells.{AreCells, NoCells, AreScannedCells}
-use Rattle.markdown_scanners_tree.proofs.PrefixLemmas.{from_place, both_true, list_all-prefix, begins_with-after_prefix, prefix_len-parts}
+use Rattle.markdown_scanners_tree.proofs.PrefixLemmas.{from_offset, both_true, list_all-prefix, begins_with-after_prefix, prefix_len-parts}
 use Rattle.markdown_scanners_tree.proofs.scanners.lines.BlankLemmas.{first-line_ending}
 use Rattle.markdown_scanners_tree.proofs.RunLemmas.{not_true, list_all-replicate, replicate-all}
 use Rattle.markdown_scanners_tree.proofs.scanners.tables.CellLemmas.{AreCells-same, not_piped}
@@ -170,12 +170,12 @@ module _ (bytes : List ℕ) (indent pipe : ℕ) (run : indent ≡ prefix_len is_
   piped = begins_with is_pipe (drop (prefix_len is_space bytes) bytes)
 
   pipe_counted : pipe ≡ pipe_length (begins_with is_pipe (drop (prefix_len is_space bytes) bytes))
-  pipe_counted = rw (from_place bytes indent, run) at pipe_is
+  pipe_counted = rw (from_offset bytes indent, run) at pipe_is
 
   pub cells_start : take (length bytes - (indent + pipe)) (drop (indent + pipe) bytes)
       ≡ drop (pipe_length (begins_with is_pipe (drop (prefix_len is_space bytes) bytes)))
       (drop (prefix_len is_space bytes) bytes)
-  cells_start = from_place bytes (indent + pipe) ∙ sym (drop-drop pipe indent bytes) ∙ rw (run, pipe_counted) refl
+  cells_start = from_offset bytes (indent + pipe) ∙ sym (drop-drop pipe indent bytes) ∙ rw (run, pipe_counted) refl
 
   pub no_cells : NoCells (take (length bytes - (indent + pipe)) (drop (indent + pipe) bytes)) → NoDelimiterRow bytes
   no_cells none n alignments it =

@@ -14,7 +14,7 @@ use Rattle.markdown_scanners_tree.specs.scanners.tables.DelimiterRow.{is_cell_by
 use Rattle.markdown_scanners_tree.specs.scanners.tables.BegunRow.{is_row_byte, may_be_row}
 use Rattle.markdown_scanners_tree.specs.scanners.tables.private.RowPass.{is_passed}
 use Rattle.markdown_scanners_tree.specs.scanners.tables.private.ScannedCells.{AreCells, AreScannedCells}
-use Rattle.markdown_scanners_tree.proofs.PrefixLemmas.{from_place, both_true, prefix_len-parts}
+use Rattle.markdown_scanners_tree.proofs.PrefixLemmas.{from_offset, both_true, prefix_len-parts}
 use Rattle.markdown_scanners_tree.proofs.scanners.lines.BlankLemmas.{first-line_ending}
 use Rattle.markdown_scanners_tree.proofs.scanners.tables.CellLemmas.{cell_byte_no_pipe}
 use Rattle.markdown_scanners_tree.proofs.scanners.tables.DelimiterRowLemmas.{IsDelimiterRow-only, pipe_length, pipe_test, cells_start}
@@ -94,7 +94,7 @@ pub row_tests : (bytes : List ℕ) (indent pipe : ℕ) (run : indent ≡ prefix_
     (((pipe == 1) || some_ended) && (some_ended || hyphen)) ≡ true
 row_tests bytes indent pipe run pipe_is n alignments some_ended hyphen scanned passed hyphens =
     let at : take (length bytes - indent) (drop indent bytes) ≡ drop (prefix_len is_space bytes) bytes =
-    from_place bytes indent ∙ ap (λ i. drop i bytes) run in
+    from_offset bytes indent ∙ ap (λ i. drop i bytes) run in
     let pipes =
     some_pipe (drop (prefix_len is_space bytes) bytes) scanned.cells scanned.last scanned.rest scanned.ending
     (passed-may (drop (prefix_len is_space bytes) bytes) (ap is_passed (sym at) ∙ passed)) (rw (cells_start bytes indent pipe run pipe_is) at scanned.are_cells) in

@@ -13,7 +13,7 @@ use Rattle.markdown_scanners_tree.specs.declared.scanners.tag_state.TagState.The
 use Rattle.markdown_scanners_tree.proofs.scanners.tag_state.TagReading.{choose, name_more, name_all, Reading, more, committed, bare, with_value}
 use Rattle.markdown_scanners_tree.proofs.scanners.tag_state.TagReading.{Valued, value_more, QuoteRead, Ended, opened, after_leads, Leads}
 
--- the first bytes of a tag name, and the first attribute's place
+-- the first bytes of a tag name, and the first attribute's offset
 named_only : (name : List ℕ) → IsTagName name → (b : ℕ) (pre : List ℕ) → pre ≡ less_than_sign ∷ name
     → Reading (Ended b) (pre ++ b ∷ [])
 named_only name n b pre e =

@@ -36,18 +36,18 @@ same_blank b bs cs same = elim (cases_Bool (is_line_ending b)) [
 no_ending_of : (b : ℕ) → is_white_space_in_line b ≡ true → is_line_ending b ≡ false
 no_ending_of b space = grind (arith, nat_tests)
 
-abbrev pub behind_space : List ℕ → List ℕ
-behind_space bs = drop (prefix_len is_white_space_in_line bs) bs
+abbrev pub past_space : List ℕ → List ℕ
+past_space bs = drop (prefix_len is_white_space_in_line bs) bs
 
-pub blank_at : (bs : List ℕ) → is_at_line_end (behind_space bs) ≡ is_blank bs
+pub blank_at : (bs : List ℕ) → is_at_line_end (past_space bs) ≡ is_blank bs
 blank_at [] = refl
 blank_at (b ∷ bs) = elim (cases_Bool (is_white_space_in_line b)) [
   | inl space ↦
-      let passed : behind_space (b ∷ bs) ≡ behind_space bs = rw (space, one-add) refl in
+      let passed : past_space (b ∷ bs) ≡ past_space bs = rw (space, one-add) refl in
       ap is_at_line_end passed ∙ (blank_at bs
       ∙ sym (blank_plain b bs (no_ending_of b space) ∙ ap (λ x. x && is_blank bs) space))
   | inr other ↦
-      let here : behind_space (b ∷ bs) ≡ b ∷ bs = rw other refl in
+      let here : past_space (b ∷ bs) ≡ b ∷ bs = rw other refl in
       ap is_at_line_end here ∙ elim (cases_Bool (is_line_ending b)) [
         | inl ends ↦ ends ∙ sym (blank_ending b bs ends)
         | inr plain ↦ plain ∙ sym (blank_plain b bs plain ∙ ap (λ x. x && is_blank bs) other)

@@ -13,7 +13,7 @@ use Rattle.markdown_scanners_tree.specs.scanners.titles.LinkTitle.{closing_of, s
 use Rattle.markdown_scanners_tree.specs.scanners.titles.private.TitleFrom.{is_before_blank_line, later_lines_filled, IsTitleFrom}
 use Rattle.markdown_scanners_tree.proofs.PrefixLemmas.{both_true}
 use Rattle.markdown_scanners_tree.proofs.scanners.classes.DestinationBytes.{in_destination}
-use Rattle.markdown_scanners_tree.proofs.scanners.escapes.UnitLemmas.{units_single_at, units_escape_at, plain_byte, drop_at_place, units_joined}
+use Rattle.markdown_scanners_tree.proofs.scanners.escapes.UnitLemmas.{units_single_at, units_escape_at, plain_byte, drop_at_offset, units_joined}
 use Rattle.markdown_scanners_tree.proofs.scanners.links.BareLemmas.{head_of}
 use Rattle.markdown_scanners_tree.proofs.scanners.titles.BlankSteps.{IsMark, blank_cut, ends_cut, goes_on, filled_on, filled_ended, not_filled}
 
@@ -179,8 +179,8 @@ title_escape opening closing i bytes is in' escape =
     let b = get_or bytes i 0 in
     let d = get_or bytes (i + 1) 0 in
     let spelled : drop i bytes ≡ b ∷ d ∷ drop (i + 1 + 1) bytes =
-    drop_at_place bytes i (omega (arith, in'))
-    ∙ ap (λ rest. b ∷ rest) (drop_at_place bytes (i + 1) (omega (arith, in'))) in
+    drop_at_offset bytes i (omega (arith, in'))
+    ∙ ap (λ rest. b ∷ rest) (drop_at_offset bytes (i + 1) (omega (arith, in'))) in
     let parts = and_parts (b == 92) (is_punctuation d) (ap starts_escape (sym spelled) ∙ escape) in
     title_more opening closing i (i + 2) bytes (b ∷ d ∷ []) is (units_escape_at bytes i in' escape) refl in' refl
     (λ e. absurd (omega (arith, ap length e)))
@@ -195,7 +195,7 @@ title_single opening closing i bytes mark is in' plain no_closing no_opening fin
     (rw (ne_eqb b opening no_opening, ne_eqb b closing no_closing) refl)
     (λ e. no_closing (ap (λ u. get_or u 0 0) e))
     (passes_byte closing b (drop (i + 1) bytes) mark
-    (ap is_before_blank_line (sym (drop_at_place bytes i in')) ∙ fine))
+    (ap is_before_blank_line (sym (drop_at_offset bytes i in')) ∙ fine))
 
 -- a byte that the table tells
 pub title_plain : (opening closing i : ℕ) (bytes : List ℕ) → closing_of opening ≡ Some closing
@@ -212,7 +212,7 @@ title_plain opening closing i bytes matching is in' no_closing given =
     rw (ne_eqb b 10 (λ e. absurd (omega (arith, e, plain.high))), ne_eqb b 13 (λ e. absurd (omega (arith, e, plain.high)))) refl in
     title_single opening closing i bytes (closing_mark opening closing matching) is in'
     (plain_byte bytes i in' plain.no_escape) no_closing no_opening
-    (ap is_before_blank_line (drop_at_place bytes i in')
+    (ap is_before_blank_line (drop_at_offset bytes i in')
     ∙ ap (λ x. x && is_blank (drop (i + 1) bytes)) (goes_on b (drop (i + 1) bytes) no_ending))
 
 -- The first unit of a title that stands there, where it is a byte that does not close it.
@@ -266,7 +266,7 @@ title_blank opening closing i bytes mark is in' plain other before n there =
     let first = split_single opening closing i n bytes is in' plain other there in
     let whole = joined_at t closing first.inner first.more first.splits in
     let parts = and_parts (ends_line (b ∷ t)) (is_blank t)
-    (ap is_before_blank_line (sym (drop_at_place bytes i in')) ∙ before) in
+    (ap is_before_blank_line (sym (drop_at_offset bytes i in')) ∙ before) in
     not_filled b (concat first.inner ++ closing ∷ [])
     (sym (ends_cut b closing (concat first.inner) (concat first.more))
     ∙ (ap (λ x. ends_line (b ∷ x)) (sym whole) ∙ parts.0))

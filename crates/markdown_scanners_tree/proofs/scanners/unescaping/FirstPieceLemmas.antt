@@ -194,9 +194,9 @@ reference_piece t known text n meaning none1 none2 starts =
     let amp : shape.0 ≡ ampersand = sym (ap (λ x. get_or x 0 0) whole) ∙ starts.0 in
     let long : length is.source ≡ length shape.1 + 2 =
     omega (arith, ap length shape.2, length-append shape.1 (semicolon ∷ [])) in
-    let place : n - 1 ≡ length (shape.0 ∷ shape.1) = omega (arith, is.n_is_length, long) in
+    let offset : n - 1 ≡ length (shape.0 ∷ shape.1) = omega (arith, is.n_is_length, long) in
     let last : get_or text (n - 1) 0 ≡ semicolon =
-    ap (λ x. get_or x (n - 1) 0) whole ∙ (ap (λ k. get_or (shape.0 ∷ (shape.1 ++ semicolon ∷ []) ++ is.rest) k 0) place
+    ap (λ x. get_or x (n - 1) 0) whole ∙ (ap (λ k. get_or (shape.0 ∷ (shape.1 ++ semicolon ∷ []) ++ is.rest) k 0) offset
     ∙ (get_or_append_left (shape.0 ∷ (shape.1 ++ semicolon ∷ [])) is.rest 0 (length (shape.0 ∷ shape.1))
     (omega (arith, length-append shape.1 (semicolon ∷ [])))
     ∙ get_or_at (shape.0 ∷ shape.1) semicolon [] 0 (length (shape.0 ∷ shape.1)) refl)) in

@@ -18,7 +18,7 @@ themselves_join in_table known text (p ∷ ps) are selves =
     are.1 ∙ (ap (λ s. s ++ are.0) (selves.0.1 ∙ sym selves.0.2)
     ∙ ap (λ r. p.meaning ++ r) (themselves_join in_table known are.0 ps are.3 selves.1))
 
--- The first piece at place i, which is n bytes long.
+-- The first piece at offset i, which is n bytes long.
 module _ (in_table : Bool) (known : Lookup) (text : List ℕ) (i n dropped : ℕ) (instead : List ℕ)
     (is : IsFirstPiece in_table known (drop i text) n dropped instead) where
   after_first : drop (i + n) text ≡ is.rest
@@ -56,7 +56,7 @@ module _ (in_table : Bool) (known : Lookup) (text : List ℕ) (i n dropped : ℕ
         is.dropped_within,
       )
 
-  -- Some pieces of what stands at the place are this one and those after it.
+  -- Some pieces of what stands at the offset are this one and those after it.
   record IsFirstOf (qs : List Piece) : Type 0 where
     later : List Piece
     later_are : ArePieces in_table known (drop (i + n) text) later
@@ -165,7 +165,7 @@ measured_plain_run in_table known text i (suc n) dropped inserted fits so_far pl
     (subst (λ d. IsMeasured in_table known text (i + n + 1) d inserted) none
     (measured_more in_table known text (i + n) 1 0 [] dropped inserted inserted before last (omega (arith, fits))))
 
--- one step on, by the sizes of what stands at the place
+-- one step on, by the sizes of what stands at the offset
 pub measured_step : (in_table : Bool) (known : Lookup) (text : List ℕ) (i source d l dropped inserted inserted' : ℕ)
     → inserted ≤ 2 ^ 64 - 1 → IsMeasured in_table known text i dropped inserted
     → IsFirstSize in_table known (drop i text) source d l → inserted' ≡ min (inserted + l) (2 ^ 64 - 1)
@@ -371,8 +371,8 @@ same_built : (in_table : Bool) (known : Lookup) (text : List ℕ) (i i' run run'
     → i ≡ i' → run ≡ run' → out ≡ out' → out_len ≡ out_len'
     → IsBuilt in_table known text i' run' base base_len out' out_len'
     → IsBuilt in_table known text i run base base_len out out_len
-same_built in_table known text i i' run run' base base_len out out' out_len out_len' places runs outs lens built =
-    rw (places, runs, outs, lens) built
+same_built in_table known text i i' run run' base base_len out out' out_len out_len' offsets runs outs lens built =
+    rw (offsets, runs, outs, lens) built
 
 -- one step on, as a push tells of it
 pub built_step : {Z : Type 0} (in_table : Bool) (known : Lookup) (text : List ℕ) (i run : ℕ) (base : List ℕ)
@@ -396,40 +396,40 @@ built_step in_table known text i run base base_len old new run' next so_far utf8
 
 -- what a push of the text from `run` up to a changed piece, and of what stands in for its front,
 -- comes to
-pub pushed_change : {Z : Type 0} (in_table : Bool) (known : Lookup) (text : List ℕ) (run place n dropped next : ℕ)
+pub pushed_change : {Z : Type 0} (in_table : Bool) (known : Lookup) (text : List ℕ) (run offset n dropped next : ℕ)
     (instead kept : List ℕ) (old new : String Z)
-    → IsChanged in_table known (drop place text) n dropped instead → next ≡ place + n
-    → kept ≡ slice_range text run place → length kept ≡ place - run
+    → IsChanged in_table known (drop offset text) n dropped instead → next ≡ offset + n
+    → kept ≡ slice_range text run offset → length kept ≡ offset - run
     → string_bytes new ≡ string_bytes old ++ (kept ++ instead)
     → string_len new ≡ string_len old + (length kept + length instead)
-    → IsPushed in_table known text run place old new (place + dropped) next
-pushed_change in_table known text run place n dropped next instead kept old new is at kept_is kept_len bytes len =
-    let long : n ≡ next - place = omega (arith, at) in
+    → IsPushed in_table known text run offset old new (offset + dropped) next
+pushed_change in_table known text run offset n dropped next instead kept old new is at kept_is kept_len bytes len =
+    let long : n ≡ next - offset = omega (arith, at) in
     inr (
       dropped,
       instead,
-      subst (λ k. IsChanged in_table known (drop place text) k dropped instead) long is,
+      subst (λ k. IsChanged in_table known (drop offset text) k dropped instead) long is,
       refl,
       bytes ∙ ap (λ k. string_bytes old ++ (k ++ instead)) kept_is,
       omega (arith, len, kept_len),
     )
 
 -- the same where nothing stands in
-pub pushed_drop : {Z : Type 0} (in_table : Bool) (known : Lookup) (text : List ℕ) (run place n dropped next : ℕ)
+pub pushed_drop : {Z : Type 0} (in_table : Bool) (known : Lookup) (text : List ℕ) (run offset n dropped next : ℕ)
     (kept : List ℕ) (old new : String Z)
-    → IsChanged in_table known (drop place text) n dropped [] → next ≡ place + n → kept ≡ slice_range text run place
-    → length kept ≡ place - run
+    → IsChanged in_table known (drop offset text) n dropped [] → next ≡ offset + n → kept ≡ slice_range text run offset
+    → length kept ≡ offset - run
     → string_bytes new ≡ string_bytes old ++ kept → string_len new ≡ string_len old + length kept
-    → IsPushed in_table known text run place old new (place + dropped) next
-pushed_drop in_table known text run place n dropped next kept old new is at kept_is kept_len bytes len =
-    pushed_change in_table known text run place n dropped next [] kept old new is at kept_is kept_len
+    → IsPushed in_table known text run offset old new (offset + dropped) next
+pushed_drop in_table known text run offset n dropped next kept old new is at kept_is kept_len bytes len =
+    pushed_change in_table known text run offset n dropped next [] kept old new is at kept_is kept_len
     (bytes ∙ ap (λ k. string_bytes old ++ k) (sym (append-nil kept))) (omega (arith, len))
 
-pub pushed_nothing : {Z : Type 0} (in_table : Bool) (known : Lookup) (text : List ℕ) (run place n : ℕ) (old : String Z)
-    → ArePlain in_table known (drop place text) n → IsPushed in_table known text run place old old run (place + n)
-pushed_nothing in_table known text run place n old are =
-    let long : n ≡ place + n - place = omega arith in
-    inl (refl, (refl, refl), subst (ArePlain in_table known (drop place text)) long are)
+pub pushed_nothing : {Z : Type 0} (in_table : Bool) (known : Lookup) (text : List ℕ) (run offset n : ℕ) (old : String Z)
+    → ArePlain in_table known (drop offset text) n → IsPushed in_table known text run offset old old run (offset + n)
+pushed_nothing in_table known text run offset n old are =
+    let long : n ≡ offset + n - offset = omega arith in
+    inl (refl, (refl, refl), subst (ArePlain in_table known (drop offset text)) long are)
 
 -- at the end: the rest from `run` on completes what the pieces mean
 pub built_end : (in_table : Bool) (known : Lookup) (text : List ℕ) (i run : ℕ) (base : List ℕ) (base_len : ℕ)

@@ -1,4 +1,4 @@
--- A run of scans of raw HTML over rising places of one text, and the bytes that it passes over.
+-- A run of scans of raw HTML over rising offsets of one text, and the bytes that it passes over.
 -- (CommonMark 0.31.2, section 6.6, raw HTML)
 use Rattle.std.specs.Prelude.{ℕ, ◌+◌, ◌*◌, ◌≤◌, ◌<◌, Bool, true, false, nat_le, nat_lt, is_none, List, [], ◌∷◌, length, Option, Some, None, Result, Ok, Err, unwrap_or, if◌then◌else◌}
 use Rattle.markdown_scanners_tree.specs.declared.inline_html.HtmlStop.{HtmlStop}
@@ -24,7 +24,7 @@ shutting shut Cdata = record shut { cdata = true }
 shutting shut Declaration = record shut { declaration = true }
 shutting shut Processing = record shut { processing = true }
 
--- a text, the last place accepted and the end of the last find (each 0 before the first), the shut
+-- a text, the last offset accepted and the end of the last find (each 0 before the first), the shut
 -- kinds, the bytes passed over, the steps
 pub record Run : Type 0 where
   pub text : List ℕ
@@ -44,10 +44,10 @@ new_run text = record {
   steps = 0;
 }
 
--- why a place is refused: no opener ends there; it is not above the last place; it is below the end
+-- why an offset is refused: no opener ends there; it is not above the last offset; it is below the end
 -- of the last find
-abbrev pub place_refusal : Run → ℕ → Option HtmlStop
-place_refusal run p =
+abbrev pub offset_refusal : Run → ℕ → Option HtmlStop
+offset_refusal run p =
     if is_none (opener_before run.text p) then Some NoOpener
     else if nat_le p run.last then Some NotRising
     else if nat_lt p run.find_end then Some InsideFind
@@ -61,7 +61,7 @@ shut_by shut Hyphen found = shut
 shut_by shut Bracket found = shut
 shut_by shut Nothing found = shut
 
--- the run after a step at a place that is not refused
+-- the run after a step at an offset that is not refused
 abbrev pub run_step : Run → ℕ → Run
 run_step run p =
     record {
@@ -73,28 +73,28 @@ run_step run p =
       steps = run.steps + 1;
     }
 
--- what a step answers at a place, by whether it is refused
+-- what a step answers at an offset, by whether it is refused
 abbrev pub answer_of : Run → ℕ → Option HtmlStop → Result (Option ℕ) HtmlStop
 answer_of run p (Some stop) = Err stop
 answer_of run p None = Ok (find_at run.text p)
 
--- the run after it: a refused place changes nothing
+-- the run after it: a refused offset changes nothing
 abbrev pub run_after : Run → ℕ → Option HtmlStop → Run
 run_after run p (Some stop) = run
 run_after run p None = run_step run p
 
--- the finds of the places in turn, up to the first refused
+-- the finds of the offsets in turn, up to the first refused
 abbrev pub run_answers : Run → List ℕ → List (Option ℕ)
 run_answers run [] = []
-run_answers run (p ∷ places) =
-    if is_none (place_refusal run p) then find_at run.text p ∷ run_answers (run_step run p) places
+run_answers run (p ∷ offsets) =
+    if is_none (offset_refusal run p) then find_at run.text p ∷ run_answers (run_step run p) offsets
     else []
 
 -- the bytes passed over at them
 abbrev pub run_passed : Run → List ℕ → ℕ
 run_passed run [] = run.passed
-run_passed run (p ∷ places) =
-    if is_none (place_refusal run p) then run_passed (run_step run p) places
+run_passed run (p ∷ offsets) =
+    if is_none (offset_refusal run p) then run_passed (run_step run p) offsets
     else run.passed
 
 abbrev pub stop_at : Option HtmlStop → ℕ → Option (ℕ × HtmlStop) → Option (ℕ × HtmlStop)
@@ -104,7 +104,7 @@ stop_at (Some stop) i later = Some (i, stop)
 -- the index, counted from i, and the name of the first refusal
 abbrev pub run_stop : Run → ℕ → List ℕ → Option (ℕ × HtmlStop)
 run_stop run i [] = None
-run_stop run i (p ∷ places) = stop_at (place_refusal run p) i (run_stop (run_step run p) (i + 1) places)
+run_stop run i (p ∷ offsets) = stop_at (offset_refusal run p) i (run_stop (run_step run p) (i + 1) offsets)
 
 abbrev pub one_if : Bool → ℕ
 one_if b = if b then 1 else 0

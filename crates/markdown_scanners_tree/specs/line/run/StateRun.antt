@@ -18,7 +18,7 @@ asks_for_breaks _ = false
 
 -- what is known of the thematic breaks after a call from a state: a list marker alone tells of them
 abbrev pub learnt_by_call : LineCall → LineState → KnownBreaks → KnownBreaks
-learnt_by_call (ItemCall _) s known = learnt_by_marker s.bytes s.place known
+learnt_by_call (ItemCall _) s known = learnt_by_marker s.bytes s.offset known
 learnt_by_call _ s known = known
 
 -- the answers, the state that is reached and what is known of the breaks there, and why the next call
@@ -34,8 +34,8 @@ abbrev pub before_run : LineAnswer → StateRun → StateRun
 before_run a run = record run { answers = a ∷ run.answers }
 
 -- a run with these answers before it
-abbrev pub behind_answers : List LineAnswer → StateRun → StateRun
-behind_answers made run = record run { answers = made ++ run.answers }
+abbrev pub after_answers : List LineAnswer → StateRun → StateRun
+after_answers made run = record run { answers = made ++ run.answers }
 
 -- The calls in order from a state: each is one step on what is left of the line, its tabs written out
 -- (2.2).

@@ -23,7 +23,7 @@ due_len is_due = if is_due then 1 else 0
 
 -- a word ends, and a word begins after it, with white space between
 abbrev pub due_after : ℕ → ℕ → Bool
-due_after end place = nat_lt 0 end && nat_lt end place
+due_after end offset = nat_lt 0 end && nat_lt end offset
 
 -- the space that is due, if one is
 abbrev pub due_text : Bool → List ℕ
@@ -75,13 +75,13 @@ tally_past_space y byte = record y {
 
 -- how many spaces are read at once: a space, and one more where it stands after it
 abbrev pub spaces_len : List ℕ → ℕ
-spaces_len behind = if begins_with (λ b. b == space) behind then 2 else 1
+spaces_len after = if begins_with (λ b. b == space) after then 2 else 1
 
 -- after a space, and one more where it stands after it
 abbrev pub tally_past_spaces : Tally → List ℕ → Tally
-tally_past_spaces y behind =
+tally_past_spaces y following =
     let after = tally_past_space y space in
-    if begins_with (λ b. b == space) behind then tally_past_space after space else after
+    if begins_with (λ b. b == space) following then tally_past_space after space else after
 
 -- after a byte of a word, which is or is not dropped
 abbrev pub tally_past_word : Tally → ℕ → Bool → Tally
@@ -131,12 +131,12 @@ word_text is_due drops byte = due_text is_due ++ (if drops then [] else byte ∷
 -- A byte of a word was written: what is appended then, and the text from `next` up to after the
 -- byte, are what was appended before, the text from `mark` up to `end`, where the last word ends, and
 -- what the byte adds.
-pub record IsWordWritten {Z : Type 0} (is_in_table : Bool) (text : List ℕ) (mark end place : ℕ) (old new : String Z)
+pub record IsWordWritten {Z : Type 0} (is_in_table : Bool) (text : List ℕ) (mark end offset : ℕ) (old new : String Z)
     (next : ℕ) : Type 0 where
-  pub within : next ≤ place + 1
+  pub within : next ≤ offset + 1
   pub start : IsCharBoundary text next
-  pub text_is : string_bytes new ++ slice_range text next (place + 1)
+  pub text_is : string_bytes new ++ slice_range text next (offset + 1)
       ≡ (string_bytes old ++ slice_range text mark end)
-      ++ word_text (due_after end place) (starts_dropped is_in_table (drop place text)) (slice_index text place)
-  pub len_is : string_len new + (place + 1 - next) ≡ string_len old + (end - mark)
-      + length (word_text (due_after end place) (starts_dropped is_in_table (drop place text)) (slice_index text place))
+      ++ word_text (due_after end offset) (starts_dropped is_in_table (drop offset text)) (slice_index text offset)
+  pub len_is : string_len new + (offset + 1 - next) ≡ string_len old + (end - mark)
+      + length (word_text (due_after end offset) (starts_dropped is_in_table (drop offset text)) (slice_index text offset))

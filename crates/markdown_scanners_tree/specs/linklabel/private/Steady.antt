@@ -15,5 +15,5 @@ pub record IsSteadyAfterLines {F : Type 0} (g : Shared F (Bor (List ℕ) × Unit
 -- what is skipped in a text at the front of the bytes ends between two of its characters
 pub record EndsAtChars {F : Type 0} (g : Shared F (Bor (List ℕ) × Unit {0}) (Option ℕ)) (f : F)
     (bytes text : List ℕ) : Type 0 where
-  pub at : (place skip : ℕ) → IsCharBoundary text place → Skips g f (drop place bytes) skip
-      → place + skip ≤ length text → IsCharBoundary text (place + skip)
+  pub at : (offset skip : ℕ) → IsCharBoundary text offset → Skips g f (drop offset bytes) skip
+      → offset + skip ≤ length text → IsCharBoundary text (offset + skip)

@@ -81,7 +81,7 @@ begins_html_end Cdata bytes = begins_with_text (codes "]]>") bytes
 begins_html_end BlockName bytes = false
 begins_html_end TagAlone bytes = false
 
--- the test is true of what begins at some place of the bytes
+-- the test is true of what begins at some offset of the bytes
 abbrev pub is_somewhere : (List ℕ → Bool) → List ℕ → Bool
 is_somewhere test [] = false
 is_somewhere test (b ∷ bs) = test (b ∷ bs) || is_somewhere test bs

@@ -12,10 +12,10 @@ abbrev pub AnswersIfAny : {F : Type 0} → Shared F (Bor (List ℕ) × Unit {0})
 AnswersIfAny g None rest skip = ⊥
 AnswersIfAny g (Some f) rest skip = Answers g f.now rest skip
 
--- the place in the source after these kept bytes
-abbrev pub place_after : ℕ → List KeptByte → ℕ
-place_after place [] = place
-place_after place (k ∷ ks) = place_after (k.place + 1) ks
+-- the offset in the source after these kept bytes
+abbrev pub offset_after : ℕ → List KeptByte → ℕ
+offset_after offset [] = offset
+offset_after offset (k ∷ ks) = offset_after (k.offset + 1) ks
 
 -- These are the first bytes of a kept text of the source.
 pub record IsKeptPrefix (answers : List ℕ → ℕ → Type 0) (source : List ℕ) (prefix : List KeptByte) : Type 0 where
@@ -34,7 +34,7 @@ pub record IsKeptTag (answers : List ℕ → ℕ → Type 0) (source : List ℕ)
 -- the text that the tag needs where bytes inside it were left out; else nothing, since the source
 -- has it
 abbrev pub tag_buffer : List KeptByte → List ℕ
-tag_buffer prefix = if place_after 0 prefix == length prefix then [] else bytes_of prefix
+tag_buffer prefix = if offset_after 0 prefix == length prefix then [] else bytes_of prefix
 
 -- The tags that a source begins with, where a handler or none is asked at its line endings.
 module _ {F : Type 0} (g : Shared F (Bor (List ℕ) × Unit {0}) ℕ) (handler : Option (Bor F))
@@ -55,8 +55,8 @@ module _ {F : Type 0} (g : Shared F (Bor (List ℕ) × Unit {0}) ℕ) (handler :
 
 -- the text and the length that are answered for a tag of these kept bytes
 abbrev pub AreTextAndLength : List ℕ → ℕ → List KeptByte → Type 0
-AreTextAndLength text n prefix = (text ≡ tag_buffer prefix) × (n ≡ place_after 0 prefix)
+AreTextAndLength text n prefix = (text ≡ tag_buffer prefix) × (n ≡ offset_after 0 prefix)
 
 -- how many bytes a tag has without the skipped ones, and with them
 abbrev pub AreLengths : ℕ → ℕ → List KeptByte → Type 0
-AreLengths kept n prefix = (kept ≡ length prefix) × (n ≡ place_after 0 prefix)
+AreLengths kept n prefix = (kept ≡ length prefix) × (n ≡ offset_after 0 prefix)

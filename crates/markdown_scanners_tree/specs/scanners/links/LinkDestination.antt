@@ -48,7 +48,7 @@ opening_count us = count_by (is_single left_parenthesis) us
 abbrev pub closing_count : List (List ℕ) → ℕ
 closing_count us = count_by (is_single right_parenthesis) us
 
--- After `depth` open parentheses, at each place of the units from none to `most` are open, and
+-- After `depth` open parentheses, at each offset of the units from none to `most` are open, and
 -- none at the end.
 pub record IsBalanced (most depth : ℕ) (us : List (List ℕ)) : Type 0 where
   pub never_below : (k : ℕ) → k ≤ length us
@@ -88,7 +88,7 @@ abbrev pub IsLinkDestination : ℕ → List ℕ → ℕ → List ℕ → Type 0
 IsLinkDestination most text taken destination =
     IsPointedDestination text taken destination ⊎ IsBareDestination most text taken destination
 
--- The places of its own bytes among those that it takes: all of them, or all but the two brackets.
+-- The offsets of its own bytes among those that it takes: all of them, or all but the two brackets.
 abbrev pub StandsInside : ℕ → ℕ → ℕ → Type 0
 StandsInside taken start end =
     ((start ≡ 0) × (end ≡ taken)) ⊎ ((start ≡ 1) × (end + 1 ≡ taken))

@@ -20,19 +20,19 @@ pub data IsListMarker : List ℕ → ℕ → ℕ → Type 0 where
 -- stand there, else all that space, of which there is some.
 pub data IsItemSpace (rest : List ℕ) : ℕ → ℕ → Type 0 where
   blank : (n : ℕ) → IsBlankLine rest n → IsItemSpace rest 0 1
-  indented_code : (place space : ℕ) → NoBlankLine rest → IsIndent rest 5 place space → 4 < space
+  indented_code : (offset space : ℕ) → NoBlankLine rest → IsIndent rest 5 offset space → 4 < space
       → IsItemSpace rest 1 1
-  text : (place space : ℕ) → NoBlankLine rest → IsIndent rest 5 place space → 0 < space → space ≤ 4
-      → IsItemSpace rest place space
+  text : (offset space : ℕ) → NoBlankLine rest → IsIndent rest 5 offset space → 0 < space → space ≤ 4
+      → IsItemSpace rest offset space
 
 -- A list item begins here: a marker and what follows it, `n` bytes together and `indent` columns.
 pub record IsListItem (bytes : List ℕ) (n delimiter start indent : ℕ) : Type 0 where
   pub marker : List ℕ
   pub rest : List ℕ
-  pub place : ℕ
+  pub offset : ℕ
   pub space : ℕ
   pub parts : bytes ≡ marker ++ rest
   pub is_marker : IsListMarker marker delimiter start
-  pub is_space : IsItemSpace rest place space
-  pub counted : n ≡ length marker + place
+  pub is_space : IsItemSpace rest offset space
+  pub counted : n ≡ length marker + offset
   pub columns_are : indent ≡ length marker + space

@@ -45,9 +45,9 @@ pub record IsLabelWithColon (text : List ℕ) (n : ℕ) : Type 0 where
 abbrev pub bracket_count : List ℕ → ℕ
 bracket_count destination = if begins_with (λ b. b == less_than_sign) destination then 1 else 0
 
--- What a definition begins with, up to the place after it: a link label, a colon, a gap, and a link destination, which
+-- What a definition begins with, up to the offset after it: a link label, a colon, a gap, and a link destination, which
 -- may be `<>`, but not without any byte.
-pub record IsTarget (most : ℕ) (text : List ℕ) (label destination : Range ℕ) (place : ℕ) : Type 0 where
+pub record IsTarget (most : ℕ) (text : List ℕ) (label destination : Range ℕ) (offset : ℕ) : Type 0 where
   pub named : ℕ
   pub gap : List ℕ
   pub rest : List ℕ
@@ -58,12 +58,12 @@ pub record IsTarget (most : ℕ) (text : List ℕ) (label destination : Range �
   pub is_gap : IsGap gap
   pub is_destination : IsLinkDestination most rest taken raw
   pub some : 1 ≤ taken
-  pub place_is : place ≡ named + length gap + taken
+  pub offset_is : offset ≡ named + length gap + taken
   -- the label stands between its brackets, and the destination between those that it may have
   pub label_begins : label.start ≡ 1
   pub label_ends : label.end + 2 ≡ named
   pub destination_begins : destination.start ≡ named + length gap + bracket_count rest
-  pub destination_ends : destination.end + bracket_count rest ≡ place
+  pub destination_ends : destination.end + bracket_count rest ≡ offset
 
 -- From the offset on stand a gap, which is not empty, and a link title, whose own bytes stand between the two around it.
 pub record IsSeparatedTitle (text : List ℕ) (offset : ℕ) (title : Range ℕ) : Type 0 where
@@ -77,32 +77,32 @@ pub record IsSeparatedTitle (text : List ℕ) (offset : ℕ) (title : Range ℕ)
   pub title_begins : title.start ≡ offset + length gap + 1
   pub title_ends : title.end + 1 ≡ offset + length gap + taken
 
--- From the place on stand a gap and a link title, with no further character in its line: `len` bytes of the text up to
+-- From the offset on stand a gap and a link title, with no further character in its line: `len` bytes of the text up to
 -- there.
-pub record IsTitleLine (text : List ℕ) (place : ℕ) (title : Range ℕ) (len : ℕ) : Type 0 where
+pub record IsTitleLine (text : List ℕ) (offset : ℕ) (title : Range ℕ) (len : ℕ) : Type 0 where
   pub ending : ℕ
-  pub is_titled : IsSeparatedTitle text place title
+  pub is_titled : IsSeparatedTitle text offset title
   pub nothing_further : IsRestOfLine (drop (title.end + 1) text) ending
   pub len_is : len ≡ title.end + 1 + ending
 
--- No further character occurs from the place on, and no title belongs to the definition: none stands in the next line
+-- No further character occurs from the offset on, and no title belongs to the definition: none stands in the next line
 -- either, or something follows it there.
-pub record IsUntitled (text : List ℕ) (place len : ℕ) : Type 0 where
+pub record IsUntitled (text : List ℕ) (offset len : ℕ) : Type 0 where
   pub ending : ℕ
-  pub nothing_further : IsRestOfLine (drop place text) ending
-  pub no_title : (title : Range ℕ) (end : ℕ) → ¬ IsTitleLine text place title end
-  pub len_is : len ≡ place + ending
+  pub nothing_further : IsRestOfLine (drop offset text) ending
+  pub no_title : (title : Range ℕ) (end : ℕ) → ¬ IsTitleLine text offset title end
+  pub len_is : len ≡ offset + ending
 
--- how a definition ends whose destination ends at the place
+-- how a definition ends whose destination ends at the offset
 abbrev pub IsEnd : List ℕ → ℕ → Option (Range ℕ) → ℕ → Type 0
-IsEnd text place (Some title) len = IsTitleLine text place title len
-IsEnd text place None len = IsUntitled text place len
+IsEnd text offset (Some title) len = IsTitleLine text offset title len
+IsEnd text offset None len = IsUntitled text offset len
 
 -- A link reference definition stands at the front of the text, after the indent of its line.
 pub record IsReferenceDefinition (most : ℕ) (text : List ℕ) (definition : ReferenceDefinition) : Type 0 where
-  pub place : ℕ
-  pub target : IsTarget most text definition.label definition.destination place
-  pub ends : IsEnd text place definition.title definition.len
+  pub offset : ℕ
+  pub target : IsTarget most text definition.label definition.destination offset
+  pub ends : IsEnd text offset definition.title definition.len
 
 -- A text may be cut where the range begins and where it ends.
 abbrev pub IsCutAt : List ℕ → Range ℕ → Type 0

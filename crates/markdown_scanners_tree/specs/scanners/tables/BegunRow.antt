@@ -23,12 +23,12 @@ begins_with_cell bytes =
     else list_any (λ b. not (is_space b)) (take n bytes)
 
 -- what follows a pipe in front, if there is one
-abbrev pub behind_pipe : List ℕ → List ℕ
-behind_pipe bytes = drop (if begins_with is_pipe bytes then 1 else 0) bytes
+abbrev pub after_pipe : List ℕ → List ℕ
+after_pipe bytes = drop (if begins_with is_pipe bytes then 1 else 0) bytes
 
 -- After at most three spaces nothing but bytes of a row stands up to the line's end, a pipe among them, and the first
 -- cell is one.
 abbrev pub begins_row : List ℕ → Bool
 begins_row bytes =
     let n = prefix_len is_space bytes in
-    nat_le n 3 && may_be_row (drop n bytes) && begins_with_cell (behind_pipe (drop n bytes))
+    nat_le n 3 && may_be_row (drop n bytes) && begins_with_cell (after_pipe (drop n bytes))

@@ -48,7 +48,7 @@ IsFirstFit in_table known text p =
     ⊎ (¬ (Fits (IsAmpersandReference known) text) × (IsDroppedReturn p.source p.meaning
     ⊎ (¬ (Fits IsDroppedReturn text) × IsItself p.source p.meaning)))))))
 
--- The text is the join of the pieces, each the first that fits at its place.
+-- The text is the join of the pieces, each the first that fits at its offset.
 abbrev pub ArePieces : Bool → Lookup → List ℕ → List Piece → Type 0
 ArePieces in_table known text [] = text ≡ []
 ArePieces in_table known text (p ∷ ps) =

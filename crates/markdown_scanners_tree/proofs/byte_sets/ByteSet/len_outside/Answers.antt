@@ -2,7 +2,7 @@ use Rattle.std.proofs.Common.{◌≡◌, ℕ, ◌+◌, ◌-◌, ◌≤◌, ◌<�
 use Rattle.std.specs.List.{prefix_len}
 use Rattle.std.proofs.lemmas.List.{length-drop, drop-drop}
 use Rattle.std.proofs.lemmas.List.Sums.{prefix_len-le-length}
-use Rattle.markdown_scanners_tree.proofs.PrefixLemmas.{from_place, prefix_len-first}
+use Rattle.markdown_scanners_tree.proofs.PrefixLemmas.{from_offset, prefix_len-first}
 use Rattle.markdown_scanners_tree.specs.declared.byte_sets.ByteSet.{ByteSet}
 use Rattle.markdown_scanners_tree.proofs.byte_sets.SetLanes.{is_outside}
 use Rattle.markdown_scanners_tree.proofs.scanners.lines.LaneLemmas.{at_most, ends_within, goes_past}
@@ -15,7 +15,7 @@ room bytes from enough = omega (arith, length-drop from bytes)
 counted : (set : ByteSet) (bytes : List ℕ) (from before : ℕ)
     → before ≡ prefix_len (is_outside set) (take 16 (take (length bytes - from) (drop from bytes)))
     → before ≡ prefix_len (is_outside set) (take 16 (drop from bytes))
-counted set bytes from before is = is ∙ ap (λ rest. prefix_len (is_outside set) (take 16 rest)) (from_place bytes from)
+counted set bytes from before is = is ∙ ap (λ rest. prefix_len (is_outside set) (take 16 rest)) (from_offset bytes from)
 
 pub overflow_add-from : goal.overflow_add-from
 overflow_add-from c =

@@ -29,7 +29,7 @@ returns-then-not-scan_space_or_end-clause-state c =
 pub returns-then-not-scan_space_or_end-clause-step : goal.returns-then-not-scan_space_or_end-clause-step
 returns-then-not-scan_space_or_end-clause-step c none small found is =
     let s = c.args.self.now in
-    let inside : c.args.width ≤ length (unscanned s) = omega (arith, length-drop s.place s.bytes, c.requires.inside) in
+    let inside : c.args.width ≤ length (unscanned s) = omega (arith, length-drop s.offset s.bytes, c.requires.inside) in
     rw c.copy-before.ensures
     (item_refused c.args.indent s small (item_step-bare s (kept c) small none found is inside c.args.indent (bare c)))
 
@@ -78,7 +78,7 @@ pub returns-clause-step : goal.returns-clause-step
 returns-clause-step c none small found is =
     let s = c.args.self.now in
     let further = c.scan_marker_space-further.result in
-    let inside : c.args.width ≤ length (unscanned s) = omega (arith, length-drop s.place s.bytes, c.requires.inside) in
+    let inside : c.args.width ≤ length (unscanned s) = omega (arith, length-drop s.offset s.bytes, c.requires.inside) in
     let rest : rest_of (after_space 1 (at c)) ≡ drop (space_within 1 (at c)) (rest_of (at c)) =
     ap rest_of (sym (after c)) ∙ c.scan_space_or_end.ensures.rest
     ∙ ap (λ x. drop (space_within 1 x) (rest_of x)) c.pass_bytes.ensures in

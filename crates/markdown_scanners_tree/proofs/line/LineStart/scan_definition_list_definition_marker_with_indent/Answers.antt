@@ -7,15 +7,15 @@ pub returns-then-ne-clause-step : goal.returns-then-ne-clause-step
 returns-then-ne-clause-step c =
     let old = c.args.self.now in
     let other = begins_with-other c.next_byte.result (unscanned old)
-    (drop (old.place + 1) old.bytes) 58 c.next_byte.ensures.byte c.next_byte.ensures.none
+    (drop (old.offset + 1) old.bytes) 58 c.next_byte.ensures.byte c.next_byte.ensures.none
     (sym c.ne.ensures ∙ c.if-ne.true) in
     λ none. definition_refused c.args.indent old c.next_byte.ensures.phase none other
 
 pub returns-clause-step : goal.returns-clause-step
 returns-clause-step c none =
     let old = c.args.self.now in
-    let first : unscanned old ≡ 58 ∷ drop (old.place + 1) old.bytes =
-    begins_with-first c.next_byte.result (unscanned old) (drop (old.place + 1) old.bytes) 58 c.next_byte.ensures.byte
+    let first : unscanned old ≡ 58 ∷ drop (old.offset + 1) old.bytes =
+    begins_with-first c.next_byte.result (unscanned old) (drop (old.offset + 1) old.bytes) 58 c.next_byte.ensures.byte
     (sym c.ne.ensures ∙ c.if-ne.false) in
     let space = c.scan_definition_space-columns in
     definition_taken c.args.indent space.result old space.new.self c.next_byte.ensures.phase none first

@@ -7,7 +7,7 @@ use Rattle.markdown_scanners_tree.proofs.line.LineStart.scan_list_marker_with_br
 
 pub returns-in_err-width-clause-truth : goal.returns-in_err-width-clause-truth
 returns-in_err-width-clause-truth c =
-    rw (← c.self.view_is) (λ known. c.marker_at.ensures.truth known c.self.inside.place (omega arith))
+    rw (← c.self.view_is) (λ known. c.marker_at.ensures.truth known c.self.inside.offset (omega arith))
 
 pub returns-in_err-width-clause-step : goal.returns-in_err-width-clause-step
 returns-in_err-width-clause-step c known none =
@@ -20,10 +20,10 @@ returns-in_err-width-clause-step c known none =
 
 pub returns-clause-truth : goal.returns-clause-truth
 returns-clause-truth c known =
-    let forward : c.self.inside.place ≤ c.pass_list_marker.new.self.place =
+    let forward : c.self.inside.offset ≤ c.pass_list_marker.new.self.offset =
     rw (← c.self.view_is) at c.pass_list_marker.ensures.forward in
     rw (c.pass_list_marker.ensures.bytes, ← c.self.view_is)
-    (c.marker_at.ensures.truth (rw (← c.self.view_is) at known) c.pass_list_marker.new.self.place forward)
+    (c.marker_at.ensures.truth (rw (← c.self.view_is) at known) c.pass_list_marker.new.self.offset forward)
 
 pub returns-clause-step : goal.returns-clause-step
 returns-clause-step c known none =

@@ -13,7 +13,7 @@ returns-in_err-width-clause-step c none =
     (item_refused c.args.indent s c.list_marker.ensures.phase
     (item_step-none c.args.indent s none c.in_err-width.ensures.none))
 
--- the marker at the place
+-- the marker at the offset
 abbrev marker : (c : goal.After-pass_list_marker) → Marker
 marker c = record { width = c.in_ok-width.width; delimiter = c.in_ok-width.delimiter; start = c.in_ok-width.start }
 

@@ -11,10 +11,10 @@ invariant-loop-left l =
       same : now.bytes ≡ old.bytes;
       text : now.bytes.now ≡ entry.bytes;
       none_before : now.breaks.none_before ≡ old.breaks.none_before;
-      behind_break : now.breaks.behind_break ≡ old.breaks.behind_break;
-      bound : now.column ≤ 4 * now.place + 3;
-      taking : IsTakingAt entry.bytes entry.place entry.phase (entry.pending - l.from_pending)
-          (l.n - l.from_pending) now.place now.column now.pending l.left;
+      after_break : now.breaks.after_break ≡ old.breaks.after_break;
+      bound : now.column ≤ 4 * now.offset + 3;
+      taking : IsTakingAt entry.bytes entry.offset entry.phase (entry.pending - l.from_pending)
+          (l.n - l.from_pending) now.offset now.column now.pending l.left;
     }
 
 -- proposed from the loop's first test

@@ -37,7 +37,7 @@ pub stopped : (c : goal.After-finished) → let plain = plain_run c.args.bytes.n
     (c.loop-index.answers.items ≡ plain.answers)
     × (Some (length c.loop-index.answers.items, c.in-Some.reason) ≡ indexed_stop plain)
     × (rest_of c.loop-index.start ≡ rest_after c.args.bytes.now plain)
-    × (c.loop-index.start.place ≡ scanned_after c.args.bytes.now plain)
+    × (c.loop-index.start.offset ≡ scanned_after c.args.bytes.now plain)
 stopped c =
     let i = c.loop-index.invariant in
     let calls = c.args.calls.now in
@@ -53,7 +53,7 @@ stopped c =
 pub ended : (c : goal.After-finished-2) → let plain = plain_run c.args.bytes.now c.args.calls.now in
     (c.loop-index.answers.items ≡ plain.answers) × (None ≡ indexed_stop plain)
     × (rest_of c.loop-index.start ≡ rest_after c.args.bytes.now plain)
-    × (c.loop-index.start.place ≡ scanned_after c.args.bytes.now plain)
+    × (c.loop-index.start.offset ≡ scanned_after c.args.bytes.now plain)
 ended c =
     let i = c.loop-index.invariant in
     let calls = c.args.calls.now in

@@ -3,7 +3,7 @@ use Rattle.std.proofs.Common.{ℕ, List, [], ◌∷◌, ◌≡◌, Option, Some,
 use Rattle.std.specs.Str.Iter.{chars_steps}
 use Rattle.caseless.specs.CaseFold.{FoldsCaseTo}
 use Rattle.std.proofs.lemmas.Str.{Chars-gives, encodes-chars}
-use Rattle.markdown_scanners_tree.specs.linklabel.Key.{blocks_behind, label_key}
+use Rattle.markdown_scanners_tree.specs.linklabel.Key.{blocks_after, label_key}
 use Rattle.markdown_scanners_tree.proofs.linklabel.key.hash_folded.Goals as goal
 
 -- what a call gave of the characters that are left
@@ -25,7 +25,7 @@ loop-c-init g c = record {
       (c.default_case_fold-c-items.ensures.text _
       (Chars-gives _ _ (encodes-chars _ c.utf8.text ∙ sym c.chars.ensures.rest)));
   same = ap (λ gathered. fold g.H.Hasher.write c.args.state.now
-      (blocks_behind gathered (flat_map encode_utf8 (label_key c.args.text.now)))) c.new-block.ensures;
+      (blocks_after gathered (flat_map encode_utf8 (label_key c.args.text.now)))) c.new-block.ensures;
 }
 
 pub loop-c-preserved : goal.loop-c-preserved
@@ -37,7 +37,7 @@ loop-c-preserved g c =
       folds = first.2;
       same = c.push_char.ensures (flat_map encode_utf8 first.0)
           ∙ ap (λ left. fold g.H.Hasher.write c.loop-c.state
-          (blocks_behind (take c.loop-c.block.len c.loop-c.block.bytes) (flat_map encode_utf8 left))) (sym first.1)
+          (blocks_after (take c.loop-c.block.len c.loop-c.block.bytes) (flat_map encode_utf8 left))) (sym first.1)
           ∙ c.loop-c.invariant.same;
     }
 
@@ -48,5 +48,5 @@ returns g c =
     (c.next.ensures.steps.first.at _ c.loop-c.invariant.folds) c.in-None.is in
     c.end.ensures
     ∙ ap (λ left. fold g.H.Hasher.write c.loop-c.state
-    (blocks_behind (take c.loop-c.block.len c.loop-c.block.bytes) (flat_map encode_utf8 left))) (sym done)
+    (blocks_after (take c.loop-c.block.len c.loop-c.block.bytes) (flat_map encode_utf8 left))) (sym done)
     ∙ c.loop-c.invariant.same

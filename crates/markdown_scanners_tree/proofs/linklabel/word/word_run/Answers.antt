@@ -11,7 +11,7 @@ loop-run-preserved c =
     let at = c.loop-run.run.len in
     let byte = get_or bytes at 0 in
     let within : at < length bytes = omega (arith, c.loop-run-test.true) in
-    let parts = ap (λ behind. byte ∷ behind) (rest_is bytes (at + 1)) ∙ sym (drop_more bytes at 0 within) in
+    let parts = ap (λ after. byte ∷ after) (rest_is bytes (at + 1)) ∙ sym (drop_more bytes at 0 within) in
     let next : IsKeptByte c.args.is_in_table c.loop-run.run.escapes (drop at bytes) byte c.in-Some.escapes =
     subst (λ z. IsKeptByte c.args.is_in_table c.loop-run.run.escapes z byte c.in-Some.escapes) parts
     c.in-Some.ensures in

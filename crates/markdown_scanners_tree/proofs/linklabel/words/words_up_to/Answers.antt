@@ -5,30 +5,30 @@ use Rattle.markdown_scanners_tree.proofs.linklabel.SourceSteps.{rest_is}
 use Rattle.markdown_scanners_tree.proofs.linklabel.WordSteps.{escaped_here, joined_here}
 use Rattle.markdown_scanners_tree.proofs.linklabel.words.words_up_to.Goals as goal
 
-pub loop-place-init : goal.loop-place-init
-loop-place-init c = record { within = omega (arith, c.requires.ordered, c.requires.end); forward = omega arith; words = c.requires.words }
+pub loop-offset-init : goal.loop-offset-init
+loop-offset-init c = record { within = omega (arith, c.requires.ordered, c.requires.end); forward = omega arith; words = c.requires.words }
 
-pub loop-place-preserved-then-is_ordinary : goal.loop-place-preserved-then-is_ordinary
-loop-place-preserved-then-is_ordinary c = record {
-  within = omega (arith, c.loop-place-test.true, c.requires.end);
-  forward = omega (arith, c.loop-place.invariant.forward);
-  words = byte c.loop-place.place c.loop-place.invariant.words (omega (arith, c.loop-place-test.true, c.requires.end))
+pub loop-offset-preserved-then-is_ordinary : goal.loop-offset-preserved-then-is_ordinary
+loop-offset-preserved-then-is_ordinary c = record {
+  within = omega (arith, c.loop-offset-test.true, c.requires.end);
+  forward = omega (arith, c.loop-offset.invariant.forward);
+  words = byte c.loop-offset.offset c.loop-offset.invariant.words (omega (arith, c.loop-offset-test.true, c.requires.end))
       (sym c.is_ordinary.ensures ∙ c.if-is_ordinary.true);
 }
 
-pub loop-place-preserved-then-joins_words : goal.loop-place-preserved-then-joins_words
-loop-place-preserved-then-joins_words c =
-    let place = c.loop-place.place in
-    let joins : joins_words (drop place c.args.bytes.now) ≡ true =
-    ap joins_words (sym (rest_is c.args.bytes.now place)) ∙ sym c.joins_words.ensures ∙ c.if-joins_words.true in
-    let next = joined_here c.args.is_in_table c.args.bytes.now place c.loop-place.invariant.words c.if-place-gt0.true joins in
-    record { within = next.0; forward = omega (arith, c.loop-place.invariant.forward); words = next.1 }
+pub loop-offset-preserved-then-joins_words : goal.loop-offset-preserved-then-joins_words
+loop-offset-preserved-then-joins_words c =
+    let offset = c.loop-offset.offset in
+    let joins : joins_words (drop offset c.args.bytes.now) ≡ true =
+    ap joins_words (sym (rest_is c.args.bytes.now offset)) ∙ sym c.joins_words.ensures ∙ c.if-joins_words.true in
+    let next = joined_here c.args.is_in_table c.args.bytes.now offset c.loop-offset.invariant.words c.if-offset-gt0.true joins in
+    record { within = next.0; forward = omega (arith, c.loop-offset.invariant.forward); words = next.1 }
 
-pub loop-place-preserved : goal.loop-place-preserved
-loop-place-preserved c =
+pub loop-offset-preserved : goal.loop-offset-preserved
+loop-offset-preserved c =
     let t = c.args.is_in_table in
-    let place = c.loop-place.place in
-    let escapes : is_kept_escape t (drop place c.args.bytes.now) ≡ true =
-    ap (is_kept_escape t) (sym (rest_is c.args.bytes.now place)) ∙ sym c.is_kept_escape.ensures ∙ c.if-is_kept_escape.true in
-    let next = escaped_here t c.args.bytes.now place c.loop-place.invariant.words escapes in
-    record { within = next.0; forward = omega (arith, c.loop-place.invariant.forward); words = next.1 }
+    let offset = c.loop-offset.offset in
+    let escapes : is_kept_escape t (drop offset c.args.bytes.now) ≡ true =
+    ap (is_kept_escape t) (sym (rest_is c.args.bytes.now offset)) ∙ sym c.is_kept_escape.ensures ∙ c.if-is_kept_escape.true in
+    let next = escaped_here t c.args.bytes.now offset c.loop-offset.invariant.words escapes in
+    record { within = next.0; forward = omega (arith, c.loop-offset.invariant.forward); words = next.1 }

@@ -32,22 +32,22 @@ use Rattle.markdown_scanners_tree.proofs.linklabel.write.write_label.Goals as go
 -- where white space begins the text may be cut, if it may be cut where the scan is
 end_cut : (text : List ℕ) (end ix : ℕ) → end ≤ ix
     → (end < ix → IsCharBoundary text end × IsCharBoundary text ix) → IsCharBoundary text ix → IsCharBoundary text end
-end_cut text end ix behind gap here = elim (cases_Bool (nat_lt end ix)) [
+end_cut text end ix after gap here = elim (cases_Bool (nat_lt end ix)) [
   | inl less ↦ (gap (ltb-true end ix less)).0
-  | inr not ↦ (let same : ix ≡ end = omega (arith, behind, ltb-false end ix not) in subst (IsCharBoundary text) same here)
+  | inr not ↦ (let same : ix ≡ end = omega (arith, after, ltb-false end ix not) in subst (IsCharBoundary text) same here)
 ]
 
 -- white space after a word is a run of it
-run_behind : (end n : ℕ) → run_after false n ≡ nat_lt end (end + n)
-run_behind end zero = sym (le-ltb end (end + zero) (omega arith))
-run_behind end (suc n) = sym (lt-ltb end (end + suc n) (omega arith))
+later_run : (end n : ℕ) → run_after false n ≡ nat_lt end (end + n)
+later_run end zero = sym (le-ltb end (end + zero) (omega arith))
+later_run end (suc n) = sym (lt-ltb end (end + suc n) (omega arith))
 
 pub loop-out-init : goal.loop-out-init
 loop-out-init g c = record {
   within = omega arith;
   in_text = omega arith;
   after = omega arith;
-  behind = omega arith;
+  ends = omega arith;
   cut = IsCharBoundary-start c.args.text.now c.utf8.text;
   gap = λ less. absurd (omega (arith, less));
   seen = [];
@@ -128,19 +128,19 @@ loop-out-preserved-in-Ending g c =
     let some = (ending_fits c.args.bytes.now c.loop-out.ix c.in-Ending.len o).1 in
     let line = cut_after_ending c.args.text.now c.loop-out.ix c.in-Ending.len c.utf8.text
     (front_ending c.args.text.now c.args.bytes.now c.requires.front c.loop-out.ix (omega (arith, inside, some)) c.in-Ending.len o) in
-    let place : c.loop-out.ix + c.in-Ending.len + c.in-Some.skip ≡ jx = omega arith in
+    let offset : c.loop-out.ix + c.in-Ending.len + c.in-Some.skip ≡ jx = omega arith in
     let here : IsCharBoundary text ix = front_cut text bytes c.requires.front ix o.byte o.others o.parts
     (omega (arith, inside, some)) (white_small o.byte (ending_white o.byte o.ends)) in
-    let there : IsCharBoundary text jx = subst (IsCharBoundary text) place
+    let there : IsCharBoundary text jx = subst (IsCharBoundary text) offset
     (c.requires.cuts.at (ix + c.in-Ending.len) c.in-Some.skip line c.in-Some.ensures.found (omega (arith, inside))) in
-    let in_run : true ≡ nat_lt c.loop-out.end jx = sym (lt-ltb c.loop-out.end jx (omega (arith, inv.behind, some))) in
+    let in_run : true ≡ nat_lt c.loop-out.end jx = sym (lt-ltb c.loop-out.end jx (omega (arith, inv.ends, some))) in
     record {
       within = omega (arith, c.in-Some.ensures.within);
       in_text = omega (arith, inside);
       after = inv.after;
-      behind = omega (arith, inv.behind);
+      ends = omega (arith, inv.ends);
       cut = inv.cut;
-      gap = λ less. (end_cut text c.loop-out.end ix inv.behind inv.gap here, there);
+      gap = λ less. (end_cut text c.loop-out.end ix inv.ends inv.gap here, there);
       seen = inv.seen ++ kept_line ix (drop ix bytes);
       at = next;
       pushed = inv.pushed;
@@ -173,15 +173,15 @@ loop-out-preserved-in-Space g c =
     let small = white_small c.in-Space.field-0 o.white in
     let here : IsCharBoundary text ix = front_cut text bytes c.requires.front ix c.in-Space.field-0 o.others o.parts
     (omega (arith, inside)) small in
-    let in_run : true ≡ nat_lt c.loop-out.end (ix + 1) = sym (lt-ltb c.loop-out.end (ix + 1) (omega (arith, inv.behind))) in
+    let in_run : true ≡ nat_lt c.loop-out.end (ix + 1) = sym (lt-ltb c.loop-out.end (ix + 1) (omega (arith, inv.ends))) in
     record {
       within = omega (arith, fits);
       in_text = omega (arith, inside);
       after = inv.after;
-      behind = omega (arith, inv.behind);
+      ends = omega (arith, inv.ends);
       cut = inv.cut;
       gap = λ less. (
-        end_cut text c.loop-out.end ix inv.behind inv.gap here,
+        end_cut text c.loop-out.end ix inv.ends inv.gap here,
         cut_after text ix c.in-Space.field-0 _ c.utf8.text parts small,
       );
       seen = inv.seen ++ in_line c.in-Space.field-0 ix ∷ [];
@@ -249,8 +249,8 @@ loop-out-preserved g c =
     λ k below. prefix_len_passes is_white_space_in_line (drop end bytes) k 0 (omega (arith, below, spaces)) in
     let q = past_spaces _ _ t c.word_run-run.result.escapes p.seen end (drop end bytes) pushed true false
     (subst (IsAt _ _ _ _ end) later p.at) (subst (λ z. Written t p.seen end z true false pushed) later p.written) n short white in
-    let behind : drop n (drop end bytes) ≡ drop (end + n) bytes = drop-drop n end bytes in
-    let at = subst (IsAt (Skips g.F.Fn c.args.handler.now) bytes c.word_run-run.result.escapes q.seen (end + n)) behind q.at in
+    let after : drop n (drop end bytes) ≡ drop (end + n) bytes = drop-drop n end bytes in
+    let at = subst (IsAt (Skips g.F.Fn c.args.handler.now) bytes c.word_run-run.result.escapes q.seen (end + n)) after q.at in
     let spaces_in : end + n < length text = omega (
       arith,
       before_end _ _ _ _ _ _ at t label.label label.is_label,
@@ -269,13 +269,13 @@ loop-out-preserved g c =
       within = omega (arith, spaces_in, front_fits text bytes c.requires.front);
       in_text = omega (arith, spaces_in);
       after = omega (arith, word.within);
-      behind = omega arith;
+      ends = omega arith;
       cut = word.start;
       gap = λ less. white_cuts text bytes c.requires.front c.utf8.text end n (omega (arith, less)) (omega (arith, spaces_in)) white;
       seen = q.seen;
       at = at;
       pushed = pushed;
-      written = subst (λ z. z) (λ i. Written t q.seen (end + n) (behind i) (has_word i) (run_behind end n i) pushed) q.written;
+      written = subst (λ z. z) (λ i. Written t q.seen (end + n) (after i) (has_word i) (later_run end n i) pushed) q.written;
       same = sym (append_assoc old (inv.pushed ++ more b) (take len rest))
           ∙ ap (λ z. z ++ take len rest) first
           ∙ append_assoc new (slice_range text mark (ix + 1)) (take len rest)
@@ -334,7 +334,7 @@ range-requires-clause-end_boundary g c =
       before_end _ _ _ _ _ _ at c.args.is_in_table label.label label.is_label,
       label.within,
     ) in
-    end_cut c.args.text.now c.loop-out.end c.loop-out.ix inv.behind inv.gap (elim c.in-End.is [
+    end_cut c.args.text.now c.loop-out.end c.loop-out.ix inv.ends inv.gap (elim c.in-End.is [
       | inl e ↦
           (let f : IsNextPart c.loop-out.escaped (drop c.loop-out.ix c.args.bytes.now) End =
           next_part_at c.args.bytes.now c.loop-out.ix _ _ _ c.next_part.ensures e in

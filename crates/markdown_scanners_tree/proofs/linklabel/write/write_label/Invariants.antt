@@ -12,7 +12,7 @@ invariant-loop-out g l = record {
   within : l.ix ≤ length l.bytes;
   in_text : l.ix ≤ length l.text;
   after : l.mark ≤ l.end;
-  behind : l.end ≤ l.ix;
+  ends : l.end ≤ l.ix;
   cut : IsCharBoundary l.text l.mark;
   gap : l.end < l.ix → IsCharBoundary l.text l.end × IsCharBoundary l.text l.ix;
   seen : List KeptByte;

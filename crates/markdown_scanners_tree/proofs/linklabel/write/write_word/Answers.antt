@@ -12,63 +12,63 @@ use Rattle.markdown_scanners_tree.proofs.linklabel.SeenBytes.{word_text-length}
 use Rattle.markdown_scanners_tree.proofs.linklabel.WriteLemmas.{cut_after_dropped, no_slice, slice_more}
 use Rattle.markdown_scanners_tree.proofs.linklabel.write.write_word.Goals as goal
 
-module _ {Z : Type 0} (old mid : String Z) (t : Bool) (text : List ℕ) (mark end next place : ℕ) (order : next ≤ place)
-    (within : place < length text)
-    (bytes : string_bytes mid ++ slice_range text next place
-    ≡ (string_bytes old ++ slice_range text mark end) ++ due_text (due_after end place))
-    (len : string_len mid + (place - next) ≡ string_len old + (end - mark) + due_len (due_after end place)) where
+module _ {Z : Type 0} (old mid : String Z) (t : Bool) (text : List ℕ) (mark end next offset : ℕ) (order : next ≤ offset)
+    (within : offset < length text)
+    (bytes : string_bytes mid ++ slice_range text next offset
+    ≡ (string_bytes old ++ slice_range text mark end) ++ due_text (due_after end offset))
+    (len : string_len mid + (offset - next) ≡ string_len old + (end - mark) + due_len (due_after end offset)) where
   abbrev due : Bool
-  due = due_after end place
+  due = due_after end offset
 
   abbrev byte : ℕ
-  byte = get_or text place 0
+  byte = get_or text offset 0
 
   abbrev drops : Bool
-  drops = starts_dropped t (drop place text)
+  drops = starts_dropped t (drop offset text)
 
   abbrev before : List ℕ
   before = string_bytes old ++ slice_range text mark end
 
-  parts : drop place text ≡ byte ∷ drop (place + 1) text
-  parts = drop_more text place 0 within
+  parts : drop offset text ≡ byte ∷ drop (offset + 1) text
+  parts = drop_more text offset 0 within
 
   size : length (word_text due drops byte) ≡ due_len due + cond drops 0 1
   size = word_text-length due drops byte
 
-  dropped : (new : String Z) → IsUtf8 text → drops ≡ true → string_bytes new ≡ string_bytes mid ++ slice_range text next place
-      → string_len new ≡ string_len mid + (place - next) → IsWordWritten t text mark end place old new (place + 1)
+  dropped : (new : String Z) → IsUtf8 text → drops ≡ true → string_bytes new ≡ string_bytes mid ++ slice_range text next offset
+      → string_len new ≡ string_len mid + (offset - next) → IsWordWritten t text mark end offset old new (offset + 1)
   dropped new utf8 d new_bytes new_len = record {
     within = omega arith;
-    start = cut_after_dropped t text place byte (drop (place + 1) text) utf8 parts d;
-    text_is = ap (λ z. string_bytes new ++ z) (no_slice text (place + 1) (place + 1) refl)
+    start = cut_after_dropped t text offset byte (drop (offset + 1) text) utf8 parts d;
+    text_is = ap (λ z. string_bytes new ++ z) (no_slice text (offset + 1) (offset + 1) refl)
         ∙ append-nil (string_bytes new)
         ∙ new_bytes ∙ bytes ∙ ap (λ z. before ++ z) (sym (append-nil (due_text due)))
         ∙ (λ i. before ++ (due_text due ++ cond (sym d i) [] (byte ∷ [])));
     len_is = omega (arith, new_len, len, size, ap {B = ℕ} (λ v. cond v 0 1) d);
   }
 
-  stays : IsCharBoundary text next → drops ≡ false → IsWordWritten t text mark end place old mid next
+  stays : IsCharBoundary text next → drops ≡ false → IsWordWritten t text mark end offset old mid next
   stays start d = record {
     within = omega (arith, order);
     start = start;
-    text_is = ap (λ z. string_bytes mid ++ z) (slice_more text next place byte (drop (place + 1) text) order parts)
-        ∙ sym (append_assoc (string_bytes mid) (slice_range text next place) (byte ∷ [])) ∙ ap (λ z. z ++ byte ∷ []) bytes
+    text_is = ap (λ z. string_bytes mid ++ z) (slice_more text next offset byte (drop (offset + 1) text) order parts)
+        ∙ sym (append_assoc (string_bytes mid) (slice_range text next offset) (byte ∷ [])) ∙ ap (λ z. z ++ byte ∷ []) bytes
         ∙ append_assoc before (due_text due) (byte ∷ [])
         ∙ (λ i. before ++ (due_text due ++ cond (sym d i) [] (byte ∷ [])));
     len_is = omega (arith, order, len, size, ap {B = ℕ} (λ v. cond v 0 1) d);
   }
 
--- what is read of the bytes from the place on is so of the text
-drops_as : (t : Bool) (bytes text : List ℕ) (place : ℕ) (answer v : Bool) → bytes ≡ text
-    → answer ≡ starts_dropped t (take (length bytes - place) (drop place bytes)) → answer ≡ v
-    → starts_dropped t (drop place text) ≡ v
-drops_as t bytes text place answer v same is e =
-    ap (starts_dropped t) (sym (rest_is bytes place ∙ ap (drop place) same)) ∙ sym is ∙ e
+-- what is read of the bytes from the offset on is so of the text
+drops_as : (t : Bool) (bytes text : List ℕ) (offset : ℕ) (answer v : Bool) → bytes ≡ text
+    → answer ≡ starts_dropped t (take (length bytes - offset) (drop offset bytes)) → answer ≡ v
+    → starts_dropped t (drop offset text) ≡ v
+drops_as t bytes text offset answer v same is e =
+    ap (starts_dropped t) (sym (rest_is bytes offset ∙ ap (drop offset) same)) ∙ sym is ∙ e
 
 pub returns-then-not-is_dropped-clause-written : goal.returns-then-not-is_dropped-clause-written
 returns-then-not-is_dropped-clause-written c =
     let gap = c.in_ok-mark.ensures in
-    stays _ _ c.args.is_in_table c.args.text.now c.args.mark c.args.end _ c.args.place gap.order c.requires.within
+    stays _ _ c.args.is_in_table c.args.text.now c.args.mark c.args.end _ c.args.offset gap.order c.requires.within
     gap.bytes gap.len gap.start
     (drops_as _ c.as_bytes.result.now _ _ _ _ c.as_bytes.ensures.value c.is_dropped.ensures c.if-not-is_dropped.true)
 
@@ -76,7 +76,7 @@ pub returns-clause-written : goal.returns-clause-written
 returns-clause-written c =
     let gap = c.in_ok-mark.ensures in
     dropped c.args.out.now c.write_gap.new.out c.args.is_in_table c.args.text.now c.args.mark c.args.end c.in_ok-mark.mark
-    c.args.place gap.order c.requires.within gap.bytes gap.len c.push_str.new.self c.utf8.text
+    c.args.offset gap.order c.requires.within gap.bytes gap.len c.push_str.new.self c.utf8.text
     (drops_as _ c.as_bytes.result.now _ _ _ _ c.as_bytes.ensures.value c.is_dropped.ensures c.if-not-is_dropped.false)
     (c.in_ok-push_str.ensures.bytes ∙ ap (λ z. string_bytes c.write_gap.new.out ++ z) c.range.ensures.value)
     (omega (arith, c.in_ok-push_str.ensures.len, c.range.ensures.len))

@@ -4,7 +4,7 @@ use Rattle.std.proofs.lemmas.Grind.{common_steps}
 use Rattle.std.proofs.lemmas.Str.{IsCharBoundary-start}
 use Rattle.markdown_scanners_tree.specs.scanners.classes.private.InDestination.{is_in_destination}
 use Rattle.markdown_scanners_tree.specs.scanners.links.LinkDestination.{IsBareFrom}
-use Rattle.markdown_scanners_tree.proofs.PrefixLemmas.{from_place}
+use Rattle.markdown_scanners_tree.proofs.PrefixLemmas.{from_offset}
 use Rattle.markdown_scanners_tree.specs.scanners.links.DestinationEnds.{ends_destination}
 use Rattle.markdown_scanners_tree.proofs.scanners.destinations.DestinationLemmas.{bare_here}
 use Rattle.markdown_scanners_tree.proofs.scanners.links.OneDestination.{one_destination}
@@ -16,7 +16,7 @@ returns-then-is_ended-clause-found c =
     let plain = c.plain_len-plain.result in
     let run : prefix_len is_in_destination bytes ≡ plain = sym c.plain_len-plain.ensures.run in
     let ends : ends_destination (drop plain bytes) ≡ true =
-    ap ends_destination (sym (from_place bytes plain)) ∙ sym c.is_ended.ensures ∙ c.if-is_ended.true in
+    ap ends_destination (sym (from_offset bytes plain)) ∙ sym c.is_ended.ensures ∙ c.if-is_ended.true in
     inr (record {
       unpointed = λ after e. c.if-bytes-ne60.true (ap (λ t. get_or t 0 0) e);
       bare = subst (IsBareFrom (c.args.max_next + 1) 0 bytes) run

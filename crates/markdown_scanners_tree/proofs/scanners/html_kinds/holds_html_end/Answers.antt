@@ -10,12 +10,12 @@ returns-in_default c =
 
 pub returns-then-begins_html_end : goal.returns-then-begins_html_end
 returns-then-begins_html_end c =
-    sym (search_found c.args.kind c.args.bytes.now c.loop-from.from c.in-Some.offset c.first_of_end-first.result
+    sym (search_found c.args.kind c.args.bytes.now c.loop-from.from c.in-Some.found c.first_of_end-first.result
     c.first_of_end-first.ensures c.in-Some.ensures (sym c.begins_html_end.ensures ∙ c.if-begins_html_end.true))
     ∙ c.loop-from.invariant
 
 pub loop-from-preserved : goal.loop-from-preserved
 loop-from-preserved c =
-    sym (search_later c.args.kind c.args.bytes.now c.loop-from.from c.in-Some.offset c.first_of_end-first.result
+    sym (search_later c.args.kind c.args.bytes.now c.loop-from.from c.in-Some.found c.first_of_end-first.result
     c.first_of_end-first.ensures c.in-Some.ensures (sym c.begins_html_end.ensures ∙ c.if-begins_html_end.false))
     ∙ c.loop-from.invariant

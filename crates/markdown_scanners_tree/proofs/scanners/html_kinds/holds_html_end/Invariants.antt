@@ -1,4 +1,4 @@
--- What ends the block begins at no place that was passed.
+-- What ends the block begins at no offset that was passed.
 use Rattle.std.proofs.Common.{◌≡◌, ◌-◌, length, drop}
 use Rattle.markdown_scanners_tree.specs.scanners.html_kinds.HtmlKinds.{begins_html_end, is_somewhere}
 use Rattle.markdown_scanners_tree.proofs.scanners.html_kinds.holds_html_end.Given as goal

@@ -1,6 +1,6 @@
 use Rattle.std.proofs.Common.{sym, subst, Some}
 use Rattle.markdown_scanners_tree.specs.scanners.html_kinds.HtmlKinds.{IsHtmlBlockStart}
-use Rattle.markdown_scanners_tree.proofs.scanners.html_kinds.StartLemmas.{behind_opener, marked_start, none_unopened, only_kind}
+use Rattle.markdown_scanners_tree.proofs.scanners.html_kinds.StartLemmas.{after_opener, marked_start, none_unopened, only_kind}
 use Rattle.markdown_scanners_tree.proofs.scanners.html_kinds.scan_html_block_start.Goals as goal
 
 pub returns-in_err-rest-clause-found : goal.returns-in_err-rest-clause-found
@@ -10,14 +10,14 @@ returns-in_err-rest-clause-found c =
 pub scan_tag_kind-requires : goal.scan_tag_kind-requires
 scan_tag_kind-requires c = record {
   opened =
-      behind_opener c.args.bytes.now c.in_ok-rest.rest.now c.in_ok-rest.ensures.cases.0 c.in_ok-rest.ensures.cases.1;
+      after_opener c.args.bytes.now c.in_ok-rest.rest.now c.in_ok-rest.ensures.cases.0 c.in_ok-rest.ensures.cases.1;
   no_mark = sym c.in-None.ensures;
 }
 
 pub returns-in-Some-clause-found : goal.returns-in-Some-clause-found
 returns-in-Some-clause-found c =
     subst (λ bytes. IsHtmlBlockStart bytes c.in-Some.kind)
-    (sym (behind_opener c.args.bytes.now c.in_ok-rest.rest.now c.in_ok-rest.ensures.cases.0
+    (sym (after_opener c.args.bytes.now c.in_ok-rest.rest.now c.in_ok-rest.ensures.cases.0
     c.in_ok-rest.ensures.cases.1))
     (marked_start c.in_ok-rest.rest.now c.in-Some.kind (sym c.in-Some.ensures))
 

@@ -14,46 +14,46 @@ loop-is_last-init g c = (
       (c.in_ok-buffer.ensures.items, c.in_ok-buffer.ensures.len) refl,
 )
 
-pub bounds-bytes-place : goal.bounds-bytes-place
-bounds-bytes-place g c =
+pub bounds-bytes-offset : goal.bounds-bytes-offset
+bounds-bytes-offset g c =
     let low : length c.loop-is_last.buffer.items < c.args.kept = omega arith in
-    let inside : c.loop-is_last.place < length c.args.bytes.now =
+    let inside : c.loop-is_last.offset < length c.args.bytes.now =
     copy_inside _ _ _ _ _ c.loop-is_last.invariant.0 c.requires.some low in
     inside
 
-pub overflow_add-place : goal.overflow_add-place
-overflow_add-place g c =
+pub overflow_add-offset : goal.overflow_add-offset
+overflow_add-offset g c =
     let low : length c.loop-is_last.buffer.items < c.args.kept = omega arith in
-    let inside : c.loop-is_last.place < length c.args.bytes.now =
+    let inside : c.loop-is_last.offset < length c.args.bytes.now =
     copy_inside _ _ _ _ _ c.loop-is_last.invariant.0 c.requires.some low in
     omega (arith, inside)
 
-pub overflow_add-place-then-is_last : goal.overflow_add-place-then-is_last
-overflow_add-place-then-is_last g c =
+pub overflow_add-offset-then-is_last : goal.overflow_add-offset-then-is_last
+overflow_add-offset-then-is_last g c =
     let low : length c.loop-is_last.buffer.items < c.args.kept = omega arith in
-    let inside : c.loop-is_last.place < length c.args.bytes.now =
+    let inside : c.loop-is_last.offset < length c.args.bytes.now =
     copy_inside _ _ _ _ _ c.loop-is_last.invariant.0 c.requires.some low in
     let answer : Answers g.F.Fn c.args.handler.now
-    (take (length c.args.bytes.now - (c.loop-is_last.place + 1)) (drop (c.loop-is_last.place + 1) c.args.bytes.now))
-    c.handler-place.result =
+    (take (length c.args.bytes.now - (c.loop-is_last.offset + 1)) (drop (c.loop-is_last.offset + 1) c.args.bytes.now))
+    c.handler-offset.result =
     search (rules, of_calls) in
-    let end : c.loop-is_last.place + 1 + c.handler-place.result ≤ length c.args.bytes.now =
-    skip_inside g.F.Fn (Some c.args.handler) c.args.bytes.now c.loop-is_last.place inside c.args.handler
-    c.handler-place.result refl c.requires.steady answer in
+    let end : c.loop-is_last.offset + 1 + c.handler-offset.result ≤ length c.args.bytes.now =
+    skip_inside g.F.Fn (Some c.args.handler) c.args.bytes.now c.loop-is_last.offset inside c.args.handler
+    c.handler-offset.result refl c.requires.steady answer in
     omega (arith, end)
 
 pub loop-is_last-preserved-then-is_last : goal.loop-is_last-preserved-then-is_last
 loop-is_last-preserved-then-is_last g c =
     let low : length c.loop-is_last.buffer.items < c.args.kept = omega arith in
-    let inside : c.loop-is_last.place < length c.args.bytes.now =
+    let inside : c.loop-is_last.offset < length c.args.bytes.now =
     copy_inside _ _ _ _ _ c.loop-is_last.invariant.0 c.requires.some low in
     let answer : Answers g.F.Fn c.args.handler.now
-    (take (length c.args.bytes.now - (c.loop-is_last.place + 1)) (drop (c.loop-is_last.place + 1) c.args.bytes.now))
-    c.handler-place.result =
+    (take (length c.args.bytes.now - (c.loop-is_last.offset + 1)) (drop (c.loop-is_last.offset + 1) c.args.bytes.now))
+    c.handler-offset.result =
     search (rules, of_calls) in
     let turn =
-    turn_with_skip g.F.Fn (Some c.args.handler) c.args.bytes.now c.loop-is_last.place inside 0 c.args.handler
-    c.handler-place.result refl c.requires.steady (sym c.ends_source_line-is_last.ensures ∙ c.if-is_last.true)
+    turn_with_skip g.F.Fn (Some c.args.handler) c.args.bytes.now c.loop-is_last.offset inside 0 c.args.handler
+    c.handler-offset.result refl c.requires.steady (sym c.ends_source_line-is_last.ensures ∙ c.if-is_last.true)
     answer in (
       rw c.push_reserved.ensures.items (copy_goes_on _ _ _ _ _ c.loop-is_last.invariant.0 0 _ _ low turn),
       turn.inside,
@@ -65,10 +65,10 @@ loop-is_last-preserved-then-is_last g c =
 pub loop-is_last-preserved : goal.loop-is_last-preserved
 loop-is_last-preserved g c =
     let low : length c.loop-is_last.buffer.items < c.args.kept = omega arith in
-    let inside : c.loop-is_last.place < length c.args.bytes.now =
+    let inside : c.loop-is_last.offset < length c.args.bytes.now =
     copy_inside _ _ _ _ _ c.loop-is_last.invariant.0 c.requires.some low in
     let turn =
-    turn_without g.F.Fn (Some c.args.handler) c.args.bytes.now c.loop-is_last.place inside 0
+    turn_without g.F.Fn (Some c.args.handler) c.args.bytes.now c.loop-is_last.offset inside 0
     (sym c.ends_source_line-is_last.ensures ∙ c.if-is_last.false) in (
       rw c.push_reserved.ensures.items (copy_goes_on _ _ _ _ _ c.loop-is_last.invariant.0 0 _ _ low turn),
       turn.inside,

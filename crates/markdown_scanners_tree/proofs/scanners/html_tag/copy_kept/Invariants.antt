@@ -6,8 +6,8 @@ use Rattle.markdown_scanners_tree.proofs.scanners.html_tag.copy_kept.Given as go
 
 abbrev pub invariant-loop-is_last : goal.invariant-loop-is_last
 invariant-loop-is_last g l =
-    Copied (Answers g.F.Fn l.handler) l.bytes l.place l.kept l.buffer.items
-    × (l.place ≤ length l.bytes)
+    Copied (Answers g.F.Fn l.handler) l.bytes l.offset l.kept l.buffer.items
+    × (l.offset ≤ length l.bytes)
     × (l.kept ≤ vec_capacity l.buffer)
     × (vec_len l.buffer ≡ length l.buffer.items)
 

@@ -4,13 +4,13 @@ use Rattle.markdown_scanners_tree.specs.scanners.html_tag.KeptTag.{AnswersIfAny}
 use Rattle.markdown_scanners_tree.proofs.scanners.html_tag.TagScan.{Scanned}
 use Rattle.markdown_scanners_tree.proofs.scanners.html_tag.measure_tag.Given as goal
 
-abbrev pub invariant-loop-place : goal.invariant-loop-place
-invariant-loop-place g l =
-    Scanned (AnswersIfAny g.F.Fn l.handler) l.bytes l.place l.kept l.endings l.state
-    × (l.place ≤ length l.bytes)
-    × (l.kept ≤ l.place)
+abbrev pub invariant-loop-offset : goal.invariant-loop-offset
+invariant-loop-offset g l =
+    Scanned (AnswersIfAny g.F.Fn l.handler) l.bytes l.offset l.kept l.endings l.state
+    × (l.offset ≤ length l.bytes)
+    × (l.kept ≤ l.offset)
     × (l.endings ≤ l.kept)
-    × IfNone l.handler (l.kept ≡ l.place)
+    × IfNone l.handler (l.kept ≡ l.offset)
 
-abbrev pub decreases-loop-place : goal.decreases-loop-place
-decreases-loop-place g l = length l.bytes - l.place
+abbrev pub decreases-loop-offset : goal.decreases-loop-offset
+decreases-loop-offset g l = length l.bytes - l.offset

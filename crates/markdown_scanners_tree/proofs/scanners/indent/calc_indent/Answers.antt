@@ -54,7 +54,7 @@ returns-clause-indent c =
       parts = sym (append-nil text);
       passed = ap (all_go_on c.args.max 0) (sym whole) ∙ before.2;
       stopped = refl;
-      last_place = omega (arith, before.3);
+      last_offset = omega (arith, before.3);
       counted = omega (arith, before.1 ∙ ap (column_past 0) whole);
     }
 

@@ -3,7 +3,7 @@ use Rattle.std.proofs.Math.Seq.{take-append_seam}
 use Rattle.std.proofs.lemmas.List.{take-append-drop}
 use Rattle.markdown_scanners_tree.specs.scanners.Interrupts.{item_interrupts}
 use Rattle.markdown_scanners_tree.specs.scanners.list_items.ListItem.{IsListMarker}
-use Rattle.markdown_scanners_tree.proofs.PrefixLemmas.{from_place}
+use Rattle.markdown_scanners_tree.proofs.PrefixLemmas.{from_offset}
 use Rattle.markdown_scanners_tree.proofs.scanners.list_items.ListItemLemmas.{item-rest}
 use Rattle.markdown_scanners_tree.proofs.scanners.list_items.OneItem.{one_marker}
 use Rattle.markdown_scanners_tree.proofs.scanners.interrupts.is_interrupting_item.Goals as goal
@@ -23,7 +23,7 @@ returns-in-Some c =
     let bytes = c.args.bytes.now in
     let width = c.in-Some.width in
     let given : c.item_interrupts.result ≡ item_interrupts c.in-Some.delimiter c.in-Some.start (drop width bytes) =
-    c.item_interrupts.ensures ∙ ap (item_interrupts c.in-Some.delimiter c.in-Some.start) (from_place bytes width) in (
+    c.item_interrupts.ensures ∙ ap (item_interrupts c.in-Some.delimiter c.in-Some.start) (from_offset bytes width) in (
       λ t. record {
         marker = take width bytes;
         rest = drop width bytes;

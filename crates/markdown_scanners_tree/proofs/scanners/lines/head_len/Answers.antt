@@ -2,7 +2,7 @@ use Rattle.std.proofs.Common.{◌≡◌, ℕ, ◌+◌, ◌-◌, ◌≤◌, ◌<�
 use Rattle.std.specs.List.{prefix_len}
 use Rattle.std.proofs.lemmas.List.{length-drop, drop-drop}
 use Rattle.std.proofs.lemmas.List.Sums.{prefix_len-le-length}
-use Rattle.markdown_scanners_tree.proofs.PrefixLemmas.{from_place, prefix_len-first}
+use Rattle.markdown_scanners_tree.proofs.PrefixLemmas.{from_offset, prefix_len-first}
 use Rattle.markdown_scanners_tree.proofs.scanners.lines.BlankLemmas.{ends_no_line}
 use Rattle.markdown_scanners_tree.proofs.scanners.lines.LaneLemmas.{at_most, ends_within, goes_past}
 use Rattle.markdown_scanners_tree.proofs.scanners.lines.head_len.Goals as goal
@@ -14,7 +14,7 @@ room bytes from enough = omega (arith, length-drop from bytes)
 counted : (bytes : List ℕ) (from before : ℕ)
     → before ≡ prefix_len ends_no_line (take 16 (take (length bytes - from) (drop from bytes)))
     → before ≡ prefix_len ends_no_line (take 16 (drop from bytes))
-counted bytes from before is = is ∙ ap (λ rest. prefix_len ends_no_line (take 16 rest)) (from_place bytes from)
+counted bytes from before is = is ∙ ap (λ rest. prefix_len ends_no_line (take 16 rest)) (from_offset bytes from)
 
 pub overflow_add-from : goal.overflow_add-from
 overflow_add-from c =
@@ -28,7 +28,7 @@ pub returns-then-from-ge-FAR-clause-head : goal.returns-then-from-ge-FAR-clause-
 returns-then-from-ge-FAR-clause-head c =
     let bytes = c.args.bytes.now in
     let from = c.loop-from.from in
-    omega (arith, c.loop-from.invariant.passed, c.far_head_len.ensures.head, ap (prefix_len ends_no_line) (from_place bytes from))
+    omega (arith, c.loop-from.invariant.passed, c.far_head_len.ensures.head, ap (prefix_len ends_no_line) (from_offset bytes from))
 
 pub returns-then-before-lt-HALF_LANES-clause-head : goal.returns-then-before-lt-HALF_LANES-clause-head
 returns-then-before-lt-HALF_LANES-clause-head c =

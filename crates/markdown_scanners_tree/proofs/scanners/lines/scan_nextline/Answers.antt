@@ -2,7 +2,7 @@ use Rattle.std.proofs.Common.{◌≡◌, ℕ, ◌+◌, ◌-◌, ◌≤◌, List,
 use Rattle.std.specs.List.{prefix_len}
 use Rattle.std.proofs.lemmas.List.{length-drop, drop-drop}
 use Rattle.markdown_scanners_tree.specs.scanners.Lines.{is_no_line_feed}
-use Rattle.markdown_scanners_tree.proofs.PrefixLemmas.{from_place}
+use Rattle.markdown_scanners_tree.proofs.PrefixLemmas.{from_offset}
 use Rattle.markdown_scanners_tree.proofs.ScanLemmas.{prefix_len-found, prefix_len-not_found}
 use Rattle.markdown_scanners_tree.proofs.scanners.lines.LaneLemmas.{at_most, ends_within, goes_past}
 use Rattle.markdown_scanners_tree.proofs.scanners.lines.scan_nextline.Goals as goal
@@ -14,7 +14,7 @@ room bytes from enough = omega (arith, length-drop from bytes)
 counted : (bytes : List ℕ) (from before : ℕ)
     → before ≡ prefix_len is_no_line_feed (take 32 (take (length bytes - from) (drop from bytes)))
     → before ≡ prefix_len is_no_line_feed (take 32 (drop from bytes))
-counted bytes from before is = is ∙ ap (λ rest. prefix_len is_no_line_feed (take 32 rest)) (from_place bytes from)
+counted bytes from before is = is ∙ ap (λ rest. prefix_len is_no_line_feed (take 32 rest)) (from_offset bytes from)
 
 pub overflow_add-from : goal.overflow_add-from
 overflow_add-from c =
@@ -54,9 +54,9 @@ returns-in-Some-clause-next c =
     let bytes = c.args.bytes.now in
     let from = c.loop-from.from in
     let first = c.in-Some.ensures.0 in
-    let ends = prefix_len-found 10 (take (length bytes - from) (drop from bytes)) c.in-Some.place c.in-Some.ensures in
-    let same = ap (prefix_len is_no_line_feed) (from_place bytes from) in
-    let long = ap (length {A = ℕ}) (from_place bytes from) in
+    let ends = prefix_len-found 10 (take (length bytes - from) (drop from bytes)) c.in-Some.offset c.in-Some.ensures in
+    let same = ap (prefix_len is_no_line_feed) (from_offset bytes from) in
+    let long = ap (length {A = ℕ}) (from_offset bytes from) in
     omega (arith, first.high, ends, same, long, length-drop from bytes, c.loop-from.invariant.passed)
 
 pub returns-in-None-clause-next : goal.returns-in-None-clause-next
@@ -64,6 +64,6 @@ returns-in-None-clause-next c =
     let bytes = c.args.bytes.now in
     let from = c.loop-from.from in
     let ends = prefix_len-not_found 10 (take (length bytes - from) (drop from bytes)) c.in-None.ensures in
-    let same = ap (prefix_len is_no_line_feed) (from_place bytes from) in
-    let long = ap (length {A = ℕ}) (from_place bytes from) in
+    let same = ap (prefix_len is_no_line_feed) (from_offset bytes from) in
+    let long = ap (length {A = ℕ}) (from_offset bytes from) in
     omega (arith, ends, same, long, length-drop from bytes, c.loop-from.invariant.passed)

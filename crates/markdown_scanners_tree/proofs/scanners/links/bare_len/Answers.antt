@@ -1,7 +1,7 @@
 use Rattle.std.proofs.Common.{◌∙◌, ◌+◌, ◌-◌, ◌<◌, ◌≢◌, arith, refl, sym, subst, inl, inr, get_or, ap}
 use Rattle.std.specs.List.{prefix_len}
 use Rattle.markdown_scanners_tree.specs.scanners.classes.private.InDestination.{is_in_destination}
-use Rattle.markdown_scanners_tree.proofs.PrefixLemmas.{from_place}
+use Rattle.markdown_scanners_tree.proofs.PrefixLemmas.{from_offset}
 use Rattle.markdown_scanners_tree.proofs.scanners.escapes.UnitLemmas.{plain_byte}
 use Rattle.markdown_scanners_tree.proofs.scanners.links.BareLemmas.{so_far_escape, so_far_single, so_far_plain, found_here, none_open, none_deep}
 use Rattle.markdown_scanners_tree.proofs.scanners.links.BareLemmas.{turns_open, turns_close, turns_other, ends_low, ends_closing, no_end, IsBareSoFar, IsStop}
@@ -70,7 +70,7 @@ loop-i-preserved c =
           (omega (
             arith,
             c.plain_len.ensures.run
-                ∙ ap (prefix_len is_in_destination) (from_place bytes (i + c.if-starts_escape.i)),
+                ∙ ap (prefix_len is_in_destination) (from_offset bytes (i + c.if-starts_escape.i)),
           ));
       depth_within = omega (arith, c.loop-i.invariant.depth_within);
     }

@@ -5,7 +5,7 @@ use Rattle.std.specs.Str.{IsCharBoundary}
 use Rattle.markdown_values.specs.strings.Text.{cow_text}
 use Rattle.markdown_scanners_tree.specs.scanners.links.Autolink.{IsUriAutolink}
 use Rattle.markdown_scanners_tree.proofs.SomeExactlyLemmas.{SomeExactly-from_none}
-use Rattle.markdown_scanners_tree.proofs.scanners.links.LinkLemmas.{slice_is_rest, place_of_rest, one_uri}
+use Rattle.markdown_scanners_tree.proofs.scanners.links.LinkLemmas.{slice_is_rest, offset_of_rest, one_uri}
 use Rattle.markdown_scanners_tree.proofs.scanners.links.scan_autolink.Goals as goal
 
 pub returns-in_err-n-clause-found : goal.returns-in_err-n-clause-found
@@ -18,8 +18,8 @@ pub returns-clause-boundary : goal.returns-clause-boundary
 returns-clause-boundary c =
     let read = slice_is_rest c.as_bytes.result.now c.args.text.now c.args.start c.as_bytes.ensures.value in
     subst (IsCharBoundary c.args.text.now) (omega arith)
-    (place_of_rest _ c.args.text.now c.args.start (c.in_ok-n.n + 1) read c.utf8.text c.requires
-    c.in_ok-n.ensures.behind)
+    (offset_of_rest _ c.args.text.now c.args.start (c.in_ok-n.n + 1) read c.utf8.text c.requires
+    c.in_ok-n.ensures.after)
 
 pub returns-clause-only : goal.returns-clause-only
 returns-clause-only c = λ uri is.

@@ -4,7 +4,7 @@ use Rattle.std.specs.Option.{option_map}
 use Rattle.std.proofs.lemmas.List.{take_rest}
 use Rattle.markdown_scanners_tree.specs.scanners.links.Autolink.{is_uri_byte}
 use Rattle.markdown_scanners_tree.proofs.SomeExactlyLemmas.{SomeExactly-from_none}
-use Rattle.markdown_scanners_tree.proofs.scanners.links.LinkLemmas.{uri_scheme, uri_found, uri_close, one_uri, cut_before, cut_behind}
+use Rattle.markdown_scanners_tree.proofs.scanners.links.LinkLemmas.{uri_scheme, uri_found, uri_close, one_uri, cut_before, cut_after}
 use Rattle.markdown_scanners_tree.proofs.scanners.links.scan_autolink_bytes.Goals as goal
 use Rattle.markdown_scanners_tree.proofs.scanners.links.scan_autolink_bytes.Goals.{else-end-bytes-via-then-end-bytes+else-bytes-end-eq62, else-end-bytes-via-else-end-bytes}
 
@@ -34,9 +34,9 @@ pub returns-then-bytes-end-eq62-clause-before : goal.returns-then-bytes-end-eq62
 returns-then-bytes-end-eq62-clause-before c = λ utf8.
     cut_before c.args.bytes.now _ _ refl c.if-end-bytes.true (omega (arith, c.if-bytes-end-eq62.true))
 
-pub returns-then-bytes-end-eq62-clause-behind : goal.returns-then-bytes-end-eq62-clause-behind
-returns-then-bytes-end-eq62-clause-behind c = λ utf8.
-    cut_behind c.args.bytes.now _ _ refl utf8 c.if-end-bytes.true (omega (arith, c.if-bytes-end-eq62.true))
+pub returns-then-bytes-end-eq62-clause-after : goal.returns-then-bytes-end-eq62-clause-after
+returns-then-bytes-end-eq62-clause-after c = λ utf8.
+    cut_after c.args.bytes.now _ _ refl utf8 c.if-end-bytes.true (omega (arith, c.if-bytes-end-eq62.true))
 
 pub returns-else-end-bytes-clause-found : goal.returns-else-end-bytes-clause-found
 returns-else-end-bytes-clause-found c = λ uri is.

@@ -2,7 +2,7 @@ use Rattle.std.proofs.Common.{Bor, ℕ, List, ◌+◌, ap, sym, subst, drop}
 use Rattle.std.specs.Option.{option_map}
 use Rattle.markdown_scanners_tree.specs.scanners.links.LinkDestination.{IsLinkDestination}
 use Rattle.markdown_scanners_tree.proofs.SomeExactlyLemmas.{SomeExactly-from_none}
-use Rattle.markdown_scanners_tree.proofs.scanners.links.LinkLemmas.{slice_is_rest, part_of_rest, place_of_rest, destination_of_rest}
+use Rattle.markdown_scanners_tree.proofs.scanners.links.LinkLemmas.{slice_is_rest, part_of_rest, offset_of_rest, destination_of_rest}
 use Rattle.markdown_scanners_tree.proofs.scanners.links.OneDestination.{one_destination}
 use Rattle.markdown_scanners_tree.proofs.scanners.links.scan_link_dest.Goals as goal
 
@@ -21,13 +21,13 @@ returns-in_err-taken-clause-found c =
 pub range-requires-clause-start_boundary : goal.range-requires-clause-start_boundary
 range-requires-clause-start_boundary c = λ _.
     let read = slice_is_rest c.as_bytes.result.now c.args.text.now c.args.start c.as_bytes.ensures.value in
-    place_of_rest _ c.args.text.now c.args.start c.in_ok-taken.raw.start read c.utf8.text c.requires
+    offset_of_rest _ c.args.text.now c.args.start c.in_ok-taken.raw.start read c.utf8.text c.requires
     c.in_ok-taken.ensures.raw_text.begins
 
 pub range-requires-clause-end_boundary : goal.range-requires-clause-end_boundary
 range-requires-clause-end_boundary c =
     let read = slice_is_rest c.as_bytes.result.now c.args.text.now c.args.start c.as_bytes.ensures.value in
-    place_of_rest _ c.args.text.now c.args.start c.in_ok-taken.raw.end read c.utf8.text c.requires
+    offset_of_rest _ c.args.text.now c.args.start c.in_ok-taken.raw.end read c.utf8.text c.requires
     c.in_ok-taken.ensures.raw_text.ends
 
 pub returns-clause-found : goal.returns-clause-found
@@ -47,5 +47,5 @@ returns-clause-only c =
 pub returns-clause-boundary : goal.returns-clause-boundary
 returns-clause-boundary c =
     let read = slice_is_rest c.as_bytes.result.now c.args.text.now c.args.start c.as_bytes.ensures.value in
-    place_of_rest _ c.args.text.now c.args.start c.in_ok-taken.taken read c.utf8.text c.requires
+    offset_of_rest _ c.args.text.now c.args.start c.in_ok-taken.taken read c.utf8.text c.requires
     c.in_ok-taken.ensures.raw_text.after

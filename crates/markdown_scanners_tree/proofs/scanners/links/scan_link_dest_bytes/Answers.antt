@@ -6,7 +6,7 @@ use Rattle.std.specs.Str.{IsUtf8}
 use Rattle.markdown_scanners_tree.specs.scanners.links.FoundDestination.{with_raw_text}
 use Rattle.markdown_scanners_tree.specs.scanners.links.LinkDestination.{IsPointedFrom}
 use Rattle.markdown_scanners_tree.proofs.SomeExactlyLemmas.{SomeExactly-from_none}
-use Rattle.markdown_scanners_tree.proofs.scanners.links.LinkLemmas.{no_pointed, no_bare, opened_by, byte_behind, cut_before, cut_behind, cut_at_end}
+use Rattle.markdown_scanners_tree.proofs.scanners.links.LinkLemmas.{no_pointed, no_bare, opened_by, byte_after, cut_before, cut_after, cut_at_end}
 use Rattle.markdown_scanners_tree.proofs.scanners.links.OneDestination.{one_destination}
 use Rattle.markdown_scanners_tree.proofs.scanners.links.scan_link_dest_bytes.Goals as goal
 use Rattle.markdown_scanners_tree.proofs.scanners.links.scan_link_dest_bytes.Goals.{else-not-is_empty-via-then-not-is_empty+else-bytes-eq60, else-not-is_empty-via-else-not-is_empty}
@@ -42,14 +42,14 @@ pub returns-then-bytes-eq60-clause-raw_text : goal.returns-then-bytes-eq60-claus
 returns-then-bytes-eq60-clause-raw_text c =
     let bytes = c.args.bytes.now in
     let n = c.in_ok-n.n in
-    let close = byte_behind bytes n _ c.in_ok-n.ensures.within c.in_ok-n.ensures.cut in
+    let close = byte_after bytes n _ c.in_ok-n.ensures.within c.in_ok-n.ensures.cut in
     record {
       inside = inr (refl, omega arith);
       ordered = (omega arith, omega arith);
       within = omega (arith, close.0);
-      begins = λ utf8. cut_behind bytes 0 1 (omega arith) utf8 (omega (arith, close.0)) (omega (arith, c.if-bytes-eq60.true));
+      begins = λ utf8. cut_after bytes 0 1 (omega arith) utf8 (omega (arith, close.0)) (omega (arith, c.if-bytes-eq60.true));
       ends = λ utf8. cut_before bytes (1 + n) (n + 1) (omega arith) close.0 (omega (arith, close.1));
-      after = λ utf8. cut_behind bytes (1 + n) (n + 2) (omega arith) utf8 close.0 (omega (arith, close.1));
+      after = λ utf8. cut_after bytes (1 + n) (n + 2) (omega arith) utf8 close.0 (omega (arith, close.1));
     }
 
 pub returns-in_err-n-2-clause-found : goal.returns-in_err-n-2-clause-found

@@ -16,5 +16,5 @@ returns c =
       within = pipe.within;
       cut = pipe.cut;
       before = pipe.before;
-      behind = pipe.behind;
+      after = pipe.after;
     }

@@ -16,19 +16,19 @@ pub returns-then-space-eq0-clause-found : goal.returns-then-space-eq0-clause-fou
 returns-then-space-eq0-clause-found c r =
     let none = SomeExactly-none (IsBlankLine c.args.rest.now) c.scan_blank_line.result (sym c.is_some.ensures
     ∙ c.if-is_some.false) c.scan_blank_line.ensures.found in
-    item_space-none c.args.rest.now c.calc_indent-place.result.0 none (subst (λ (space : ℕ). IsIndent c.args.rest.now
-    5 c.calc_indent-place.result.0 space) c.if-space-eq0.true c.calc_indent-place.ensures.indent) r.0 r.1
+    item_space-none c.args.rest.now c.calc_indent-offset.result.0 none (subst (λ (space : ℕ). IsIndent c.args.rest.now
+    5 c.calc_indent-offset.result.0 space) c.if-space-eq0.true c.calc_indent-offset.ensures.indent) r.0 r.1
 
 pub returns-then-space-gt4-clause-found : goal.returns-then-space-gt4-clause-found
 returns-then-space-gt4-clause-found c =
     let none = SomeExactly-none (IsBlankLine c.args.rest.now) c.scan_blank_line.result (sym c.is_some.ensures
     ∙ c.if-is_some.false) c.scan_blank_line.ensures.found in
-    indented_code c.calc_indent-place.result.0 c.calc_indent-place.result.1 none
-    c.calc_indent-place.ensures.indent c.if-space-gt4.true
+    indented_code c.calc_indent-offset.result.0 c.calc_indent-offset.result.1 none
+    c.calc_indent-offset.ensures.indent c.if-space-gt4.true
 
 pub returns-else-space-gt4-clause-found : goal.returns-else-space-gt4-clause-found
 returns-else-space-gt4-clause-found c =
     let none = SomeExactly-none (IsBlankLine c.args.rest.now) c.scan_blank_line.result (sym c.is_some.ensures
     ∙ c.if-is_some.false) c.scan_blank_line.ensures.found in
-    text c.calc_indent-place.result.0 c.calc_indent-place.result.1 none c.calc_indent-place.ensures.indent
+    text c.calc_indent-offset.result.0 c.calc_indent-offset.result.1 none c.calc_indent-offset.ensures.indent
     (omega arith) c.if-space-gt4.false

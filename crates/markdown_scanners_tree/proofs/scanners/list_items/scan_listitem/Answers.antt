@@ -2,7 +2,7 @@ use Rattle.std.proofs.Common.{◌≡◌, ℕ, List, sym, ap, subst, take, drop, 
 use Rattle.std.proofs.Math.Seq.{take-append_seam}
 use Rattle.std.proofs.lemmas.List.{take-append-drop, length-take-le}
 use Rattle.markdown_scanners_tree.specs.scanners.list_items.ListItem.{IsListMarker, IsItemSpace}
-use Rattle.markdown_scanners_tree.proofs.PrefixLemmas.{from_place}
+use Rattle.markdown_scanners_tree.proofs.PrefixLemmas.{from_offset}
 use Rattle.markdown_scanners_tree.proofs.scanners.list_items.ListItemLemmas.{item-rest}
 use Rattle.markdown_scanners_tree.proofs.scanners.list_items.OneItem.{one_item}
 use Rattle.markdown_scanners_tree.proofs.scanners.list_items.scan_listitem.Goals as goal
@@ -23,24 +23,24 @@ returns-in_err-width-clause-found c =
 pub returns-in_err-width-clause-only : goal.returns-in_err-width-clause-only
 returns-in_err-width-clause-only c = rw c.from_residual.ensures tt
 
-pub returns-in_err-place-clause-none : goal.returns-in_err-place-clause-none
-returns-in_err-place-clause-none c =
-    rw c.from_residual-in_err-place.ensures (λ n delimiter start indent item.
+pub returns-in_err-offset-clause-none : goal.returns-in_err-offset-clause-none
+returns-in_err-offset-clause-none c =
+    rw c.from_residual-in_err-offset.ensures (λ n delimiter start indent item.
     let width = c.in_ok-width.width in
     let rest : item.rest ≡ drop width c.args.bytes.now =
     item-rest c.args.bytes.now width c.in_ok-width.delimiter c.in_ok-width.start c.in_ok-width.ensures.within
     c.in_ok-width.ensures.found item.marker item.rest delimiter start item.parts item.is_marker in
-    c.in_err-place.ensures.found (item.place, item.space)
-    (subst (λ (rest : List ℕ). IsItemSpace rest item.place item.space) (rest
-    ∙ sym (from_place c.args.bytes.now width)) item.is_space))
+    c.in_err-offset.ensures.found (item.offset, item.space)
+    (subst (λ (rest : List ℕ). IsItemSpace rest item.offset item.space) (rest
+    ∙ sym (from_offset c.args.bytes.now width)) item.is_space))
 
-pub returns-in_err-place-clause-found : goal.returns-in_err-place-clause-found
-returns-in_err-place-clause-found c =
-    let none = rw c.from_residual-in_err-place.ensures at (returns-in_err-place-clause-none c) in
-    rw c.from_residual-in_err-place.ensures (λ r. none r.0 r.1 r.2 r.3)
+pub returns-in_err-offset-clause-found : goal.returns-in_err-offset-clause-found
+returns-in_err-offset-clause-found c =
+    let none = rw c.from_residual-in_err-offset.ensures at (returns-in_err-offset-clause-none c) in
+    rw c.from_residual-in_err-offset.ensures (λ r. none r.0 r.1 r.2 r.3)
 
-pub returns-in_err-place-clause-only : goal.returns-in_err-place-clause-only
-returns-in_err-place-clause-only c = rw c.from_residual-in_err-place.ensures tt
+pub returns-in_err-offset-clause-only : goal.returns-in_err-offset-clause-only
+returns-in_err-offset-clause-only c = rw c.from_residual-in_err-offset.ensures tt
 
 pub returns-clause-found : goal.returns-clause-found
 returns-clause-found c =
@@ -50,13 +50,13 @@ returns-clause-found c =
     record {
       marker = take width bytes;
       rest = drop width bytes;
-      place = c.in_ok-place.place;
-      space = c.in_ok-place.space;
+      offset = c.in_ok-offset.offset;
+      space = c.in_ok-offset.space;
       parts = sym (take-append-drop width bytes);
       is_marker = c.in_ok-width.ensures.found;
       is_space =
-          subst (λ (rest : List ℕ). IsItemSpace rest c.in_ok-place.place c.in_ok-place.space) (from_place bytes width)
-          c.in_ok-place.ensures.found;
+          subst (λ (rest : List ℕ). IsItemSpace rest c.in_ok-offset.offset c.in_ok-offset.space) (from_offset bytes width)
+          c.in_ok-offset.ensures.found;
       counted = omega (arith, taken);
       columns_are = omega (arith, taken);
     }

@@ -1,4 +1,4 @@
-use Rattle.markdown_scanners_tree.proofs.scanners.reference_definitions.GapLemmas.{cut_behind_gap, gap_scanned}
+use Rattle.markdown_scanners_tree.proofs.scanners.reference_definitions.GapLemmas.{cut_after_gap, gap_scanned}
 use Rattle.markdown_scanners_tree.proofs.scanners.reference_definitions.gap_len.Goals as goal
 
 pub returns-clause-gap : goal.returns-clause-gap
@@ -7,5 +7,5 @@ returns-clause-gap c =
     c.scan_eol.result c.scan_spaces_and_tabs-spaces.ensures.run c.scan_eol.ensures.ending c.unwrap_or.ensures
     c.scan_spaces_and_tabs.ensures.run
 
-pub returns-clause-behind : goal.returns-clause-behind
-returns-clause-behind c = cut_behind_gap c.args.bytes.now _ (returns-clause-gap c)
+pub returns-clause-after : goal.returns-clause-after
+returns-clause-after c = cut_after_gap c.args.bytes.now _ (returns-clause-gap c)

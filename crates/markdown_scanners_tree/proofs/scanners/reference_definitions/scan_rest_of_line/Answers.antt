@@ -1,5 +1,5 @@
 use Rattle.markdown_scanners_tree.proofs.SomeExactlyLemmas.{SomeExactly-from_none}
-use Rattle.markdown_scanners_tree.proofs.scanners.reference_definitions.GapLemmas.{rest_scanned, rest_not_scanned, cut_behind_rest}
+use Rattle.markdown_scanners_tree.proofs.scanners.reference_definitions.GapLemmas.{rest_scanned, rest_not_scanned, cut_after_rest}
 use Rattle.markdown_scanners_tree.proofs.scanners.reference_definitions.scan_rest_of_line.Goals as goal
 
 pub returns-in_err-ending-clause-found : goal.returns-in_err-ending-clause-found
@@ -10,5 +10,5 @@ returns-in_err-ending-clause-found c =
 pub returns-clause-found : goal.returns-clause-found
 returns-clause-found c = rest_scanned _ _ _ c.scan_spaces_and_tabs-spaces.ensures.run c.in_ok-ending.ensures.ending
 
-pub returns-clause-behind : goal.returns-clause-behind
-returns-clause-behind c = cut_behind_rest _ _ _ c.scan_spaces_and_tabs-spaces.ensures.run c.in_ok-ending.ensures.ending
+pub returns-clause-after : goal.returns-clause-after
+returns-clause-after c = cut_after_rest _ _ _ c.scan_spaces_and_tabs-spaces.ensures.run c.in_ok-ending.ensures.ending

@@ -1,8 +1,8 @@
 use Rattle.std.proofs.Common.{◌+◌, ◌-◌, subst, arith}
 use Rattle.std.specs.Str.{IsCharBoundary}
-use Rattle.markdown_scanners_tree.proofs.PrefixLemmas.{from_place}
+use Rattle.markdown_scanners_tree.proofs.PrefixLemmas.{from_offset}
 use Rattle.markdown_scanners_tree.proofs.SomeExactlyLemmas.{SomeExactly-from_none}
-use Rattle.markdown_scanners_tree.proofs.scanners.links.LinkLemmas.{place_of_rest}
+use Rattle.markdown_scanners_tree.proofs.scanners.links.LinkLemmas.{offset_of_rest}
 use Rattle.markdown_scanners_tree.proofs.scanners.reference_definitions.DefinitionLemmas.{no_gap, no_title_there, title_found}
 use Rattle.markdown_scanners_tree.proofs.scanners.reference_definitions.OneDefinition.{one_separated_title}
 use Rattle.markdown_scanners_tree.proofs.scanners.reference_definitions.scan_separated_title.Goals as goal
@@ -32,10 +32,10 @@ returns-clause-title_cut c = λ utf8 at.
     let gap = c.gap_len.result in
     let taken = c.in_ok-taken.taken in
     let here : IsCharBoundary bytes (offset + gap) =
-    place_of_rest _ bytes offset gap (from_place bytes offset) utf8 (λ _. at) c.gap_len.ensures.behind in (
-      place_of_rest _ bytes (offset + gap) 1 (from_place bytes (offset + gap)) utf8 (λ _. here) c.in_ok-taken.ensures.begins,
+    offset_of_rest _ bytes offset gap (from_offset bytes offset) utf8 (λ _. at) c.gap_len.ensures.after in (
+      offset_of_rest _ bytes (offset + gap) 1 (from_offset bytes (offset + gap)) utf8 (λ _. here) c.in_ok-taken.ensures.begins,
       subst (IsCharBoundary bytes) (omega (arith, c.in_ok-taken.ensures.within.0))
-          (place_of_rest _ bytes (offset + gap) (taken - 1) (from_place bytes (offset + gap)) utf8 (λ _. here)
+          (offset_of_rest _ bytes (offset + gap) (taken - 1) (from_offset bytes (offset + gap)) utf8 (λ _. here)
           c.in_ok-taken.ensures.ends),
     )
 
@@ -46,6 +46,6 @@ returns-clause-after c = λ utf8 at.
     let gap = c.gap_len.result in
     let taken = c.in_ok-taken.taken in
     let here : IsCharBoundary bytes (offset + gap) =
-    place_of_rest _ bytes offset gap (from_place bytes offset) utf8 (λ _. at) c.gap_len.ensures.behind in
+    offset_of_rest _ bytes offset gap (from_offset bytes offset) utf8 (λ _. at) c.gap_len.ensures.after in
     subst (IsCharBoundary bytes) (omega (arith, c.in_ok-taken.ensures.within.0))
-    (place_of_rest _ bytes (offset + gap) taken (from_place bytes (offset + gap)) utf8 (λ _. here) c.in_ok-taken.ensures.behind)
+    (offset_of_rest _ bytes (offset + gap) taken (from_offset bytes (offset + gap)) utf8 (λ _. here) c.in_ok-taken.ensures.after)

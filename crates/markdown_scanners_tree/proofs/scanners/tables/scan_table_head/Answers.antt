@@ -5,7 +5,7 @@ use Rattle.std.proofs.lemmas.Bool.Decides.{nat_tests}
 use Rattle.markdown_scanners_tree.specs.scanners.tables.DelimiterRow.{is_space}
 use Rattle.markdown_scanners_tree.specs.scanners.tables.BegunRow.{begins_row}
 use Rattle.markdown_scanners_tree.specs.scanners.tables.private.RowPass.{is_passed}
-use Rattle.markdown_scanners_tree.proofs.PrefixLemmas.{from_place, counted_up_to, is_longest}
+use Rattle.markdown_scanners_tree.proofs.PrefixLemmas.{from_offset, counted_up_to, is_longest}
 use Rattle.markdown_scanners_tree.proofs.scanners.tables.RowLemmas.{no_row, row_tests}
 use Rattle.markdown_scanners_tree.proofs.scanners.tables.RowPassLemmas.{passed-may}
 use Rattle.markdown_scanners_tree.proofs.scanners.tables.DelimiterRowLemmas.{delimiter_row-too_far, cells_start, no_cells, delimiter_row-found}
@@ -27,7 +27,7 @@ returns-then-not-may_be_row-clause-none c _ =
     c.first_bytes.ensures.first c.scan_ch_repeat-indent.ensures.run c.if-indent-gt-MOST_SPACES.false in
     no_row bytes
     (ap is_passed
-    (sym (from_place bytes (prefix_len is_space bytes))
+    (sym (from_offset bytes (prefix_len is_space bytes))
     ∙ ap (λ i. take (length bytes - i) (drop i bytes)) (sym run))
     ∙ sym c.may_be_row.ensures ∙ c.if-not-may_be_row.true)
 
@@ -84,7 +84,7 @@ returns-in_err-cells-clause-asked c =
     c.first_bytes.ensures.first c.scan_ch_repeat-indent.ensures.run c.if-indent-gt-MOST_SPACES.false in
     let few : nat_le (prefix_len is_space bytes) 3 ≡ true = grind (arith, nat_tests, run) in
     let passed : is_passed (drop (prefix_len is_space bytes) bytes) ≡ true =
-    rw (from_place bytes c.scan_ch_repeat-indent.result, run) at (sym c.may_be_row.ensures ∙ c.if-not-may_be_row.false) in
+    rw (from_offset bytes c.scan_ch_repeat-indent.result, run) at (sym c.may_be_row.ensures ∙ c.if-not-may_be_row.false) in
     let may = passed-may (drop (prefix_len is_space bytes) bytes) passed in
     let first =
     rw (cells_start bytes c.scan_ch_repeat-indent.result c.scan_ch-piped.result run c.scan_ch-piped.ensures.first)

@@ -4,8 +4,8 @@ use Rattle.markdown_scanners_tree.proofs.scanners.tag_state.end_of.Given as goal
 
 abbrev pub invariant-loop-end : goal.invariant-loop-end
 invariant-loop-end g l =
-    ((i : ℕ) → l.place ≤ i → i < l.end → g.F.Fn.post l.passes (slice_index l.bytes i, tt) true)
-    × (l.place ≤ l.end)
+    ((i : ℕ) → l.offset ≤ i → i < l.end → g.F.Fn.post l.passes (slice_index l.bytes i, tt) true)
+    × (l.offset ≤ l.end)
     × (l.end ≤ length l.bytes)
 
 abbrev pub decreases-loop-end : goal.decreases-loop-end

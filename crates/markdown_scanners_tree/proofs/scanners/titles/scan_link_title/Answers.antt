@@ -5,8 +5,8 @@ use Rattle.std.proofs.lemmas.Grind.{elements, common_steps}
 use Rattle.markdown_scanners_tree.specs.scanners.titles.LinkTitle.{closing_of}
 use Rattle.markdown_scanners_tree.specs.scanners.titles.private.TitleFrom.{IsTitleFrom}
 use Rattle.markdown_scanners_tree.proofs.SomeExactlyLemmas.{SomeExactly-from_none}
-use Rattle.markdown_scanners_tree.proofs.scanners.escapes.UnitLemmas.{drop_at_place}
-use Rattle.markdown_scanners_tree.proofs.scanners.links.LinkLemmas.{byte_behind, cut_before, cut_behind}
+use Rattle.markdown_scanners_tree.proofs.scanners.escapes.UnitLemmas.{drop_at_offset}
+use Rattle.markdown_scanners_tree.proofs.scanners.links.LinkLemmas.{byte_after, cut_before, cut_after}
 use Rattle.markdown_scanners_tree.proofs.scanners.titles.OneTitle.{title_found, no_title, no_opening, one_title}
 use Rattle.markdown_scanners_tree.proofs.scanners.titles.TitleLemmas.{ascii_around}
 use Rattle.markdown_scanners_tree.proofs.scanners.titles.scan_link_title.Goals as goal
@@ -36,7 +36,7 @@ returns-in_err-n-clause-found c =
     let closing = c.in_ok-closing.closing in
     let some = some_byte bytes c.is_empty.result c.is_empty.ensures c.if-is_empty.false in
     SomeExactly-from_none _ c.from_residual-in_err-n.ensures
-    (no_title bytes opening closing (drop_at_place bytes 0 some) (sym c.in_ok-closing.ensures)
+    (no_title bytes opening closing (drop_at_offset bytes 0 some) (sym c.in_ok-closing.ensures)
     (λ n is. c.in_err-n.ensures.found n (subst (λ t. IsTitleFrom opening closing t n) (sym (take_rest bytes 1)) is)))
 
 pub returns-in_err-n-clause-only : goal.returns-in_err-n-clause-only
@@ -48,7 +48,7 @@ returns-clause-found c =
     let opening = get_or bytes 0 0 in
     let closing = c.in_ok-closing.closing in
     let some = some_byte bytes c.is_empty.result c.is_empty.ensures c.if-is_empty.false in
-    title_found bytes opening closing c.in_ok-n.n (drop_at_place bytes 0 some) (sym c.in_ok-closing.ensures)
+    title_found bytes opening closing c.in_ok-n.n (drop_at_offset bytes 0 some) (sym c.in_ok-closing.ensures)
     (subst (λ t. IsTitleFrom opening closing t c.in_ok-n.n) (take_rest bytes 1) c.in_ok-n.ensures.found)
 
 pub returns-clause-only : goal.returns-clause-only
@@ -59,23 +59,23 @@ returns-clause-begins c = λ utf8.
     let bytes = c.args.bytes.now in
     let around = ascii_around (get_or bytes 0 0) c.in_ok-closing.closing (sym c.in_ok-closing.ensures) in
     let some = some_byte bytes c.is_empty.result c.is_empty.ensures c.if-is_empty.false in
-    cut_behind bytes 0 1 (omega arith) utf8 some around.0
+    cut_after bytes 0 1 (omega arith) utf8 some around.0
 
 pub returns-clause-ends : goal.returns-clause-ends
 returns-clause-ends c = λ utf8.
     let bytes = c.args.bytes.now in
     let n = c.in_ok-n.n in
-    let close = byte_behind bytes n _ c.in_ok-n.ensures.within c.in_ok-n.ensures.cut in
+    let close = byte_after bytes n _ c.in_ok-n.ensures.within c.in_ok-n.ensures.cut in
     let around = ascii_around (get_or bytes 0 0) c.in_ok-closing.closing (sym c.in_ok-closing.ensures) in
     cut_before bytes (1 + n) (n + 2 - 1) (omega arith) close.0 (omega (arith, close.1, around.1))
 
-pub returns-clause-behind : goal.returns-clause-behind
-returns-clause-behind c = λ utf8.
+pub returns-clause-after : goal.returns-clause-after
+returns-clause-after c = λ utf8.
     let bytes = c.args.bytes.now in
     let n = c.in_ok-n.n in
-    let close = byte_behind bytes n _ c.in_ok-n.ensures.within c.in_ok-n.ensures.cut in
+    let close = byte_after bytes n _ c.in_ok-n.ensures.within c.in_ok-n.ensures.cut in
     let around = ascii_around (get_or bytes 0 0) c.in_ok-closing.closing (sym c.in_ok-closing.ensures) in
-    cut_behind bytes (1 + n) (n + 2) (omega arith) utf8 close.0 (omega (arith, close.1, around.1))
+    cut_after bytes (1 + n) (n + 2) (omega arith) utf8 close.0 (omega (arith, close.1, around.1))
 
 pub returns-in_err-n-clause-begins : goal.returns-in_err-n-clause-begins
 returns-in_err-n-clause-begins c = grind (arith, elements)
@@ -83,5 +83,5 @@ returns-in_err-n-clause-begins c = grind (arith, elements)
 pub returns-in_err-n-clause-ends : goal.returns-in_err-n-clause-ends
 returns-in_err-n-clause-ends c = grind (arith, common_steps)
 
-pub returns-in_err-n-clause-behind : goal.returns-in_err-n-clause-behind
-returns-in_err-n-clause-behind c = grind (arith, common_steps)
+pub returns-in_err-n-clause-after : goal.returns-in_err-n-clause-after
+returns-in_err-n-clause-after c = grind (arith, common_steps)

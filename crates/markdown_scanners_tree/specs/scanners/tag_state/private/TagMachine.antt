@@ -92,7 +92,7 @@ LeadsTo from (b ∷ bs) to =
 abbrev pub BeginsWith : List ℕ → TagState → Type 0
 BeginsWith = LeadsTo Start
 
--- Each byte from one place up to another keeps the state, and ends no line.
+-- Each byte from one offset up to another keeps the state, and ends no line.
 abbrev pub AllKeep : TagState → List ℕ → ℕ → ℕ → Type 0
 AllKeep state bytes from to =
     (i : ℕ) → from ≤ i → i < to

@@ -59,26 +59,26 @@ IsFirstSize in_table known text source dropped inserted =
     ⊎ ((instead : List ℕ) × IsChanged in_table known text source dropped instead
     × (inserted ≡ length instead))
 
--- how many bytes are appended at a changed piece: the text from `run` up to its place, and what
+-- how many bytes are appended at a changed piece: the text from `run` up to its offset, and what
 -- stands in for its front
 abbrev pub change_len : ℕ → ℕ → List ℕ → ℕ
-change_len run place instead = (place - run) + length instead
+change_len run offset instead = (offset - run) + length instead
 
--- At a changed piece the text from `run` up to its place and what stands in for its front are
--- appended, and `run'` is the place after what is dropped, `next` that after the piece. At pieces
--- that mean themselves all stays but the place.
+-- At a changed piece the text from `run` up to its offset and what stands in for its front are
+-- appended, and `run'` is the offset after what is dropped, `next` that after the piece. At pieces
+-- that mean themselves all stays but the offset.
 abbrev pub IsPushed : {Z : Type 0} → Bool → Lookup → List ℕ → ℕ → ℕ → String Z → String Z → ℕ → ℕ → Type 0
-IsPushed in_table known text run place old new run' next =
+IsPushed in_table known text run offset old new run' next =
     ((run' ≡ run) × StringUnchanged old new
-    × ArePlain in_table known (drop place text) (next - place))
+    × ArePlain in_table known (drop offset text) (next - offset))
     ⊎ ((dropped : ℕ) × (instead : List ℕ)
-    × IsChanged in_table known (drop place text) (next - place) dropped instead
-    × (run' ≡ place + dropped)
-    × (string_bytes new ≡ string_bytes old ++ (slice_range text run place ++ instead))
-    × (string_len new ≡ string_len old + change_len run place instead))
+    × IsChanged in_table known (drop offset text) (next - offset) dropped instead
+    × (run' ≡ offset + dropped)
+    × (string_bytes new ≡ string_bytes old ++ (slice_range text run offset ++ instead))
+    × (string_len new ≡ string_len old + change_len run offset instead))
 
 -- There is room for what is appended at a changed piece.
 abbrev pub HasRoom : {Z : Type 0} → Bool → Lookup → List ℕ → ℕ → ℕ → String Z → Type 0
-HasRoom in_table known text run place old = (n dropped : ℕ) (instead : List ℕ)
-    → IsChanged in_table known (drop place text) n dropped instead
-    → string_len old + change_len run place instead ≤ string_capacity old
+HasRoom in_table known text run offset old = (n dropped : ℕ) (instead : List ℕ)
+    → IsChanged in_table known (drop offset text) n dropped instead
+    → string_len old + change_len run offset instead ≤ string_capacity old
