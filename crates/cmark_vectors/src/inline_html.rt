@@ -10,11 +10,11 @@ use markdown_scanners_tree::inline_html::{
 };
 use std::process::Abort;
 
-// The scan that the mark before the place asks for.
-fn find_at(text: &[u8], place: usize, guard: &mut HtmlScanGuard) -> Option<usize> {
-    match text.get(place.wrapping_sub(1)) {
-        Some(b'!') => scan_inline_html_comment(text, place, guard),
-        Some(b'?') if place <= text.len() => scan_inline_html_processing(text, place, guard),
+// The scan that the mark before the offset asks for.
+fn find_at(text: &[u8], offset: usize, guard: &mut HtmlScanGuard) -> Option<usize> {
+    match text.get(offset.wrapping_sub(1)) {
+        Some(b'!') => scan_inline_html_comment(text, offset, guard),
+        Some(b'?') if offset <= text.len() => scan_inline_html_processing(text, offset, guard),
         _ => None,
     }
 }
@@ -51,29 +51,29 @@ fn a_scan_that_finds_no_end_shuts_its_kind(rt: HostRuntime) {
     let mut guard = HtmlScanGuard::new();
     for (text, shut) in SHUT {
         assert_answer(&rt, &text, find_at(text, 2, &mut guard), None);
-        let places = (
+        let offsets = (
             guard.comment,
             guard.processing,
             guard.cdata,
             guard.declaration,
         );
-        assert_answer(&rt, &text, places, shut);
+        assert_answer(&rt, &text, offsets, shut);
     }
 }
 
 const COUNTED: &[u8] = b"<!--<?a?><!--";
 
-// A counted scan at the place: where its construct ends, and the bytes passed over by then.
+// A counted scan at the offset: where its construct ends, and the bytes passed over by then.
 fn counted_at(
     rt: &impl Abort,
     text: &mut CountedText<'_>,
     guard: &mut HtmlScanGuard,
-    place: usize,
+    offset: usize,
 ) -> (Option<usize>, u128) {
-    assert!(rt; text.passed() < 1_000_000 && place <= text.len());
-    let end = match text.opener_before(place) {
-        Some(b'!') => scan_inline_html_comment_counted(text, place, guard),
-        _ => scan_inline_html_processing_counted(text, place, guard),
+    assert!(rt; text.passed() < 1_000_000 && offset <= text.len());
+    let end = match text.opener_before(offset) {
+        Some(b'!') => scan_inline_html_comment_counted(text, offset, guard),
+        _ => scan_inline_html_processing_counted(text, offset, guard),
     };
     (end, text.passed())
 }
@@ -82,9 +82,9 @@ fn counted_at(
 fn counted_scans_count_what_they_pass_over(rt: HostRuntime) {
     let mut guard = HtmlScanGuard::new();
     let mut text = CountedText::new(COUNTED);
-    for (place, end, passed) in [(2, None, 13), (6, Some(9), 16), (11, None, 17)] {
-        let counted = counted_at(&rt, &mut text, &mut guard, place);
-        assert_answer(&rt, &place, counted, (end, passed));
+    for (offset, end, passed) in [(2, None, 13), (6, Some(9), 16), (11, None, 17)] {
+        let counted = counted_at(&rt, &mut text, &mut guard, offset);
+        assert_answer(&rt, &offset, counted, (end, passed));
     }
     assert_answer(&rt, &"comments", guard.comment, 13);
 }
@@ -94,10 +94,10 @@ fn scanned_at(
     rt: &impl Abort,
     text: &mut CountedText<'_>,
     guard: &mut HtmlScanGuard,
-    place: usize,
+    offset: usize,
 ) -> (Result<Option<usize>, HtmlStop>, u128) {
     assert!(rt; text.passed() < 1_000_000);
-    let answer = scan_inline_html_counted(text, place, guard);
+    let answer = scan_inline_html_counted(text, offset, guard);
     (answer, text.passed())
 }
 
@@ -105,13 +105,13 @@ fn scanned_at(
 fn scans_after_either_opener_count_and_refuse_other_places(rt: HostRuntime) {
     let mut guard = HtmlScanGuard::new();
     let mut text = CountedText::new(COUNTED);
-    for (place, end, passed) in [(2, None, 13), (6, Some(9), 16), (11, None, 17)] {
-        let scanned = scanned_at(&rt, &mut text, &mut guard, place);
-        assert_answer(&rt, &place, scanned, (Ok(end), passed));
+    for (offset, end, passed) in [(2, None, 13), (6, Some(9), 16), (11, None, 17)] {
+        let scanned = scanned_at(&rt, &mut text, &mut guard, offset);
+        assert_answer(&rt, &offset, scanned, (Ok(end), passed));
     }
-    for place in [0, 1, 3, 12, 14] {
-        let scanned = scanned_at(&rt, &mut text, &mut guard, place);
-        assert_answer(&rt, &place, scanned, (Err(HtmlStop::NoOpener), 17));
+    for offset in [0, 1, 3, 12, 14] {
+        let scanned = scanned_at(&rt, &mut text, &mut guard, offset);
+        assert_answer(&rt, &offset, scanned, (Err(HtmlStop::NoOpener), 17));
     }
     assert_answer(&rt, &"comments", guard.comment, 13);
 }
@@ -120,45 +120,45 @@ fn scans_after_either_opener_count_and_refuse_other_places(rt: HostRuntime) {
 fn openers_are_looked_at_uncounted(rt: HostRuntime) {
     let text = CountedText::new(COUNTED);
     assert_answer(&rt, &"length", text.len(), 13);
-    for (place, opener) in [(2, Some(b'!')), (6, Some(b'?')), (3, None)] {
-        assert_answer(&rt, &place, text.opener_before(place), opener);
+    for (offset, opener) in [(2, Some(b'!')), (6, Some(b'?')), (3, None)] {
+        assert_answer(&rt, &offset, text.opener_before(offset), opener);
     }
     assert_answer(&rt, &"passed", text.passed(), 0);
 }
 
-// The byte at a place, and the bytes passed over by then.
-fn looked(rt: &impl Abort, text: &mut CountedText<'_>, place: usize) -> (Option<u8>, u128) {
+// The byte at an offset, and the bytes passed over by then.
+fn looked(rt: &impl Abort, text: &mut CountedText<'_>, offset: usize) -> (Option<u8>, u128) {
     assert!(rt; text.passed() < 1_000_000);
-    (text.look(place), text.passed())
+    (text.look(offset), text.passed())
 }
 
 // Whether the part stands there.
-fn started(rt: &impl Abort, text: &mut CountedText<'_>, place: usize) -> (bool, u128) {
+fn started(rt: &impl Abort, text: &mut CountedText<'_>, offset: usize) -> (bool, u128) {
     assert!(rt; text.passed() < 1_000_000);
-    (text.starts(place, b"-->"), text.passed())
+    (text.starts(offset, b"-->"), text.passed())
 }
 
 // Where it is found from there on.
-fn found(rt: &impl Abort, text: &mut CountedText<'_>, place: usize) -> (Option<usize>, u128) {
+fn found(rt: &impl Abort, text: &mut CountedText<'_>, offset: usize) -> (Option<usize>, u128) {
     assert!(rt; text.passed() < 1_000_000);
-    (text.find(b"-->", place), text.passed())
+    (text.find(b"-->", offset), text.passed())
 }
 
 #[test]
 fn each_call_of_a_counted_text_counts(rt: HostRuntime) {
     let mut text = CountedText::new(b"a-->b");
-    for (place, byte, passed) in [(4, Some(b'b'), 1), (5, None, 2)] {
-        assert_answer(&rt, &place, looked(&rt, &mut text, place), (byte, passed));
+    for (offset, byte, passed) in [(4, Some(b'b'), 1), (5, None, 2)] {
+        assert_answer(&rt, &offset, looked(&rt, &mut text, offset), (byte, passed));
     }
-    for (place, stands, passed) in [(1, true, 5), (2, false, 8)] {
+    for (offset, stands, passed) in [(1, true, 5), (2, false, 8)] {
         assert_answer(
             &rt,
-            &place,
-            started(&rt, &mut text, place),
+            &offset,
+            started(&rt, &mut text, offset),
             (stands, passed),
         );
     }
-    for (place, end, passed) in [(0, Some(1), 12), (2, None, 15), (6, None, 15)] {
-        assert_answer(&rt, &place, found(&rt, &mut text, place), (end, passed));
+    for (offset, end, passed) in [(0, Some(1), 12), (2, None, 15), (6, None, 15)] {
+        assert_answer(&rt, &offset, found(&rt, &mut text, offset), (end, passed));
     }
 }

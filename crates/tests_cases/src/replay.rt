@@ -56,7 +56,7 @@ fn compare_all<R: Read, W: Write>(
     compare_lines(alloc, &mut reader, &mut line, output)
 }
 
-// The same of a reader, whose lines are read in one place.
+// The same of a reader, whose lines are read in one offset.
 fn compare_lines<B: BufRead, W: Write>(
     alloc: Global,
     reader: &mut B,

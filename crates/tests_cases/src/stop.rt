@@ -28,7 +28,7 @@ impl fmt::Display for Unreadable {
     fn fmt<W: fmt::Write>(&self, f: &mut fmt::Formatter<W>) -> fmt::Result {
         f.write_str(match self {
             Unreadable::NotUtf8 => "the line is not UTF-8",
-            Unreadable::NoAnswer => "no answer behind `=>`",
+            Unreadable::NoAnswer => "no answer after `=>`",
             Unreadable::UnknownCall => "no such call",
             Unreadable::MissingArgument => "too few arguments",
             Unreadable::SpareArgument => "too many arguments",
@@ -40,7 +40,7 @@ impl fmt::Display for Unreadable {
             Unreadable::UnknownLineCall => "no such call on a line",
             Unreadable::UnknownHandler => "no such handler",
             Unreadable::UnknownKind => "no such kind of HTML block",
-            Unreadable::NotPlace => "a place that is not between two characters of the text",
+            Unreadable::NotPlace => "an offset that is not between two characters of the text",
             Unreadable::NoBytes => "no byte for a call that wants one",
             Unreadable::TooLarge => "a number above the limit of the call",
         })

@@ -1,4 +1,4 @@
--- The scans of a text, place by place, as a run makes them.
+-- The scans of a text, offset by offset, as a run makes them.
 use Rattle.std.proofs.Common.{◌≡◌, ◌⊎◌, inl, inr, ℕ, suc, ◌+◌, ◌-◌, ◌≤◌, ◌<◌, true, false, List, [], ◌∷◌, ◌++◌, length, take, refl, ap, sym, ◌∙◌, arith, Option, Some, None, append-nil, append_assoc}
 use Rattle.std.specs.List.{flat_map}
 use Rattle.std.proofs.lemmas.List.{take_all, length-map}
@@ -7,29 +7,29 @@ use Rattle.markdown_scanners_tree.specs.declared.inline_html.HtmlStop.{HtmlStop}
 use Rattle.markdown_scanners_tree.specs.declared.inline_html.HtmlStop.TheVariants.{NoOpener, InsideFind}
 use Rattle.markdown_scanners_tree.specs.inline_html.InlineHtml.{opener_before, find_at}
 use Rattle.markdown_scanners_tree.specs.inline_html.run.Passed.{bytes_passed}
-use Rattle.markdown_scanners_tree.specs.inline_html.run.Run.{Run, new_run, place_refusal, run_after, run_step, run_answers, run_passed}
+use Rattle.markdown_scanners_tree.specs.inline_html.run.Run.{Run, new_run, offset_refusal, run_after, run_step, run_answers, run_passed}
 use Rattle.markdown_scanners_tree.proofs.ForCallers.{accepted, opener-bounds, passed-counted}
-use Rattle.cmark_scan.specs.html.HtmlScans.{is_scanned, end_after, before_later, scans_from, scans_of, scans_at, places_of, scan_text}
+use Rattle.cmark_scan.specs.html.HtmlScans.{is_scanned, end_after, before_later, scans_from, scans_of, scans_at, offsets_of, scan_text}
 
--- the scans that are left from a place on
+-- the scans that are left from an offset on
 abbrev pub left : List ℕ → Run → ℕ → List (ℕ × Option ℕ)
-left bytes run place = scans_from bytes run.find_end place (length bytes + 1 - place)
+left bytes run offset = scans_from bytes run.find_end offset (length bytes + 1 - offset)
 
 -- what is written, passed over and stepped, with what is left, makes up the whole
-pub record IsUnderWay (bytes : List ℕ) (run : Run) (place : ℕ) (written : List ℕ) : Type 0 where
+pub record IsUnderWay (bytes : List ℕ) (run : Run) (offset : ℕ) (written : List ℕ) : Type 0 where
   pub text : run.text ≡ bytes
-  pub rising : run.last ≤ place - 1
-  pub lines : written ++ flat_map scan_text (left bytes run place) ≡ flat_map scan_text (scans_of bytes)
-  pub passed : run_passed run (places_of (left bytes run place)) ≡ run_passed (new_run bytes) (places_of (scans_of bytes))
-  pub answers : run.steps + length (run_answers run (places_of (left bytes run place))) ≡ length (run_answers (new_run bytes) (places_of (scans_of bytes)))
-  pub steps : run.steps + length (left bytes run place) ≡ length (scans_of bytes)
+  pub rising : run.last ≤ offset - 1
+  pub lines : written ++ flat_map scan_text (left bytes run offset) ≡ flat_map scan_text (scans_of bytes)
+  pub passed : run_passed run (offsets_of (left bytes run offset)) ≡ run_passed (new_run bytes) (offsets_of (scans_of bytes))
+  pub answers : run.steps + length (run_answers run (offsets_of (left bytes run offset))) ≡ length (run_answers (new_run bytes) (offsets_of (scans_of bytes)))
+  pub steps : run.steps + length (left bytes run offset) ≡ length (scans_of bytes)
 
 module _ (bytes : List ℕ) (run : Run) (p : ℕ) (text : run.text ≡ bytes) (rising : run.last ≤ p - 1) where
   abbrev IsMade : Type 0
-  IsMade = (place_refusal run p ≡ None) × (is_scanned bytes run.find_end p ≡ true)
+  IsMade = (offset_refusal run p ≡ None) × (is_scanned bytes run.find_end p ≡ true)
 
   abbrev IsRefused : HtmlStop → Type 0
-  IsRefused stop = (place_refusal run p ≡ Some stop) × (is_scanned bytes run.find_end p ≡ false)
+  IsRefused stop = (offset_refusal run p ≡ Some stop) × (is_scanned bytes run.find_end p ≡ false)
 
   by_opener : (mark : Option ℕ) → opener_before run.text p ≡ mark → IsMade ⊎ ((stop : HtmlStop) × IsRefused stop)
   by_opener None e = inr (NoOpener, (rw e refl, rw (sym text, e) refl))
@@ -41,7 +41,7 @@ module _ (bytes : List ℕ) (run : Run) (p : ℕ) (text : run.text ≡ bytes) (r
         | inr outside ↦ inl (accepted run p mark e above outside, rw (sym text, e, le-leb run.find_end p outside) refl)
       ]
 
-  -- a place above the last one is refused, or a scan is made there
+  -- an offset above the last one is refused, or a scan is made there
   made_or_refused : IsMade ⊎ ((stop : HtmlStop) × IsRefused stop)
   made_or_refused = by_opener _ refl
 
@@ -71,10 +71,10 @@ module _ (bytes : List ℕ) (run : Run) (p : ℕ) (text : run.text ≡ bytes) (r
           text = text;
           rising = omega arith;
           lines = ap (λ t. (written ++ t) ++ flat_map scan_text later) (append-nil line) ∙ append_assoc written line _ ∙ sym (ap (λ l. written ++ flat_map scan_text l) same) ∙ way.lines;
-          passed = sym (passed_next (places_of later) made) ∙ sym (ap (λ l. run_passed run (places_of l)) same) ∙ way.passed;
+          passed = sym (passed_next (offsets_of later) made) ∙ sym (ap (λ l. run_passed run (offsets_of l)) same) ∙ way.passed;
           answers =
-              let all = ap (λ l. length (run_answers run (places_of l))) same in
-              let one = ap length (answers_next (places_of later) made) in
+              let all = ap (λ l. length (run_answers run (offsets_of l))) same in
+              let one = ap length (answers_next (offsets_of later) made) in
               omega (arith, all, one, way.answers);
           steps = let all = ap length same in omega (arith, all, way.steps);
         }
@@ -92,7 +92,7 @@ module _ (bytes : List ℕ) (run : Run) (p : ℕ) (text : run.text ≡ bytes) (r
         }
 
 pub step_kept : (bytes : List ℕ) (run : Run) (p : ℕ) (written : List ℕ) → p ≤ length bytes → IsUnderWay bytes run p written
-    → IsUnderWay bytes (run_after run p (place_refusal run p)) (p + 1) (written ++ flat_map scan_text (scans_at run p))
+    → IsUnderWay bytes (run_after run p (offset_refusal run p)) (p + 1) (written ++ flat_map scan_text (scans_at run p))
 step_kept bytes run p written within way =
     elim (made_or_refused bytes run p way.text way.rising) [
       | inl made ↦ rw made.0 (made_kept bytes run p way.text way.rising within written made way)
@@ -105,15 +105,15 @@ none_left bytes run p past = let n : length bytes + 1 - p ≡ 0 = omega arith in
 
 -- past the end all is written and counted
 pub ended : (bytes : List ℕ) (run : Run) (p : ℕ) (written : List ℕ) → length bytes < p → IsUnderWay bytes run p written
-    → (written ≡ flat_map scan_text (scans_of bytes)) × (run.passed ≡ bytes_passed bytes (places_of (scans_of bytes))) × (run.steps ≡ length (scans_of bytes))
+    → (written ≡ flat_map scan_text (scans_of bytes)) × (run.passed ≡ bytes_passed bytes (offsets_of (scans_of bytes))) × (run.steps ≡ length (scans_of bytes))
 ended bytes run p written past way =
     let empty = none_left bytes run p past in
-    let places = places_of (scans_of bytes) in
-    let answers = run_answers (new_run bytes) places in
+    let offsets = offsets_of (scans_of bytes) in
+    let answers = run_answers (new_run bytes) offsets in
     let lines = sym (append-nil written) ∙ sym (ap (λ l. written ++ flat_map scan_text l) empty) ∙ way.lines in
-    let passed = sym (ap (λ l. run_passed run (places_of l)) empty) ∙ way.passed in
+    let passed = sym (ap (λ l. run_passed run (offsets_of l)) empty) ∙ way.passed in
     let none : length (left bytes run p) ≡ 0 = ap length empty in
-    let no_answers : length (run_answers run (places_of (left bytes run p))) ≡ 0 = ap (λ l. length (run_answers run (places_of l))) empty in
+    let no_answers : length (run_answers run (offsets_of (left bytes run p))) ≡ 0 = ap (λ l. length (run_answers run (offsets_of l))) empty in
     let count = length-map (scans_of bytes) (λ scan. scan.0) in
-    let all : take (length answers) places ≡ places = take_all (length answers) places (omega (arith, count, none, no_answers, way.answers, way.steps)) in
-    (lines, passed-counted bytes places run.passed answers passed refl ∙ ap (bytes_passed bytes) all, omega (arith, none, way.steps))
+    let all : take (length answers) offsets ≡ offsets = take_all (length answers) offsets (omega (arith, count, none, no_answers, way.answers, way.steps)) in
+    (lines, passed-counted bytes offsets run.passed answers passed refl ∙ ap (bytes_passed bytes) all, omega (arith, none, way.steps))

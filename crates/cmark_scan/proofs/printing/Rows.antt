@@ -11,7 +11,7 @@ use Rattle.cmark_scan.specs.html.HtmlScans.{html_text, scans_from, scans_of}
 use Rattle.cmark_scan.specs.label.LabelRun.{label_lines}
 use Rattle.cmark_scan.specs.printing.Outcome.{line_of}
 use Rattle.cmark_scan.specs.printing.Printed.{run_text}
-use Rattle.markdown_scanners_tree.specs.inline_html.InlineHtml.{declared_at, opening_at, least_place, cost}
+use Rattle.markdown_scanners_tree.specs.inline_html.InlineHtml.{declared_at, opening_at, least_offset, cost}
 
 largest_number : call_of (codes "upto:18446744073709551615") ≡ Some (call.Upto 18446744073709551615)
 largest_number = refl
@@ -56,11 +56,11 @@ word_after_html = refl
 
 scans : html_text (codes "<!-- <!x> <!-- <![CDATA[ ]]>") (scans_of (codes "<!-- <!x> <!-- <![CDATA[ ]]>"))
     ≡ line_of (codes "2 none") ++ line_of (codes "7 9") ++ line_of (codes "12 none") ++ line_of (codes "17 28") ++ line_of (codes "passed 42 of 144")
-unfolding digits declared_at opening_at least_place cost scans_from
+unfolding digits declared_at opening_at least_offset cost scans_from
 scans = refl
 
 no_scans : html_text [] (scans_of []) ≡ line_of (codes "passed 0 of 0")
-unfolding digits declared_at opening_at least_place cost scans_from
+unfolding digits declared_at opening_at least_offset cost scans_from
 no_scans = refl
 
 label_word : request_of (codes "label" ∷ []) ≡ Some scan_label

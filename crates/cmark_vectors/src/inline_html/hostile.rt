@@ -5,37 +5,37 @@ use markdown_scanners_tree::inline_html::{HtmlRun, InlineHtmlRun, run_inline_htm
 use std::alloc::{AllocError, Global};
 use std::process::Abort;
 
-fn is_behind_opener(text: &[u8], place: usize) -> bool {
-    place <= text.len() && (text[..place].ends_with(b"<!") || text[..place].ends_with(b"<?"))
+fn is_after_opener(text: &[u8], offset: usize) -> bool {
+    offset <= text.len() && (text[..offset].ends_with(b"<!") || text[..offset].ends_with(b"<?"))
 }
 
-fn write_places(places: &mut Vec<usize>, text: &[u8]) -> Result<(), AllocError> {
-    for place in 0..=text.len() {
-        if is_behind_opener(text, place) {
-            places.push(place)?;
+fn write_offsets(offsets: &mut Vec<usize>, text: &[u8]) -> Result<(), AllocError> {
+    for offset in 0..=text.len() {
+        if is_after_opener(text, offset) {
+            offsets.push(offset)?;
         }
     }
     Ok(())
 }
 
-// The places just after `<!` or `<?`, in rising order.
-fn places_after_openers(alloc: Global, text: &[u8]) -> Result<Vec<usize>, AllocError> {
-    let mut places = Vec::new(alloc);
-    write_places(&mut places, text)?;
-    Ok(places)
+// The offsets just after `<!` or `<?`, in rising order.
+fn offsets_after_openers(alloc: Global, text: &[u8]) -> Result<Vec<usize>, AllocError> {
+    let mut offsets = Vec::new(alloc);
+    write_offsets(&mut offsets, text)?;
+    Ok(offsets)
 }
 
-// Steps at all places after openers keep within the budget, each by itself.
-fn assert_within_budget(rt: &impl Abort, text: &[u8], places: &[usize]) {
+// Steps at all offsets after openers keep within the budget, each by itself.
+fn assert_within_budget(rt: &impl Abort, text: &[u8], offsets: &[usize]) {
     let mut run = InlineHtmlRun::new(text);
-    for place in places {
-        let stepped = run.step(*place).is_ok();
-        assert!(rt; stepped || *place > text.len());
+    for offset in offsets {
+        let stepped = run.step(*offset).is_ok();
+        assert!(rt; stepped || *offset > text.len());
         assert!(rt; run.passed() <= budget(text.len(), run.steps()));
     }
 }
 
-// A part that is repeated, how often, how far after each place its find is, the bytes passed over,
+// A part that is repeated, how often, how far after each offset its find is, the bytes passed over,
 // and the budget.
 type Hostile = (&'static [u8], usize, Option<usize>, u128, u128);
 
@@ -48,22 +48,22 @@ const HOSTILE_TEXTS: [Hostile; 6] = [
     (b"<!-->", 5000, Some(3), 25000, 140000),
 ];
 
-// Each answer is this far after its place.
-fn are_so_long(answers: &[Option<usize>], places: &[usize], length: Option<usize>) -> bool {
-    for (answer, place) in answers.iter().zip(places.iter()) {
+// Each answer is this far after its offset.
+fn are_so_long(answers: &[Option<usize>], offsets: &[usize], length: Option<usize>) -> bool {
+    for (answer, offset) in answers.iter().zip(offsets.iter()) {
         let found = match answer {
-            Some(end) => Some(end.wrapping_sub(*place)),
+            Some(end) => Some(end.wrapping_sub(*offset)),
             None => None,
         };
         if found != length {
             return false;
         }
     }
-    answers.len() == places.len()
+    answers.len() == offsets.len()
 }
 
-fn is_hostile_run(run: &HtmlRun, places: &[usize], hostile: &Hostile) -> bool {
-    are_so_long(&run.answers, places, hostile.2) && run.passed == hostile.3 && run.stop.is_none()
+fn is_hostile_run(run: &HtmlRun, offsets: &[usize], hostile: &Hostile) -> bool {
+    are_so_long(&run.answers, offsets, hostile.2) && run.passed == hostile.3 && run.stop.is_none()
 }
 
 fn assert_hostile(
@@ -71,13 +71,13 @@ fn assert_hostile(
     alloc: Global,
     hostile: &Hostile,
     text: &[u8],
-    places: &[usize],
+    offsets: &[usize],
 ) {
-    let run = made(rt, run_inline_html(alloc, text, places));
+    let run = made(rt, run_inline_html(alloc, text, offsets));
     let part = &hostile.0;
-    assert_answer(rt, part, is_hostile_run(&run, places, hostile), true);
-    assert_answer(rt, part, budget(text.len(), places.len()), hostile.4);
-    assert_within_budget(rt, text, places);
+    assert_answer(rt, part, is_hostile_run(&run, offsets, hostile), true);
+    assert_answer(rt, part, budget(text.len(), offsets.len()), hostile.4);
+    assert_within_budget(rt, text, offsets);
 }
 
 #[test]
@@ -85,16 +85,16 @@ fn passes_over_hostile_texts_once(rt: HostRuntime) {
     let alloc = rt.alloc();
     for hostile in HOSTILE_TEXTS.iter() {
         let text = made(&rt, hostile.0.repeat(alloc, hostile.1));
-        let places = made(&rt, places_after_openers(alloc, &text));
-        assert_hostile(&rt, alloc, hostile, &text, &places);
+        let offsets = made(&rt, offsets_after_openers(alloc, &text));
+        assert_hostile(&rt, alloc, hostile, &text, &offsets);
     }
 }
 
 // The text's first and last 200 bytes are where it is cut off.
-fn assert_cuts_within_budget(rt: &impl Abort, text: &[u8], places: &[usize]) {
+fn assert_cuts_within_budget(rt: &impl Abort, text: &[u8], offsets: &[usize]) {
     for cut in 0..200 {
-        assert_within_budget(rt, &text[..text.len().min(cut)], places);
-        assert_within_budget(rt, &text[..text.len().saturating_sub(cut)], places);
+        assert_within_budget(rt, &text[..text.len().min(cut)], offsets);
+        assert_within_budget(rt, &text[..text.len().saturating_sub(cut)], offsets);
     }
 }
 
@@ -102,7 +102,7 @@ fn assert_cuts_within_budget(rt: &impl Abort, text: &[u8], places: &[usize]) {
 fn passes_over_cut_texts(rt: HostRuntime) {
     for hostile in HOSTILE_TEXTS.iter() {
         let text = made(&rt, hostile.0.repeat(rt.alloc(), hostile.1));
-        let places = made(&rt, places_after_openers(rt.alloc(), &text));
-        assert_cuts_within_budget(&rt, &text, &places);
+        let offsets = made(&rt, offsets_after_openers(rt.alloc(), &text));
+        assert_cuts_within_budget(&rt, &text, &offsets);
     }
 }

@@ -1,4 +1,4 @@
-//! Runs of steps at places of a text: what they find, and the bytes passed over.
+//! Runs of steps at offsets of a text: what they find, and the bytes passed over.
 use crate::asserts::{assert_answer, made};
 use markdown_scanners_tree::inline_html::{HtmlRun, HtmlStop, InlineHtmlRun, run_inline_html};
 use std::alloc::Global;
@@ -26,7 +26,7 @@ fn assert_run(rt: &impl Abort, alloc: Global, row: &Row, stop: &Option<(usize, H
     assert_answer(rt, &row.0, is_run(&run, row, stop), true);
 }
 
-// Runs that no place stops, and the most that the budget of each allows.
+// Runs that no offset stops, and the most that the budget of each allows.
 const FOUND: [(Row, u128); 9] = [
     (
         (
@@ -63,7 +63,7 @@ fn a_run_ends_before_a_refused_place(rt: HostRuntime) {
     assert_run(&rt, rt.alloc(), &row, &stop);
 }
 
-// A place, what a step there answers, the bytes passed over by then, and the steps.
+// An offset, what a step there answers, the bytes passed over by then, and the steps.
 type Step = (usize, Result<Option<usize>, HtmlStop>, u128, usize);
 
 fn is_step(run: &mut InlineHtmlRun<'_>, step: &Step) -> bool {

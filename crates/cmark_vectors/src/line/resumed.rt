@@ -56,7 +56,7 @@ type Item = Option<(u8, u64, usize)>;
 
 // Before which place no thematic break begins, and after which one does.
 fn known(breaks: &KnownBreaks) -> (usize, usize) {
-    (breaks.none_before, breaks.behind_break)
+    (breaks.none_before, breaks.after_break)
 }
 
 // An item at a place, by a line start that is made anew, and what is known of breaks from then on.

@@ -22,7 +22,7 @@ pub(crate) fn thematic_break(
 fn thematic_break_text(alloc: Global, found: Result<usize, usize>) -> Result<String, CaseError> {
     let (word, number) = match found {
         Ok(length) => ("ok", length),
-        Err(place) => ("err", place),
+        Err(offset) => ("err", offset),
     };
     Ok(format!(in alloc; "{word} {number}")?)
 }

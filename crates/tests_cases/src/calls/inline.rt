@@ -39,15 +39,15 @@ fn unescaped_text(alloc: Global, input: &str, is_in_table: bool) -> Result<Strin
     with_bytes(alloc, &is_input, text.as_str().as_bytes())
 }
 
-// The place that comes next, which is between two characters of the text.
-fn place(text: &str, arguments: &mut Arguments<'_>) -> Result<usize, CaseError>
-    ensures { IfOk result (λ place. IsCharBoundary text.now place) }
+// The offset that comes next, which is between two characters of the text.
+fn offset(text: &str, arguments: &mut Arguments<'_>) -> Result<usize, CaseError>
+    ensures { IfOk result (λ offset. IsCharBoundary text.now offset) }
 {
-    let place = arguments.number()?;
-    if !text.is_char_boundary(place) {
+    let offset = arguments.number()?;
+    if !text.is_char_boundary(offset) {
         return Err(CaseError::Unreadable(Unreadable::NotPlace));
     }
-    Ok(place)
+    Ok(offset)
 }
 
 // A number and a text.
@@ -71,7 +71,7 @@ fn wikilink_pipe_in(
     text: &str,
     arguments: &mut Arguments<'_>,
 ) -> Result<String, CaseError> {
-    let start = place(text, arguments)?;
+    let start = offset(text, arguments)?;
     let length = arguments.number()?;
     text_or_none(alloc, scan_wikilink_pipe(text, start, length))
 }
@@ -89,7 +89,7 @@ fn link_destination_in(
     text: &str,
     arguments: &mut Arguments<'_>,
 ) -> Result<String, CaseError> {
-    let start = place(text, arguments)?;
+    let start = offset(text, arguments)?;
     let max_next = arguments.number()?;
     text_or_none(alloc, scan_link_dest(text, start, max_next))
 }
@@ -112,7 +112,7 @@ fn autolink_in(
     text: &str,
     arguments: &mut Arguments<'_>,
 ) -> Result<String, CaseError> {
-    let start = place(text, arguments)?;
+    let start = offset(text, arguments)?;
     match scan_autolink(text, start) {
         Some((end, uri, kind)) => autolink_text(alloc, end, uri.as_str(), kind),
         None => none(alloc),

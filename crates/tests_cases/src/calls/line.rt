@@ -30,15 +30,15 @@ fn push_steps(text: &mut String, bytes: &[u8], calls: &str) -> Result<(), CaseEr
     Ok(())
 }
 
-// Makes a call, and writes its answer and the place after it.
+// Makes a call, and writes its answer and the offset after it.
 fn push_step(text: &mut String, start: &mut LineStart<'_>, call: &str) -> Result<(), CaseError> {
     match call.split_once(':') {
         Some((name, digits)) => push_counted(text, start, name, parse_number(digits)?)?,
         None => push_plain(text, start, call)?,
     }
-    let place = start.bytes_scanned();
+    let offset = start.bytes_scanned();
     let pending = start.remaining_space();
-    write!(text, " @{place}+{pending}")?;
+    write!(text, " @{offset}+{pending}")?;
     Ok(())
 }
 

@@ -67,8 +67,8 @@ pub(crate) fn indent(alloc: Global, arguments: &mut Arguments<'_>) -> Result<Str
     if max > usize::MAX / 4 {
         return Err(CaseError::Unreadable(Unreadable::TooLarge));
     }
-    let (place, columns) = calc_indent(&bytes, max);
-    Ok(format!(in alloc; "{place}/{columns}")?)
+    let (offset, columns) = calc_indent(&bytes, max);
+    Ok(format!(in alloc; "{offset}/{columns}")?)
 }
 
 pub(crate) fn quote_start(

@@ -58,8 +58,8 @@ fn counted_either(output: Stdout) -> Result<(), Stop> {
 
 fn steps(output: Stdout) -> Result<(), Stop> {
     let mut run = InlineHtmlRun::new(b"<!-- a <!-- b --> <!-- c");
-    for place in [2, 9, 2, 20, 1] {
-        print(output, run.step(place))?;
+    for offset in [2, 9, 2, 20, 1] {
+        print(output, run.step(offset))?;
     }
     print(output, (run.passed(), run.steps()))
 }

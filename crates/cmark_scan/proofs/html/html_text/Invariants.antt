@@ -3,5 +3,5 @@ use Rattle.std.proofs.Common.{string_bytes}
 use Rattle.cmark_scan.proofs.html.ScanLemmas.{IsUnderWay}
 use Rattle.cmark_scan.proofs.html.html_text.Given as goal
 
-abbrev pub invariant-loop-place : goal.invariant-loop-place
-invariant-loop-place l = IsUnderWay l.bytes l.run l.place (string_bytes l.text)
+abbrev pub invariant-loop-offset : goal.invariant-loop-offset
+invariant-loop-offset l = IsUnderWay l.bytes l.run l.offset (string_bytes l.text)

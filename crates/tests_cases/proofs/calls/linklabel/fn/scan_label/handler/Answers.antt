@@ -12,16 +12,16 @@ use Rattle.tests_cases.specs.Skipped.{skipped}
 use Rattle.tests_cases.proofs.calls.linklabel.fn.scan_label.handler.Goals as goal
 
 -- nothing, or a front that ends in an ASCII byte
-behind : (rest : List ℕ) (n : ℕ) → IsUtf8 rest → n ≤ length rest → ((k : ℕ) → k + 1 ≡ n → get_or rest k 0 < 128) → IsCharBoundary rest n
-behind rest zero u l h = IsCharBoundary-start rest u
-behind rest (suc k) u l h =
+after : (rest : List ℕ) (n : ℕ) → IsUtf8 rest → n ≤ length rest → ((k : ℕ) → k + 1 ≡ n → get_or rest k 0 < 128) → IsCharBoundary rest n
+after rest zero u l h = IsCharBoundary-start rest u
+after rest (suc k) u l h =
     let n : k + 1 ≡ suc k = omega arith in
     subst (IsCharBoundary rest) n (IsCharBoundary-after_ascii rest k u (omega (arith, l)) (h k n))
 
 spaces : (rest : List ℕ) → IsUtf8 rest → IsCharBoundary rest (prefix_len (λ b. b == 32) (take 4 rest))
 spaces rest u =
     let within = prefix_len-le-length (λ b. b == 32) (take 4 rest) in
-    behind rest _ u (omega (arith, within, length-take 4 rest)) (λ k e.
+    after rest _ u (omega (arith, within, length-take 4 rest)) (λ k e.
     let space : nat_eq (get_or (take 4 rest) k 0) 32 ≡ true = prefix_len_passes (λ b. b == 32) (take 4 rest) k 0 (omega (arith, e)) in
     grind (arith, nat_tests, space, get_or-take))
 
@@ -31,7 +31,7 @@ letter (a ∷ rest) u = by (nat_eq 120 a) (λ h. h)
   where
     by : (v : Bool) → (v ≡ true → nat_eq 120 a ≡ true) → IsCharBoundary (a ∷ rest) (cond (v && true) 1 0)
     by false f = IsCharBoundary-start (a ∷ rest) u
-    by true f = (let h = f refl in behind (a ∷ rest) 1 u (omega arith) (λ k e. grind (arith, nat_tests, h)))
+    by true f = (let h = f refl in after (a ∷ rest) 1 u (omega arith) (λ k e. grind (arith, nat_tests, h)))
 
 quote : (rest : List ℕ) → IsUtf8 rest → IsCharBoundary rest (skipped Quote rest)
 quote [] u = IsCharBoundary-start [] u
@@ -41,7 +41,7 @@ quote (a ∷ b ∷ rest) u = by (nat_eq 62 a) (nat_eq 32 b) (λ h. h)
     by : (v w : Bool) → (w ≡ true → nat_eq 32 b ≡ true) → IsCharBoundary (a ∷ b ∷ rest) (cond (v && (w && true)) 2 0)
     by false w f = IsCharBoundary-start (a ∷ b ∷ rest) u
     by true false f = IsCharBoundary-start (a ∷ b ∷ rest) u
-    by true true f = (let h = f refl in behind (a ∷ b ∷ rest) 2 u (omega arith) (λ k e. grind (arith, nat_tests, h)))
+    by true true f = (let h = f refl in after (a ∷ b ∷ rest) 2 u (omega arith) (λ k e. grind (arith, nat_tests, h)))
 
 boundary : (s : Skips) (rest : List ℕ) → IsUtf8 rest → IsCharBoundary rest (skipped s rest)
 boundary Refused rest u = IsCharBoundary-start rest u
