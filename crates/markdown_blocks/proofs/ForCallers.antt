@@ -9,7 +9,8 @@ pub use Rattle.markdown_blocks.proofs.content.ByteLemmas.{DoNotFall, content_byt
 pub use Rattle.markdown_blocks.proofs.content.CutMoves.{cut_of_first, cut_of_part, cut_of_rest}
 pub use Rattle.markdown_blocks.proofs.content.EndCuts.{cell_bytes, content_ends}
 pub use Rattle.markdown_blocks.proofs.content.OneContent.{one_content, one_list_of_parts}
-pub use Rattle.markdown_blocks.proofs.content.PastLemmas.{HasInlines, RisePast, RiseStrictly, content_past, inlines_strictly, places_past}
+pub use Rattle.markdown_blocks.proofs.content.PastLemmas.{HasInlines, RisePast, RiseStrictly, content_past, inlines_strictly, offsets_past}
+pub use Rattle.markdown_blocks.proofs.content.SizeLemmas.{content_few, inlines_few}
 pub use Rattle.markdown_blocks.proofs.content.Utf8Lemmas.{content_cuts, content_utf8}
 pub use Rattle.markdown_blocks.proofs.definitions.DefinitionLemmas.{one_list_of_definitions}
 pub use Rattle.markdown_blocks.proofs.events.EventLemmas.{one_list_of_events, step_events}
@@ -24,6 +25,7 @@ pub use Rattle.markdown_blocks.proofs.laws.FirstTextLaw.{page_firsts_begin_plain
 pub use Rattle.markdown_blocks.proofs.laws.ItemLaw.{list_item, one_list_item, blank_list_item, one_blank_list_item}
 pub use Rattle.markdown_blocks.proofs.laws.OrderLaw.{page_in_order, page_nodes_stand}
 pub use Rattle.markdown_blocks.proofs.laws.QuoteLaw.{block_quote, one_block_quote}
+pub use Rattle.markdown_blocks.proofs.laws.SizeLaw.{few_containers, items_have_few_digits, leaves_have_bytes}
 pub use Rattle.markdown_blocks.proofs.laws.TermLaw.{definitions_have_terms}
 pub use Rattle.markdown_blocks.proofs.link_definitions.NamedLemmas.{one_list_of_named}
 pub use Rattle.markdown_blocks.proofs.lists.ListLemmas.{page_lists}

@@ -1,3 +1,4 @@
+pub mod AfterLemmas
 pub mod BlockLemmas
 pub mod IndentedLemmas
 pub mod OneFirst

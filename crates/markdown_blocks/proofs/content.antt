@@ -11,5 +11,6 @@ pub mod ReachedLemmas
 pub mod ReachedPlaces
 pub mod RunLemmas
 pub mod SegmentLemmas
+pub mod SizeLemmas
 pub mod Utf8Lemmas
 pub mod WholeLines

@@ -18,6 +18,6 @@ pub mod QuotePlaces
 pub mod Rows
 pub mod SameContainers
 pub mod SettledLemmas
-pub mod TableAfter
+pub mod SizeLaw
 pub mod TermLaw
 pub mod TextLaw

@@ -4,4 +4,5 @@ pub mod Held
 pub mod Items
 pub mod Order
 pub mod Quotes
+pub mod Sizes
 pub mod Terms

@@ -6,7 +6,7 @@ ghost use Rattle.markdown_values.specs.values.Extensions.{commonmark};
 ghost use Rattle.markdown_blocks.specs.events.Events.{Event, seen_event};
 ghost use Rattle.markdown_blocks.specs.first_blocks.Alerts.{AreAlertsOf, alert_at};
 ghost use Rattle.markdown_blocks.specs.first_blocks.FirstBlocks.{seen_first};
-ghost use Rattle.markdown_blocks.specs.first_blocks.Waiting.{firsts_behind};
+ghost use Rattle.markdown_blocks.specs.first_blocks.Waiting.{firsts_after};
 
 use crate::blocks::BlockKind;
 use crate::containers::Container;
@@ -23,7 +23,7 @@ pub struct Alert {
     /// What it names.
     pub kind: BlockQuoteKind,
     /// How many bytes of the page stand before it.
-    pub place: usize,
+    pub offset: usize,
     /// How many bytes of its paragraph's first line it is, with the line ending: the content of the
     /// paragraph goes on after them.
     pub len: usize,
@@ -44,7 +44,7 @@ impl<'a> FirstBlock<'a> {
         let kind = start.scan_blockquote_tag()?;
         Some(Alert {
             kind,
-            place: self.leaf.place,
+            offset: self.leaf.offset,
             len: start.bytes_scanned(),
             is_alone: self.leaf.lines == 1,
         })
@@ -78,8 +78,8 @@ pub fn alerts_of_page_ext(
 // Reads the next event: the line of the alert whose first block it is.
 fn alert_read(firsts: &mut FirstBlocks, event: BlockEvent) -> Option<Alert>
     ensures { (events : List Event)
-        → filter_map alert_at (firsts_behind firsts.old (seen_event event.entry ∷ events))
-        ≡ option_to_list result ++ filter_map alert_at (firsts_behind firsts.new events) }
+        → filter_map alert_at (firsts_after firsts.old (seen_event event.entry ∷ events))
+        ≡ option_to_list result ++ filter_map alert_at (firsts_after firsts.new events) }
 {
     firsts.read(event)?.alert()
 }

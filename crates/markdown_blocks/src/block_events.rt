@@ -3,7 +3,7 @@
 ghost use Rattle.std.specs.Prelude.{◌≡◌, ◌∷◌, ◌<◌, ◌≤◌, ◌+◌, ◌-◌, ◌^◌, ◌↔◌, [], List, ℕ, length, take, drop, IsTrue, IfOk, IfErr, IfSome, IfNone, OnOk};
 ghost use Rattle.markdown_scanners_tree.specs.scanners.TextLines.{lines_of};
 ghost use Rattle.markdown_scanners_tree.specs.line.State.{after_space};
-ghost use Rattle.markdown_blocks.specs.containers.Containers.{marker_place, after_marker};
+ghost use Rattle.markdown_blocks.specs.containers.Containers.{marker_start, after_marker};
 ghost use Rattle.markdown_blocks.specs.events.Events.{Event, LeafBlock, AreLeaves, leaf_of, first_lines, first_of, later_lines, first_rest};
 ghost use Rattle.markdown_blocks.specs.events.Events.{seen_event, seen_leaf};
 ghost use Rattle.markdown_blocks.specs.events.Given.{GivesBlock, block_left, block_events_left};
@@ -12,14 +12,14 @@ ghost use Rattle.markdown_blocks.specs.link_definitions.LinkDefinitions.{AreAdde
 ghost use Rattle.markdown_blocks.specs.taken.Lines.{IsTaken};
 
 use crate::blocks::BlockKind;
-use crate::containers::{Container, Outer, all_containers, go_on, scan_container};
+use crate::containers::{Container, OpenContainers, all_containers, go_on, scan_container};
 use crate::definitions::take_definition;
 use crate::events::BlockEvent;
 use crate::leaf::Leaf;
 use crate::link_definitions::LinkDefinitions;
 use crate::rest::{Rest, scan_rest};
 use crate::step::Step;
-use crate::taken::Taken;
+use crate::taken::Extent;
 use markdown_scanners_tree::line::LineStart;
 use markdown_values::values::Extensions;
 use std::alloc::AllocError;
@@ -31,7 +31,7 @@ pub struct BlockEvents<'a> {
     // How many containers end, and how many of the block's have begun.
     ending: usize,
     begun: usize,
-    // The first line, how many bytes of the page stand before it, and the place before the marker of
+    // The first line, how many bytes of the page stand before it, and the offset before the marker of
     // the next container.
     line: &'a [u8],
     front: usize,
@@ -54,7 +54,7 @@ impl<'a> Model for BlockEvents<'a> {
       ending = b.ending;
       begun = b.begun;
       front = b.front;
-      place = b.start;
+      position = b.start;
       kind = b.leaf.kind;
       part = record {
         line = b.leaf.line;
@@ -69,14 +69,14 @@ impl<'a> Model for BlockEvents<'a> {
         (b.start.bytes ≡ b.line.now) × (b.front + length b.line.now < 2 ^ 64)
         × (b.leaf.lines ≡ length (lines_of b.lines.now)) × (b.leaf.bytes ≡ length b.lines.now)
         × (b.leaf.line ≤ b.leaf.start) × (b.leaf.start + length b.lines.now < 2 ^ 64)
-        × (b.leaf.place ≡ b.leaf.start
+        × (b.leaf.offset ≡ b.leaf.start
         + (length (first_of (lines_of b.lines.now)) - length b.leaf.text.now)) };
 }
 
 impl<'a> BlockEvents<'a> {
     /// The events of a step's block, before which so much of the page stands and so many containers
     /// are open.
-    pub fn new(step: Step<'a>, before: Taken, depth: usize) -> BlockEvents<'a>
+    pub fn new(step: Step<'a>, before: Extent, depth: usize) -> BlockEvents<'a>
         requires { before.bytes + step.block.taken.bytes < 2 ^ 64 }
         ensures { result ≡ block_left step.entry before depth }
     {
@@ -94,7 +94,7 @@ impl<'a> BlockEvents<'a> {
                 bytes: step.block.taken.bytes,
                 indent: step.indent,
                 text: step.text,
-                place: before.bytes + step.line.len().saturating_sub(step.text.len()),
+                offset: before.bytes + step.line.len().saturating_sub(step.text.len()),
             },
             lines: step.lines,
             used: 0,
@@ -214,8 +214,8 @@ impl<'a> BlockEvents<'a> {
     // How many bytes of the page stand before the marker of the next container. The space before it
     // is passed.
     fn marker_offset(&mut self) -> usize
-        ensures place { result ≡ self.old.front + marker_place self.old.place }
-        ensures passed { self.new ≡ record self.old { place = after_space 4 self.old.place } }
+        ensures offset { result ≡ self.old.front + marker_start self.old.position }
+        ensures passed { self.new ≡ record self.old { position = after_space 4 self.old.position } }
     {
         self.start.scan_space_upto(4);
         self.front + self.start.bytes_scanned()
@@ -223,13 +223,13 @@ impl<'a> BlockEvents<'a> {
 
     // Passes the marker of the next container. Answers how many bytes of the page stand before it.
     fn pass_marker(&mut self) -> usize
-        ensures place { result ≡ self.old.front + marker_place self.old.place }
-        ensures passed { self.new ≡ record self.old { place = after_marker self.old.place } }
+        ensures offset { result ≡ self.old.front + marker_start self.old.position }
+        ensures passed { self.new ≡ record self.old { position = after_marker self.old.position } }
     {
         let indent = self.start.scan_space_upto(4);
-        let place = self.front + self.start.bytes_scanned();
+        let offset = self.front + self.start.bytes_scanned();
         scan_container(self.line, &mut self.start, indent, all_containers());
-        place
+        offset
     }
 
     // The next leaf block: the definition at the front of what is left of the content, or what is
@@ -312,7 +312,7 @@ impl<'a> BlockEvents<'a> {
             bytes: 0,
             indent: 0,
             text: &[],
-            place: whole.start + whole.bytes,
+            offset: whole.start + whole.bytes,
         };
         whole
     }
@@ -339,7 +339,7 @@ impl<'a> BlockEvents<'a> {
             bytes: whole.bytes - taken.bytes,
             indent: words.indent,
             text: words.text,
-            place: whole.start + taken.bytes + before,
+            offset: whole.start + taken.bytes + before,
         };
         Leaf {
             kind,
@@ -349,34 +349,34 @@ impl<'a> BlockEvents<'a> {
             bytes: taken.bytes,
             indent: whole.indent,
             text: whole.text,
-            place: whole.place,
+            offset: whole.offset,
         }
     }
 }
 
-// The content from this place on.
-fn content_from(content: &[u8], place: usize) -> &[u8]
-    ensures { result.now ≡ drop place content.now }
+// The content from this offset on.
+fn content_from(content: &[u8], offset: usize) -> &[u8]
+    ensures { result.now ≡ drop offset content.now }
 {
-    if place < content.len() {
-        &content[place..]
+    if offset < content.len() {
+        &content[offset..]
     } else {
         &[]
     }
 }
 
 // The first lines of a text of `all` lines: so many, or all where there are fewer.
-fn front_of(text: &[u8], count: usize, all: usize) -> Taken
+fn front_of(text: &[u8], count: usize, all: usize) -> Extent
     requires { all ≡ length (lines_of text.now) }
     ensures { IsTaken text.now result (take count (lines_of text.now)) }
 {
     if count >= all {
-        return Taken {
+        return Extent {
             bytes: text.len(),
             lines: all,
         };
     }
-    let mut taken = Taken::nothing();
+    let mut taken = Extent::nothing();
     while taken.lines < count {
         let Some((_, more)) = taken.next(text) else {
             return taken;
@@ -392,7 +392,7 @@ fn first_rest<'a>(lines: &'a [u8], containers: &[Container]) -> (Rest<'a>, usize
     ensures before { result.1 ≡ length (first_of (lines_of lines.now)) - length result.0.text }
     ensures within { result.1 ≤ length lines.now }
 {
-    let Some((line, _)) = Taken::nothing().next(lines) else {
+    let Some((line, _)) = Extent::nothing().next(lines) else {
         return (
             Rest {
                 indent: 0,
@@ -401,7 +401,7 @@ fn first_rest<'a>(lines: &'a [u8], containers: &[Container]) -> (Rest<'a>, usize
             0,
         );
     };
-    let (_, mut start) = go_on(line, &Outer::new(Extensions::none(), containers));
+    let (_, mut start) = go_on(line, &OpenContainers::new(Extensions::none(), containers));
     let rest = scan_rest(line, &mut start);
     let before = line.len().saturating_sub(rest.text.len());
     (rest, before)

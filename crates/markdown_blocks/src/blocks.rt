@@ -1,27 +1,28 @@
 //! Blocks of a page, each as a whole from the front of what is left, in their containers.
-ghost use Rattle.std.specs.Prelude.{◌≡◌, ◌↔◌, ◌+◌, ◌++◌, ◌∷◌, [], List, ℕ, true, drop, IsTrue, IfOk, IfSome};
+ghost use Rattle.std.specs.Prelude.{◌≡◌, ◌↔◌, ◌+◌, ◌++◌, ◌∷◌, [], List, ℕ, true, drop, IsTrue, IfOk, IfSome, IfNone};
 ghost use Rattle.markdown_scanners_tree.specs.Bytes.{begins_with};
 ghost use Rattle.markdown_scanners_tree.specs.SomeExactly.{SomeExactly};
 ghost use Rattle.markdown_scanners_tree.specs.scanners.TextLines.{lines_of};
-ghost use Rattle.markdown_blocks.specs.blocks.Leaves.{Begins, StopsBefore, StopsBehind, EndsAsHtml, GoesOnIndented};
-ghost use Rattle.markdown_blocks.specs.blocks.Leaves.{IsHead, BeginsNoTable, BeginsTable, LeavesBehind};
+ghost use Rattle.markdown_blocks.specs.blocks.Leaves.{Begins, StopsBefore, StopsAfter, EndsAsHtml, GoesOnIndented};
+ghost use Rattle.markdown_blocks.specs.blocks.Leaves.{IsHead, BeginsNoTable, BeginTable, EndsRead, Leaves, LeavesAfter};
 ghost use Rattle.markdown_blocks.specs.blocks.Endings.{IsEnd, IsNextLine, is_text_byte};
 ghost use Rattle.markdown_blocks.specs.declared.blocks.Ending.TheVariants.{Text};
 ghost use Rattle.markdown_blocks.specs.blocks.Over.{IsOver};
-ghost use Rattle.markdown_blocks.specs.blocks.Pages.{IsBlockOf};
+ghost use Rattle.markdown_blocks.specs.blocks.Pages.{IsBlockOf, IsTableAfter};
 ghost use Rattle.markdown_blocks.specs.declared.blocks.BlockKind.TheVariants.{Paragraph};
 ghost use Rattle.markdown_blocks.specs.taken.Lines.{IsTaken, IsNext};
 
 pub(crate) mod endings;
 
-use crate::blocks::endings::{ends, ends_html, is_indented, is_inside, text_end};
-use crate::containers::Outer;
+use crate::blocks::endings::{ends, ends_html, goes_on_with, is_indented, is_inside, text_end};
+use crate::containers::OpenContainers;
 use crate::definitions::has_text;
+use crate::info::without_front;
 use crate::kinds::kind_of;
 use crate::line::Line;
 use crate::rest::Rest;
-use crate::tables::{count_cells, delimiter_columns, is_header, take_rows};
-use crate::taken::Taken;
+use crate::tables::{count_cells, delimiter_columns, take_rows};
+use crate::taken::Extent;
 use markdown_scanners_tree::scanners::{HtmlBlockKind, is_ascii_whitespace};
 use markdown_values::values::HeadingLevel;
 use std::alloc::{AllocError, Global};
@@ -56,7 +57,7 @@ pub enum BlockKind {
 #[derive(Clone, Copy)]
 pub struct Block {
     pub kind: BlockKind,
-    pub taken: Taken,
+    pub taken: Extent,
 }
 
 // What ends a paragraph that has text: the underline of a setext heading of this level, or without
@@ -96,8 +97,8 @@ enum NextLine {
 pub(crate) fn scan_block(
     alloc: Global,
     text: &[u8],
-    first: Taken,
-    outer: &Outer,
+    first: Extent,
+    outer: &OpenContainers,
     rest: &Rest,
 ) -> Result<Block, AllocError>
     ensures { IfOk result (λ block. (line : List ℕ) → IsTaken text.now first (line ∷ [])
@@ -119,7 +120,7 @@ pub(crate) fn scan_block(
 
 /// Whether the block ends there: the text has a line after it that shows it, whatever lines
 /// follow, or none follow since the input has ended.
-pub(crate) fn is_over(text: &[u8], block: Block, outer: &Outer, has_ended: bool) -> bool
+pub(crate) fn is_over(text: &[u8], block: Block, outer: &OpenContainers, has_ended: bool) -> bool
     ensures { (lines : List (List ℕ)) → IsTaken text.now block.taken lines
         → (IsTrue result ↔ IsOver outer.now.containers block.kind has_ended
         (lines_of (drop block.taken.bytes text.now))) }
@@ -137,7 +138,7 @@ pub(crate) fn is_over(text: &[u8], block: Block, outer: &Outer, has_ended: bool)
 }
 
 // The lines, and those after them up to the first that is not blank.
-fn take_blank(text: &[u8], first: Taken, outer: &Outer) -> Taken
+fn take_blank(text: &[u8], first: Extent, outer: &OpenContainers) -> Extent
     ensures { (lines : List (List ℕ)) → IsTaken text.now first lines
         → (more : List (List ℕ)) × IsTaken text.now result (lines ++ more)
         × StopsBefore (IsEnd outer.now Text) more
@@ -176,7 +177,12 @@ fn is_text_byte(byte: u8) -> bool
 }
 
 // The lines, and those after them up to the first with this ending.
-fn take_until<'a>(text: &'a [u8], first: Taken, outer: &'a Outer<'a>, ending: Ending) -> Taken
+fn take_until<'a>(
+    text: &'a [u8],
+    first: Extent,
+    outer: &'a OpenContainers<'a>,
+    ending: Ending,
+) -> Extent
     ensures { (lines : List (List ℕ)) → IsTaken text.now first lines
         → (more : List (List ℕ)) × IsTaken text.now result (lines ++ more)
         × StopsBefore (IsEnd outer.now ending) more (lines_of (drop result.bytes text.now)) }
@@ -192,10 +198,10 @@ fn take_until<'a>(text: &'a [u8], first: Taken, outer: &'a Outer<'a>, ending: En
 }
 
 // The same, and that first line too, if it stands in the containers.
-fn take_through(text: &[u8], first: Taken, outer: &Outer, ending: Ending) -> Taken
+fn take_through(text: &[u8], first: Extent, outer: &OpenContainers, ending: Ending) -> Extent
     ensures { (lines : List (List ℕ)) → IsTaken text.now first lines
         → (more : List (List ℕ)) × IsTaken text.now result (lines ++ more)
-        × StopsBehind outer.now.containers (IsEnd outer.now ending) more
+        × StopsAfter outer.now.containers (IsEnd outer.now ending) more
         (lines_of (drop result.bytes text.now)) }
 {
     let taken = take_until(text, first, outer, ending);
@@ -208,7 +214,13 @@ fn take_through(text: &[u8], first: Taken, outer: &Outer, ending: Ending) -> Tak
 }
 
 // The lines of an HTML block of this kind, whose first line has this after its containers.
-fn take_html(text: &[u8], first: Taken, outer: &Outer, kind: HtmlBlockKind, rest: &Rest) -> Taken
+fn take_html(
+    text: &[u8],
+    first: Extent,
+    outer: &OpenContainers,
+    kind: HtmlBlockKind,
+    rest: &Rest,
+) -> Extent
     ensures { (lines : List (List ℕ)) → IsTaken text.now first lines
         → (more : List (List ℕ)) × IsTaken text.now result (lines ++ more)
         × EndsAsHtml outer.now.containers kind rest.now more
@@ -224,7 +236,7 @@ fn take_html(text: &[u8], first: Taken, outer: &Outer, kind: HtmlBlockKind, rest
 }
 
 // The lines, and those of the indented code that they begin: up to its last line with text.
-fn take_indented<'a>(text: &'a [u8], first: Taken, outer: &'a Outer<'a>) -> Taken
+fn take_indented<'a>(text: &'a [u8], first: Extent, outer: &'a OpenContainers<'a>) -> Extent
     ensures { (lines : List (List ℕ)) → IsTaken text.now first lines
         → (more : List (List ℕ)) × IsTaken text.now result (lines ++ more)
         × GoesOnIndented outer.now.containers more (lines_of (drop result.bytes text.now)) }
@@ -249,8 +261,8 @@ fn take_indented<'a>(text: &'a [u8], first: Taken, outer: &'a Outer<'a>) -> Take
 fn scan_paragraph(
     alloc: Global,
     text: &[u8],
-    first: Taken,
-    outer: &Outer,
+    first: Extent,
+    outer: &OpenContainers,
     rest: &Rest,
 ) -> Result<Block, AllocError>
     ensures { IfOk result (λ block. (line : List ℕ) → IsTaken text.now first (line ∷ [])
@@ -287,13 +299,13 @@ fn scan_paragraph(
 fn scan_lines<'a>(
     alloc: Global,
     text: &'a [u8],
-    first: Taken,
-    second: Taken,
-    outer: &'a Outer<'a>,
+    first: Extent,
+    second: Extent,
+    outer: &'a OpenContainers<'a>,
     rest: &Rest,
 ) -> Result<Block, AllocError>
     ensures { IfOk result (λ block. (line next : List ℕ) → IsTaken text.now first (line ∷ [])
-        → IsNext text.now first next second → ¬ LeavesBehind outer.now rest.now.text [] next
+        → IsNext text.now first next second → ¬ LeavesAfter outer.now rest.now.text [] next
         → Begins Paragraph rest.now
         → BeginsNoTable outer.now rest.now (lines_of (drop first.bytes text.now))
         → IsBlockOf text.now outer.now line rest.now block) }
@@ -328,11 +340,12 @@ fn scan_lines<'a>(
     })
 }
 
-// Whether a table begins with the line after those that are taken, where this line comes after it.
-fn begins_table(text: &[u8], before: Taken, next: &Line) -> bool
+// Whether the line after those that are taken is the header row of a table, where this line comes after
+// it.
+fn begins_table(text: &[u8], before: Extent, next: &Line) -> bool
     ensures { (line : List ℕ) (lines : List (List ℕ))
         → lines_of (drop before.bytes text.now) ≡ line ∷ next.now.bytes ∷ lines
-        → (IsTrue result ↔ BeginsTable next.now.outer (line ∷ next.now.bytes ∷ lines)) }
+        → (IsTrue result ↔ BeginTable next.now.outer (line ∷ next.now.bytes ∷ lines)) }
 {
     if delimiter_columns(next).is_none() {
         return false;
@@ -341,7 +354,37 @@ fn begins_table(text: &[u8], before: Taken, next: &Line) -> bool
         return false;
     };
     let line = Line::new(line, next.outer());
-    is_header(&line) && head_columns(next, line.rest().text).is_some()
+    head_columns(next, without_front(line.rest().text)).is_some()
+}
+
+/// The table at the front of the text whose header row, the first line, goes on with the paragraph
+/// before it in these containers. That line is taken, and the paragraph is a term or not.
+pub(crate) fn scan_table(
+    text: &[u8],
+    line: &[u8],
+    first: Extent,
+    outer: &OpenContainers,
+    is_term: bool,
+) -> Option<Block>
+    ensures found { IfSome result (λ block. IsTaken text.now first (line.now ∷ [])
+        → IsTableAfter is_term text.now outer.now line.now block) }
+    ensures none { IfNone result (IsTaken text.now first (line.now ∷ [])
+        → ¬ Leaves outer.now (EndsRead outer.now.extensions is_term) line.now
+        → ¬ BeginTable outer.now (lines_of text.now)) }
+{
+    let (next, second) = first.next(text)?;
+    let next = Line::new(next, outer);
+    if !begins_table(text, Extent::nothing(), &next) {
+        return None;
+    }
+    if !goes_on_with(&Line::new(line, outer), is_term) {
+        return None;
+    }
+    let columns = delimiter_columns(&next)?;
+    Some(Block {
+        kind: BlockKind::Table(columns),
+        taken: take_rows(text, second, outer),
+    })
 }
 
 // What the line is to the paragraph that is taken. Of that the first line is taken by `first`, and has
@@ -350,8 +393,8 @@ fn begins_table(text: &[u8], before: Taken, next: &Line) -> bool
 fn next_line(
     alloc: Global,
     text: &[u8],
-    first: Taken,
-    taken: Taken,
+    first: Extent,
+    taken: Extent,
     line: &Line,
     words: &[u8],
 ) -> Result<NextLine, AllocError>

@@ -26,16 +26,16 @@ pub struct Cell {
 pub struct Cells<'a> {
     // What stands after the pipe before the next cell, and after how many bytes of the row.
     rest: &'a [u8],
-    place: usize,
+    offset: usize,
     is_done: bool,
 }
 
 impl<'a> Model for Cells<'a> {
     ghost Value = { List Cell };
 
-    ghost view = { λ c. cells_left c.is_done c.place c.rest.now };
+    ghost view = { λ c. cells_left c.is_done c.offset c.rest.now };
 
-    ghost invariant = { λ c. c.place + length c.rest.now < 2 ^ 64 };
+    ghost invariant = { λ c. c.offset + length c.rest.now < 2 ^ 64 };
 }
 
 impl<'a> Iterator for Cells<'a> {
@@ -50,11 +50,11 @@ impl<'a> Iterator for Cells<'a> {
             return None;
         }
         let (piece, rest) = self.rest.split_at(piece_len(self.rest));
-        let cell = cell_at(piece, self.place);
+        let cell = cell_at(piece, self.offset);
         match rest {
-            [_, behind @ ..] => {
-                self.place += piece.len() + 1;
-                self.rest = behind;
+            [_, after @ ..] => {
+                self.offset += piece.len() + 1;
+                self.rest = after;
             }
             [] => self.is_done = true,
         }
@@ -70,19 +70,21 @@ pub fn cells_of(text: &[u8]) -> Cells<'_>
     ensures between { AreBetween 0 (length text.now) result }
     ensures fits { length result < 2 ^ 64 }
 {
-    let row = without_end(line_head(text));
+    let line = without_end(line_head(text));
+    let front = scan_spaces_and_tabs(line);
+    let row = without_front(line);
     let inner = without_pipe_at_end(row);
-    let place = usize::from(begins_with_pipe(row));
-    if inner.len() < place {
+    let offset = usize::from(begins_with_pipe(row));
+    if inner.len() < offset {
         return Cells {
             rest: inner,
-            place: 0,
+            offset: 0,
             is_done: true,
         };
     }
     Cells {
-        rest: &inner[place..],
-        place,
+        rest: &inner[offset..],
+        offset: front + offset,
         is_done: false,
     }
 }
@@ -134,11 +136,11 @@ fn piece_len(row: &[u8]) -> usize
 }
 
 // The cell that the piece is, after so many bytes of its row.
-fn cell_at(piece: &[u8], place: usize) -> Cell
-    requires { place + length piece.now < 2 ^ 64 }
-    ensures { result ≡ cell_at place piece.now }
+fn cell_at(piece: &[u8], offset: usize) -> Cell
+    requires { offset + length piece.now < 2 ^ 64 }
+    ensures { result ≡ cell_at offset piece.now }
 {
-    let start = place + scan_spaces_and_tabs(piece);
+    let start = offset + scan_spaces_and_tabs(piece);
     Cell {
         start,
         end: start + without_end(without_front(piece)).len(),

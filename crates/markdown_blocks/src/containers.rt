@@ -5,8 +5,8 @@ ghost use Rattle.std.specs.Prelude.{◌≡◌, ◌<◌, ◌≤◌, length, false
 ghost use Rattle.markdown_scanners_tree.specs.Bytes.{begins_with};
 ghost use Rattle.markdown_scanners_tree.specs.line.ItemRules.{start_of};
 ghost use Rattle.markdown_scanners_tree.specs.line.State.{space_within, after_space, unscanned};
-ghost use Rattle.markdown_blocks.specs.containers.Containers.{all_containers, begun_behind, behind, behind_quote, extension_of, goes_on_blank};
-ghost use Rattle.markdown_blocks.specs.containers.Containers.{settled, within, within_quote, within_width};
+ghost use Rattle.markdown_blocks.specs.containers.Containers.{all_containers, begun_after, match_line, past_quote, extension_of, goes_on_blank};
+ghost use Rattle.markdown_blocks.specs.containers.Containers.{past_first_line, within, within_quote, within_width};
 ghost use Rattle.markdown_blocks.specs.containers.private.Markers.{is_item_byte, is_other_byte};
 
 pub(crate) mod item_markers;
@@ -25,7 +25,7 @@ use std::marker::Model;
 #[derive(Clone, Copy)]
 pub struct ListItem {
     pub delimiter: u8,
-    pub begun: bool,
+    pub starts_blank: bool,
     pub width: u8,
     pub start: u32,
 }
@@ -34,7 +34,7 @@ pub struct ListItem {
 /// the indent of its text in columns.
 #[derive(Clone, Copy)]
 pub struct DefinitionItem {
-    pub begun: bool,
+    pub starts_blank: bool,
     pub width: u8,
 }
 
@@ -56,18 +56,18 @@ const _: () = prove!(size_of::<Container>() <= 16);
 /// The container where more than its first line is read: an item that begins with a blank line is no
 /// longer one that does not go on with a second. The content of what stands in a container is read
 /// with it so. (CommonMark 0.31.2, section 5.2)
-pub fn settled(container: Container) -> Container
-    ensures { result ≡ settled container }
+pub fn past_first_line(container: Container) -> Container
+    ensures { result ≡ past_first_line container }
 {
     match container {
         Container::Quote => Container::Quote,
         Container::Footnote => Container::Footnote,
         Container::Item(item) => Container::Item(ListItem {
-            begun: false,
+            starts_blank: false,
             ..item
         }),
         Container::TermDefinition(definition) => Container::TermDefinition(DefinitionItem {
-            begun: false,
+            starts_blank: false,
             ..definition
         }),
     }
@@ -84,32 +84,32 @@ pub(crate) fn all_containers() -> Extensions
     }
 }
 
-/// The extensions that are on, and the open containers, the outermost first; from a place on they go
+/// The extensions that are on, and the open containers, the outermost first; from an offset on they go
 /// on with blank lines, so that such a line is not tried for each of them.
 #[derive(Drop)]
-pub(crate) struct Outer<'a> {
+pub(crate) struct OpenContainers<'a> {
     extensions: Extensions,
     containers: &'a [Container],
     plain: usize,
 }
 
-impl<'a> Model for Outer<'a> {
+impl<'a> Model for OpenContainers<'a> {
     ghost use Rattle.std.specs.Prelude.{◌≡◌, drop, true};
     ghost use Rattle.std.specs.List.{list_all};
-    ghost use Rattle.markdown_blocks.specs.containers.Containers.{Outer, goes_on_blank};
+    ghost use Rattle.markdown_blocks.specs.containers.Containers.{OpenContainers, goes_on_blank};
 
-    ghost Value = { Outer };
+    ghost Value = { OpenContainers };
 
     ghost view = { λ o. record { extensions = o.extensions; containers = o.containers.now } };
 
     ghost invariant = { λ o. list_all goes_on_blank (drop o.plain o.containers.now) ≡ true };
 }
 
-impl<'a> Outer<'a> {
+impl<'a> OpenContainers<'a> {
     ghost use Rattle.std.specs.Prelude.{◌≡◌, length};
 
     /// These containers, with these extensions on.
-    pub(crate) fn new(extensions: Extensions, containers: &'a [Container]) -> Outer<'a>
+    pub(crate) fn new(extensions: Extensions, containers: &'a [Container]) -> OpenContainers<'a>
         ensures { result ≡ record { extensions = extensions; containers = containers.now } }
     {
         let mut plain = containers.len();
@@ -119,7 +119,7 @@ impl<'a> Outer<'a> {
             }
             plain -= 1;
         }
-        Outer {
+        OpenContainers {
             extensions,
             containers,
             plain,
@@ -154,9 +154,9 @@ fn goes_on_blank(container: Container) -> bool
 {
     match container {
         Container::Quote => false,
-        Container::Item(item) => !item.begun,
+        Container::Item(item) => !item.starts_blank,
         Container::Footnote => true,
-        Container::TermDefinition(definition) => !definition.begun,
+        Container::TermDefinition(definition) => !definition.starts_blank,
     }
 }
 
@@ -164,10 +164,10 @@ fn goes_on_blank(container: Container) -> bool
 ///
 /// It is inlined, so that where none is open, as most often, it costs no call.
 #[inline(always)]
-pub(crate) fn go_on<'a>(line: &'a [u8], outer: &Outer) -> (usize, LineStart<'a>)
-    ensures kept { result.0 ≡ (behind outer.now.containers line.now).kept }
+pub(crate) fn go_on<'a>(line: &'a [u8], outer: &OpenContainers) -> (usize, LineStart<'a>)
+    ensures kept { result.0 ≡ (match_line outer.now.containers line.now).kept }
     ensures few { result.0 ≤ length outer.now.containers }
-    ensures state { result.1 ≡ (behind outer.now.containers line.now).state }
+    ensures state { result.1 ≡ (match_line outer.now.containers line.now).state }
     ensures bytes { result.1.bytes ≡ line.now }
 {
     if outer.containers.is_empty() {
@@ -181,8 +181,8 @@ pub(crate) fn go_on<'a>(line: &'a [u8], outer: &Outer) -> (usize, LineStart<'a>)
 
 // Whether the line is seen to go on with none of them: it begins with text, and the outermost is an item.
 #[inline(always)]
-fn ends_all(line: &[u8], outer: &Outer) -> bool
-    ensures { IsTrue result → behind outer.now.containers line.now
+fn ends_all(line: &[u8], outer: &OpenContainers) -> bool
+    ensures { IsTrue result → match_line outer.now.containers line.now
         ≡ record { kept = 0; state = start_of line.now } }
 {
     let [Container::Item(item), ..] = outer.containers else {
@@ -199,10 +199,10 @@ fn ends_all(line: &[u8], outer: &Outer) -> bool
 
 // The same of a line where some are open.
 #[inline(always)]
-fn go_on_in<'a>(line: &'a [u8], outer: &Outer) -> (usize, LineStart<'a>)
-    ensures kept { result.0 ≡ (behind outer.now.containers line.now).kept }
+fn go_on_in<'a>(line: &'a [u8], outer: &OpenContainers) -> (usize, LineStart<'a>)
+    ensures kept { result.0 ≡ (match_line outer.now.containers line.now).kept }
     ensures few { result.0 ≤ length outer.now.containers }
-    ensures state { result.1 ≡ (behind outer.now.containers line.now).state }
+    ensures state { result.1 ≡ (match_line outer.now.containers line.now).state }
     ensures bytes { result.1.bytes ≡ line.now }
 {
     let mut start = LineStart::new(line);
@@ -240,9 +240,9 @@ pub(crate) fn pass(
     ensures bytes { start.new.bytes ≡ line.now }
 {
     match container {
-        Container::Item(item) => pass_width(start, blank, item.begun, item.width),
+        Container::Item(item) => pass_width(start, blank, item.starts_blank, item.width),
         Container::Footnote => pass_width(start, blank, false, 4),
-        Container::TermDefinition(d) => pass_width(start, blank, d.begun, d.width),
+        Container::TermDefinition(d) => pass_width(start, blank, d.starts_blank, d.width),
         Container::Quote => pass_quote(line, start),
     }
 }
@@ -250,17 +250,17 @@ pub(crate) fn pass(
 // Passes so many columns of space, if they are there, before text. A blank rest has them always, but
 // not where only the first line is read, and that is blank.
 #[inline(always)]
-fn pass_width(start: &mut LineStart, blank: bool, begun: bool, width: u8) -> Option<bool>
+fn pass_width(start: &mut LineStart, blank: bool, starts_blank: bool, width: u8) -> Option<bool>
     ensures passed { IfSome result (λ more.
-        within_width begun width blank start.old ≡ Some (more, start.new)) }
-    ensures none { IfNone result (within_width begun width blank start.old ≡ None) }
+        within_width starts_blank width blank start.old ≡ Some (more, start.new)) }
+    ensures none { IfNone result (within_width starts_blank width blank start.old ≡ None) }
     ensures unchanged { IfNone result (start.new ≡ start.old) }
     ensures bytes { start.new.bytes ≡ start.old.bytes }
 {
     if !blank {
         return pass_indent(start, width as usize);
     }
-    if begun { None } else { Some(true) }
+    if starts_blank { None } else { Some(true) }
 }
 
 // Passes so many columns of space, if they are there, before text.
@@ -286,10 +286,10 @@ fn pass_indent(start: &mut LineStart, width: usize) -> Option<bool>
 fn pass_quote(line: &[u8], start: &mut LineStart) -> Option<bool>
     requires { start.old.bytes ≡ line.now }
     ensures passed { IfSome result (λ more.
-        within_quote (behind_quote (space_within 4 start.old) (after_space 4 start.old))
+        within_quote (past_quote (space_within 4 start.old) (after_space 4 start.old))
         ≡ Some (more, start.new)) }
     ensures none { IfNone result
-        (behind_quote (space_within 4 start.old) (after_space 4 start.old) ≡ None) }
+        (past_quote (space_within 4 start.old) (after_space 4 start.old) ≡ None) }
     ensures unchanged { IfNone result (start.new ≡ start.old) }
     ensures bytes { start.new.bytes ≡ line.now }
 {
@@ -317,11 +317,11 @@ pub(crate) fn scan_container<'a>(
     requires bytes { start.old.bytes ≡ line.now }
     requires near { indent ≤ 4 }
     ensures found { IfSome result (λ container.
-        begun_behind extensions indent start.old ≡ Some (container, start.new)) }
-    ensures none { IfNone result (begun_behind extensions indent start.old ≡ None) }
+        begun_after extensions indent start.old ≡ Some (container, start.new)) }
+    ensures none { IfNone result (begun_after extensions indent start.old ≡ None) }
     ensures unchanged { IfNone result (start.new ≡ start.old) }
     ensures bytes { start.new.bytes ≡ line.now }
-    ensures rises { IfSome result (λ _. start.old.place < start.new.place) }
+    ensures rises { IfSome result (λ _. start.old.offset < start.new.offset) }
 {
     if indent == 4 {
         return None;
@@ -367,11 +367,11 @@ fn scan_marked<'a>(
     requires near { indent < 4 }
     requires other { begins_with is_item_byte (unscanned start.old) ≡ false }
     ensures found { IfSome result (λ container.
-        begun_behind extensions indent start.old ≡ Some (container, start.new)) }
-    ensures none { IfNone result (begun_behind extensions indent start.old ≡ None) }
+        begun_after extensions indent start.old ≡ Some (container, start.new)) }
+    ensures none { IfNone result (begun_after extensions indent start.old ≡ None) }
     ensures unchanged { IfNone result (start.new ≡ start.old) }
     ensures bytes { start.new.bytes ≡ line.now }
-    ensures rises { IfSome result (λ _. start.old.place < start.new.place) }
+    ensures rises { IfSome result (λ _. start.old.offset < start.new.offset) }
 {
     if start.scan_blockquote_marker() {
         return Some(Container::Quote);
@@ -394,7 +394,7 @@ fn scan_extension<'a>(
     ensures none { IfNone result (extension_of extensions indent start.old ≡ None) }
     ensures unchanged { IfNone result (start.new ≡ start.old) }
     ensures bytes { start.new.bytes ≡ line.now }
-    ensures rises { IfSome result (λ _. start.old.place < start.new.place) }
+    ensures rises { IfSome result (λ _. start.old.offset < start.new.offset) }
 {
     if let Some(footnote) = scan_footnote(line, start, extensions) {
         return Some(footnote);

@@ -1,4 +1,4 @@
-//! The content of leaf blocks: what is handed to the inline pass, and the text of code and HTML, with the place of each of its
+//! The content of leaf blocks: what is handed to the inline pass, and the text of code and HTML, with the offset of each of its
 //! bytes. (CommonMark 0.31.2, sections 2.1, 2.2, 4.2 to 4.6 and 4.8)
 ghost use Rattle.std.specs.Prelude.{◌≡◌, ◌^◌, ◌++◌, ◌∷◌, [], ◌+◌, ◌-◌, ◌<◌, ◌≤◌, ℕ, List, false, is_some, length, replicate};
 ghost use Rattle.std.specs.Prelude.{slice_index, IfOk, IfErr, IfSome, IfNone, IsOk, OnOk};
@@ -10,7 +10,7 @@ ghost use Rattle.markdown_blocks.specs.content.Content.{IsContent, IsOneRun, IsR
 ghost use Rattle.markdown_blocks.specs.content.Left.{IsRun, IsRunAt, parts_left};
 ghost use Rattle.markdown_blocks.specs.content.Parts.{AreOneRun, AreParts, Part, is_one_run, one_part};
 ghost use Rattle.markdown_blocks.specs.content.Seen.{IsIn, seen_part};
-ghost use Rattle.markdown_blocks.specs.content.Segments.{Rising, place_at, place_in, segments_from};
+ghost use Rattle.markdown_blocks.specs.content.Segments.{Rising, offset_at, offset_in, segments_from};
 ghost use Rattle.markdown_blocks.specs.declared.blocks.BlockKind.TheVariants.{Paragraph};
 
 mod cell;
@@ -19,7 +19,7 @@ pub(crate) mod parts;
 mod whole_lines;
 
 use crate::blocks::BlockKind;
-use crate::containers::{Container, Outer};
+use crate::containers::{Container, OpenContainers};
 pub use crate::content::cell::cell_content;
 use crate::content::parts::{LinePart, Parts};
 use crate::content::whole_lines::whole_lines;
@@ -27,7 +27,7 @@ use markdown_values::values::Extensions;
 use std::alloc::{AllocError, Global};
 use std::marker::Model;
 
-/// The content of a leaf block: its bytes, and of each its place in the block's lines.
+/// The content of a leaf block: its bytes, and of each its offset in the block's lines.
 #[derive(Drop)]
 pub struct Content<'a> {
     // It is lent from the lines, or built; the other of the two is empty.
@@ -44,20 +44,20 @@ pub struct Content<'a> {
 struct Segment {
     offset: usize,
     columns: usize,
-    place: usize,
+    source: usize,
 }
 
 impl<'a> Model for Content<'a> {
     ghost use Rattle.std.specs.Prelude.{◌++◌, ◌==◌, length, map};
     ghost use Rattle.std.specs.List.{range_with_len};
     ghost use Rattle.markdown_blocks.specs.content.Content.{Placed};
-    ghost use Rattle.markdown_blocks.specs.content.Segments.{Held, place_at};
+    ghost use Rattle.markdown_blocks.specs.content.Segments.{Held, offset_at};
 
     ghost Value = { Placed };
 
     ghost view = { λ c. record {
       text = c.lent.now ++ c.built.items;
-      places = map (place_at c.first c.later.items)
+      offsets = map (offset_at c.first c.later.items)
           (range_with_len 0 (length (c.lent.now ++ c.built.items)));
       is_lent = length c.built.items == 0;
     } };
@@ -90,7 +90,7 @@ pub fn content_of<'a>(
     // It is cut next to bytes of ASCII alone.
     ensures utf8 { IfOk result (λ content. IsUtf8 lines.now → IsUtf8 content.text) }
 {
-    let outer = Outer::new(Extensions::none(), containers);
+    let outer = OpenContainers::new(Extensions::none(), containers);
     if let Some((begin, end)) = whole_lines(lines, kind, &outer) {
         return Ok(lent(alloc, &lines[begin..end], kind, begin));
     }
@@ -133,18 +133,18 @@ impl<'a> Content<'a> {
         }
     }
 
-    /// The place in the block's lines of the byte at the offset. A column of a tab that is cut stands
+    /// The offset in the block's lines of the byte at the offset. A column of a tab that is cut stands
     /// where the tab does, and a line feed where the line ending ends that it is written for.
-    pub fn place(&self, offset: usize) -> usize
+    pub fn source_offset(&self, offset: usize) -> usize
         requires { offset < length self.now.text }
-        ensures { result ≡ slice_index self.now.places offset }
+        ensures { result ≡ slice_index self.now.offsets offset }
     {
         let (segment, _) = segment_at(self.first, &self.later, offset, self.text().len());
         let further = offset.saturating_sub(segment.offset);
         if further < segment.columns {
-            return segment.place.saturating_sub(1);
+            return segment.source.saturating_sub(1);
         }
-        segment.place + (further - segment.columns)
+        segment.source + (further - segment.columns)
     }
 
     /// Bytes of it around the offset that stand in the block's lines one directly after another.
@@ -160,31 +160,31 @@ impl<'a> Content<'a> {
             return Run {
                 start: offset,
                 end: offset + 1,
-                place: segment.place.saturating_sub(1),
+                source: segment.source.saturating_sub(1),
             };
         }
         Run {
             start: offset - (further - segment.columns),
             end,
-            place: segment.place,
+            source: segment.source,
         }
     }
 
-    /// The place in the block's lines of its first byte, where each further byte stands there directly
-    /// after the one before it, and None where one doesn't. Of no bytes any place is such a place.
-    pub fn run_place(&self) -> Option<usize>
-        ensures some { IfSome result (λ place. StandsFrom place self.now) }
+    /// The offset in the block's lines of its first byte, where each further byte stands there directly
+    /// after the one before it, and None where one doesn't. Of no bytes any offset is such an offset.
+    pub fn source_start(&self) -> Option<usize>
+        ensures some { IfSome result (λ offset. StandsFrom offset self.now) }
         ensures none { IfNone result (¬ IsOneRun self.now) }
     {
         let len = self.text().len();
         if len == 0 {
             return Some(0);
         }
-        let origin = self.place(0);
+        let origin = self.source_offset(0);
         let mut end = 0;
         while end < len {
-            let place = self.place(end);
-            if place < end || place - end != origin {
+            let next = self.source_offset(end);
+            if next < end || next - end != origin {
                 return None;
             }
             end = self.run_at(end).end;
@@ -194,7 +194,7 @@ impl<'a> Content<'a> {
 }
 
 /// Bytes of a content, from one offset up to another, that stand in the block's lines one directly
-/// after another, the first of them at this place.
+/// after another, the first of them at this offset.
 #[derive(Clone, Copy)]
 pub struct Run {
     /// The offset of the first of them.
@@ -202,7 +202,7 @@ pub struct Run {
     /// The offset after the last.
     pub end: usize,
     /// Where the first stands in the lines.
-    pub place: usize,
+    pub source: usize,
 }
 
 // The last of the segments that begins at the offset or before it, and where the next begins, or the
@@ -214,8 +214,8 @@ fn segment_at(first: Segment, later: &[Segment], offset: usize, len: usize) -> (
     ensures begins { result.0.offset ≤ offset }
     ensures ends { offset < result.1 }
     ensures within { result.1 ≤ len }
-    ensures places { (at : ℕ) → result.0.offset ≤ at → at < result.1
-        → place_in result.0 at ≡ place_at first later.now at }
+    ensures offsets { (at : ℕ) → result.0.offset ≤ at → at < result.1
+        → offset_in result.0 at ≡ offset_at first later.now at }
 {
     let mut found = first;
     let mut low = 0;
@@ -254,26 +254,26 @@ fn run_of<'a>(parts: Parts<'a>) -> Result<(usize, usize), (LinePart<'a>, Parts<'
     if part.columns > 0 {
         return Err((part, rest));
     }
-    let mut end = part.place + part.bytes.len();
+    let mut end = part.offset + part.bytes.len();
     while let Some(next) = rest.next() {
-        if next.columns > 0 || next.place != end {
+        if next.columns > 0 || next.offset != end {
             let run = LinePart {
                 columns: 0,
                 filler: b' ',
-                place: part.place,
-                bytes: &parts.lines[part.place..end],
+                offset: part.offset,
+                bytes: &parts.lines[part.offset..end],
             };
             return Err((run, rest.with(next)));
         }
         end += next.bytes.len();
     }
-    Ok((part.place, end))
+    Ok((part.offset, end))
 }
 
-// The content that is one run of the lines, from this place on.
-fn lent<'a>(alloc: Global, run: &'a [u8], kind: BlockKind, place: usize) -> Content<'a>
-    requires { place + length run.now < 2 ^ 64 }
-    ensures { (parts : List Part) → IsRunAt run.now place parts → result ≡ content_with kind parts }
+// The content that is one run of the lines, from this offset on.
+fn lent<'a>(alloc: Global, run: &'a [u8], kind: BlockKind, source: usize) -> Content<'a>
+    requires { source + length run.now < 2 ^ 64 }
+    ensures { (parts : List Part) → IsRunAt run.now source parts → result ≡ content_with kind parts }
 {
     Content {
         lent: &run[..content_len(run, kind)],
@@ -281,7 +281,7 @@ fn lent<'a>(alloc: Global, run: &'a [u8], kind: BlockKind, place: usize) -> Cont
         first: Segment {
             offset: 0,
             columns: 0,
-            place,
+            source,
         },
         later: Vec::new(alloc),
     }
@@ -315,7 +315,7 @@ fn built<'a>(
         first: Segment {
             offset: 0,
             columns: first.columns,
-            place: first.place,
+            source: first.offset,
         },
         later: segments,
     })
@@ -334,7 +334,7 @@ fn add_segment(
     segments.push(Segment {
         offset: text.len(),
         columns: part.columns,
-        place: part.place,
+        source: part.offset,
     })?;
     add_part(text, part)
 }

@@ -11,10 +11,10 @@ ghost use Rattle.markdown_blocks.specs.taken.Lines.{IsTaken};
 ghost use Rattle.markdown_blocks.specs.walk.Walk.{IsGathered};
 
 use crate::blocks::{Block, BlockKind};
-use crate::containers::{Container, Outer, go_on};
+use crate::containers::{Container, OpenContainers, go_on};
 use crate::info::without_front;
 use crate::rest::scan_rest;
-use crate::taken::Taken;
+use crate::taken::Extent;
 use markdown_scanners_tree::scanners::{ReferenceDefinition, scan_reference_definition_ahead};
 use markdown_values::values::Extensions;
 use memchr::memchr;
@@ -39,7 +39,7 @@ pub fn scan_definition(content: &[u8]) -> Option<ReferenceDefinition>
 /// How many bytes and lines the definition at the front of a paragraph's content takes, if one
 /// stands there. A block has a line for each line of its content, so these are as many lines of the
 /// page: the first of the block, and after one definition those of the next.
-pub fn take_definition(content: &[u8]) -> Option<Taken>
+pub fn take_definition(content: &[u8]) -> Option<Extent>
     ensures found { IfSome result (λ taken. (definition : ReferenceDefinition)
         × IsDefinition content.now definition × (taken.bytes ≡ definition.len)
         × IsTaken content.now taken (lines_of (take definition.len content.now))) }
@@ -56,11 +56,11 @@ pub fn take_definition(content: &[u8]) -> Option<Taken>
 }
 
 /// How many bytes and lines the text has.
-pub(crate) fn count_lines(text: &[u8]) -> Taken
+pub(crate) fn count_lines(text: &[u8]) -> Extent
     ensures lines { result.lines ≡ length (lines_of text.now) }
     ensures bytes { result.bytes ≡ length text.now }
 {
-    let mut taken = Taken::nothing();
+    let mut taken = Extent::nothing();
     while let Some((_, more)) = taken.next(text) {
         taken = more;
     }
@@ -85,9 +85,9 @@ pub fn definitions_len(content: &[u8]) -> usize
 pub(crate) fn has_text(
     alloc: Global,
     text: &[u8],
-    first: Taken,
-    taken: Taken,
-    outer: &Outer,
+    first: Extent,
+    taken: Extent,
+    outer: &OpenContainers,
     words: &[u8],
 ) -> Result<bool, AllocError>
     ensures { IfOk result (λ given. (line : List ℕ) (later : List (List ℕ))
@@ -133,14 +133,14 @@ fn has_label_end(text: &[u8]) -> bool
 {
     let mut from = 0;
     while from < text.len() {
-        let Some(offset) = memchr(b']', &text[from..]) else {
+        let Some(found) = memchr(b']', &text[from..]) else {
             return false;
         };
-        let place = from + offset;
-        if is_label_end(&text[place..]) {
+        let offset = from + found;
+        if is_label_end(&text[offset..]) {
             return true;
         }
-        from = place + 1;
+        from = offset + 1;
     }
     false
 }
@@ -212,10 +212,10 @@ pub fn add_content(
         BlockKind::Setext(_) => block.taken.lines.saturating_sub(1),
         _ => return Ok(()),
     };
-    let Some((_, first)) = Taken::nothing().next(lines) else {
+    let Some((_, first)) = Extent::nothing().next(lines) else {
         return Ok(());
     };
-    let outer = Outer::new(Extensions::none(), containers);
+    let outer = OpenContainers::new(Extensions::none(), containers);
     add_lines(content, lines, first, count, &outer, text)
 }
 
@@ -223,9 +223,9 @@ pub fn add_content(
 fn add_lines(
     content: &mut Vec<u8>,
     text: &[u8],
-    first: Taken,
+    first: Extent,
     count: usize,
-    outer: &Outer,
+    outer: &OpenContainers,
     words: &[u8],
 ) -> Result<(), AllocError>
     ensures { OnOk result ((line : List ℕ) → IsTaken text.now first (line ∷ [])
@@ -245,7 +245,7 @@ fn add_lines(
 }
 
 // What the line has in the containers.
-fn words_in<'a>(line: &'a [u8], outer: &Outer) -> &'a [u8]
+fn words_in<'a>(line: &'a [u8], outer: &OpenContainers) -> &'a [u8]
     ensures { result.now ≡ words_in outer.now.containers line.now }
 {
     let (_, mut start) = go_on(line, outer);

@@ -9,7 +9,7 @@ pub use crate::block_events::BlockEvents;
 use crate::byte_order_mark::text_start;
 use crate::containers::Container;
 pub use crate::leaf::Leaf;
-use crate::taken::Taken;
+use crate::taken::Extent;
 use crate::walk::Walk;
 use markdown_values::values::Extensions;
 use std::alloc::{AllocError, Global};
@@ -32,7 +32,7 @@ pub enum BlockEvent<'a> {
 pub struct Blocks<'a> {
     page: &'a [u8],
     // What stands before the next block.
-    before: Taken,
+    before: Extent,
     walk: Walk,
     // How many containers have begun and not ended, where no block is read.
     begun: usize,
@@ -49,6 +49,7 @@ impl<'a> Model for Blocks<'a> {
       extensions = b.walk.extensions;
       containers = b.walk.containers;
       term = b.walk.term;
+      paragraph = b.walk.paragraph;
       begun = b.begun;
       line = b.before.lines;
       start = b.before.bytes;
@@ -78,7 +79,7 @@ impl<'a> Blocks<'a> {
     {
         Blocks {
             page,
-            before: Taken {
+            before: Extent {
                 bytes: text_start(page),
                 lines: 0,
             },
@@ -136,7 +137,7 @@ impl<'a> Blocks<'a> {
             return Ok(());
         };
         let before = self.before;
-        self.before = Taken {
+        self.before = Extent {
             bytes: before.bytes + step.block.taken.bytes,
             lines: before.lines + step.block.taken.lines,
         };

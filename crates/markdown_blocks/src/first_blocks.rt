@@ -7,7 +7,7 @@ ghost use Rattle.markdown_values.specs.values.Extensions.{commonmark};
 ghost use Rattle.markdown_blocks.specs.events.Events.{Event, seen_event};
 ghost use Rattle.markdown_blocks.specs.first_blocks.FirstBlocks.{firsts_of, seen_first};
 ghost use Rattle.markdown_blocks.specs.first_blocks.Tasks.{AreTasksOf, is_box, is_task_text, task_at};
-ghost use Rattle.markdown_blocks.specs.first_blocks.Waiting.{first_at, firsts_behind, waiting_behind};
+ghost use Rattle.markdown_blocks.specs.first_blocks.Waiting.{first_at, firsts_after, waiting_next};
 ghost use Rattle.markdown_blocks.specs.lists.Lists.{Nodes, flatten};
 
 use crate::blank_lines::is_blank;
@@ -35,7 +35,7 @@ pub struct Task {
     /// Whether it is checked.
     pub is_checked: bool,
     /// How many bytes of the page stand before it.
-    pub place: usize,
+    pub offset: usize,
     /// How many bytes of the page, and of its paragraph's content, are the marker.
     pub len: usize,
 }
@@ -62,7 +62,7 @@ impl Model for FirstBlocks {
 impl FirstBlocks {
     /// Before the first event of a page.
     pub fn new() -> FirstBlocks
-        ensures found { (nodes : Nodes) → firsts_behind result (flatten nodes) ≡ firsts_of nodes }
+        ensures found { (nodes : Nodes) → firsts_after result (flatten nodes) ≡ firsts_of nodes }
         ensures start { result ≡ None }
     {
         FirstBlocks { waiting: None }
@@ -72,10 +72,10 @@ impl FirstBlocks {
     /// block, the two.
     pub fn read<'a>(&mut self, event: BlockEvent<'a>) -> Option<FirstBlock<'a>>
         ensures found { (events : List Event)
-            → firsts_behind self.old (seen_event event.entry ∷ events)
-            ≡ option_to_list (option_map seen_first result) ++ firsts_behind self.new events }
+            → firsts_after self.old (seen_event event.entry ∷ events)
+            ≡ option_to_list (option_map seen_first result) ++ firsts_after self.new events }
         ensures first { option_map seen_first result ≡ first_at self.old (seen_event event.entry) }
-        ensures state { self.new ≡ waiting_behind self.old (seen_event event.entry) }
+        ensures state { self.new ≡ waiting_next self.old (seen_event event.entry) }
     {
         let waiting = self.waiting;
         match event {
@@ -115,7 +115,7 @@ impl<'a> FirstBlock<'a> {
         let is_checked = start.scan_task_list_marker()?;
         Some(Task {
             is_checked,
-            place: self.leaf.place,
+            offset: self.leaf.offset,
             len: start.bytes_scanned(),
         })
     }
@@ -162,8 +162,8 @@ pub fn tasks_of_page_ext(
 // Reads the next event: the marker of the task list item whose first block it is.
 fn task_read(firsts: &mut FirstBlocks, event: BlockEvent) -> Option<Task>
     ensures { (events : List Event)
-        → filter_map task_at (firsts_behind firsts.old (seen_event event.entry ∷ events))
-        ≡ option_to_list result ++ filter_map task_at (firsts_behind firsts.new events) }
+        → filter_map task_at (firsts_after firsts.old (seen_event event.entry ∷ events))
+        ≡ option_to_list result ++ filter_map task_at (firsts_after firsts.new events) }
 {
     firsts.read(event)?.task()
 }

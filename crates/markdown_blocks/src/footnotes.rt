@@ -10,7 +10,7 @@ use markdown_scanners_tree::line::LineStart;
 use markdown_values::values::Extensions;
 
 /// The label of the footnote definition whose marker stands at the front of a text, if one does. Of
-/// a page and a `BlockEvent::Start` of a footnote definition the text is the page from its place on.
+/// a page and a `BlockEvent::Start` of a footnote definition the text is the page from its offset on.
 ///
 /// Labels match as those of links do.
 pub fn footnote_label(text: &[u8]) -> Option<&[u8]>
@@ -64,13 +64,13 @@ pub(crate) fn scan_footnote<'a>(
     ensures none { IfNone result (footnote_of extensions start.old ≡ None) }
     ensures unchanged { IfNone result (start.new ≡ start.old) }
     ensures bytes { start.new.bytes ≡ line.now }
-    ensures rises { IfSome result (λ _. start.old.place < start.new.place) }
+    ensures rises { IfSome result (λ _. start.old.offset < start.new.offset) }
 {
     if !extensions.footnotes {
         return None;
     }
-    let place = start.bytes_scanned();
-    let label = footnote_label(&line[place..])?;
+    let offset = start.bytes_scanned();
+    let label = footnote_label(&line[offset..])?;
     let mut after = further(line, start, label.len() + 4)?;
     pass_columns(&mut after);
     *start = after;
@@ -81,19 +81,19 @@ pub(crate) fn scan_footnote<'a>(
 fn further<'a>(line: &'a [u8], start: &LineStart, count: usize) -> Option<LineStart<'a>>
     requires { start.now.bytes ≡ line.now }
     ensures further { IfSome result (λ after. after ≡ bytes_further count start.now) }
-    ensures none { IfNone result (length line.now < start.now.place + count) }
+    ensures none { IfNone result (length line.now < start.now.offset + count) }
 {
-    let place = start.bytes_scanned().checked_add(count)?;
+    let offset = start.bytes_scanned().checked_add(count)?;
     let phase = (start.phase() + count % 4) % 4;
-    LineStart::resumed(line, place, start.remaining_space(), phase)
+    LineStart::resumed(line, offset, start.remaining_space(), phase)
 }
 
 // Passes all columns of space.
 fn pass_columns(start: &mut LineStart)
     requires { start.old.phase < 4 }
-    ensures place { start.new ≡ after_columns start.old }
+    ensures offset { start.new ≡ after_columns start.old }
     ensures bytes { start.new.bytes ≡ start.old.bytes }
-    ensures forward { start.old.place ≤ start.new.place }
+    ensures forward { start.old.offset ≤ start.new.offset }
 {
     while start.scan_space_upto(4) == 4 {}
 }

@@ -10,16 +10,16 @@ pub fn info_of(fence: &[u8], byte: u8) -> &[u8]
     ensures info { result.now ≡ info_of byte fence.now }
     ensures utf8 { byte < 128 → IsUtf8 fence.now → IsUtf8 result.now }
 {
-    let (_, behind) = fence.split_at(scan_ch_repeat(fence, byte));
-    without_end(without_front(line_head(behind)))
+    let (_, after) = fence.split_at(scan_ch_repeat(fence, byte));
+    without_end(without_front(line_head(after)))
 }
 
 /// The bytes without the spaces and tabs at their front.
 pub(crate) fn without_front(bytes: &[u8]) -> &[u8]
     ensures { result.now ≡ without_front bytes.now }
 {
-    let (_, behind) = bytes.split_at(scan_spaces_and_tabs(bytes));
-    behind
+    let (_, after) = bytes.split_at(scan_spaces_and_tabs(bytes));
+    after
 }
 
 /// The bytes without the spaces and tabs at their end.

@@ -5,6 +5,7 @@ ghost use Rattle.markdown_scanners_tree.specs.scanners.Breaks.{IsThematicBreak};
 ghost use Rattle.markdown_scanners_tree.specs.scanners.html_tag.HtmlTag.{IsTagAloneInLine};
 ghost use Rattle.markdown_blocks.specs.blank_lines.BlankLines.{is_blank};
 ghost use Rattle.markdown_blocks.specs.blocks.Leaves.{Begins, BeginsAt, IsHeading, IsHtmlStart, has_fed_signs};
+ghost use Rattle.markdown_blocks.specs.blocks.Pages.{is_paragraph_kind};
 
 use crate::blank_lines::is_blank;
 use crate::blocks::BlockKind;
@@ -28,6 +29,13 @@ pub(crate) fn kind_of(rest: &Rest) -> BlockKind
         return BlockKind::Indented;
     }
     kind_at(rest.text)
+}
+
+/// Whether the kind is that of a paragraph.
+pub(crate) fn is_paragraph(kind: BlockKind) -> bool
+    ensures { result ≡ is_paragraph_kind kind }
+{
+    matches!(kind, BlockKind::Paragraph)
 }
 
 // The same of what stands after at most three columns of indent.

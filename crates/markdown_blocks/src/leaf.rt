@@ -2,7 +2,7 @@
 ghost use Rattle.std.specs.Prelude.{◌+◌, ◌^◌, ◌<◌, ◌≤◌};
 
 use crate::blocks::{Block, BlockKind};
-use crate::taken::Taken;
+use crate::taken::Extent;
 
 /// A leaf block of a page.
 #[derive(Clone, Copy)]
@@ -22,7 +22,7 @@ pub struct Leaf<'a> {
     /// The text after that space, with its line ending.
     pub text: &'a [u8],
     /// How many bytes of the page stand before that text.
-    pub place: usize,
+    pub offset: usize,
     ghost before: { line ≤ start },
     ghost ends: { start + bytes < 2 ^ 64 },
     ghost fits: { line + lines < 2 ^ 64 },
@@ -32,7 +32,7 @@ pub struct Leaf<'a> {
 impl<'a> Leaf<'a> {
     ghost use Rattle.std.specs.Prelude.{◌≡◌};
 
-    /// The leaf block without its place, as `add_content` needs it.
+    /// The leaf block without its offset, as `add_content` needs it.
     pub fn block(&self) -> Block
         ensures kind { result.kind ≡ self.now.kind }
         ensures bytes { result.taken.bytes ≡ self.now.bytes }
@@ -40,7 +40,7 @@ impl<'a> Leaf<'a> {
     {
         Block {
             kind: self.kind,
-            taken: Taken {
+            taken: Extent {
                 bytes: self.bytes,
                 lines: self.lines,
             },

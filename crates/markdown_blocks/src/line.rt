@@ -1,9 +1,9 @@
 //! A line where containers are open.
 ghost use Rattle.std.specs.Prelude.{◌≡◌, is_some, true, IfSome, IfNone, IsTrue};
-ghost use Rattle.markdown_blocks.specs.containers.Containers.{asked_in, begun_at, behind, rest_in, IsInside};
+ghost use Rattle.markdown_blocks.specs.containers.Containers.{asked_in, begun_at, match_line, rest_in, IsInside};
 
 use crate::bullets::plain_bullet;
-use crate::containers::{Outer, go_on, scan_container};
+use crate::containers::{OpenContainers, go_on, scan_container};
 use crate::rest::{Rest, scan_rest};
 use crate::terms::asked_first;
 use markdown_scanners_tree::line::LineStart;
@@ -13,11 +13,11 @@ use std::marker::Model;
 /// A line where containers are open. It is led past them once, whatever is asked of it then.
 #[derive(Drop)]
 pub(crate) struct Line<'a> {
-    outer: &'a Outer<'a>,
+    outer: &'a OpenContainers<'a>,
     bytes: &'a [u8],
     // How many of the open containers it goes on with.
     kept: usize,
-    // What it has after the containers that it goes on with, and the place after the space there.
+    // What it has after the containers that it goes on with, and the offset after the space there.
     rest: Rest<'a>,
     after: LineStart<'a>,
 }
@@ -25,24 +25,24 @@ pub(crate) struct Line<'a> {
 impl<'a> Model for Line<'a> {
     ghost use Rattle.std.specs.Prelude.{◌≡◌, ◌≤◌, length};
     ghost use Rattle.markdown_scanners_tree.specs.line.State.{after_space};
-    ghost use Rattle.markdown_blocks.specs.containers.Containers.{Line, behind, rest_in};
+    ghost use Rattle.markdown_blocks.specs.containers.Containers.{Line, match_line, rest_in};
 
     ghost Value = { Line };
 
     ghost view = { λ l. record { outer = l.outer.now; bytes = l.bytes.now } };
 
     ghost invariant = { λ l.
-        (l.kept ≡ (behind l.outer.now.containers l.bytes.now).kept)
+        (l.kept ≡ (match_line l.outer.now.containers l.bytes.now).kept)
         × (l.kept ≤ length l.outer.now.containers)
         × (l.rest ≡ rest_in l.outer.now.containers l.bytes.now)
-        × (l.after ≡ after_space 4 (behind l.outer.now.containers l.bytes.now).state)
+        × (l.after ≡ after_space 4 (match_line l.outer.now.containers l.bytes.now).state)
         × (l.after.bytes ≡ l.bytes.now) };
 }
 
 impl<'a> Line<'a> {
     /// The line where these containers are open.
     #[inline(always)]
-    pub(crate) fn new(bytes: &'a [u8], outer: &'a Outer<'a>) -> Line<'a>
+    pub(crate) fn new(bytes: &'a [u8], outer: &'a OpenContainers<'a>) -> Line<'a>
         ensures { result ≡ record { outer = outer.now; bytes = bytes.now } }
     {
         let (kept, mut start) = go_on(bytes, outer);
@@ -57,7 +57,7 @@ impl<'a> Line<'a> {
     }
 
     /// The open containers.
-    pub(crate) fn outer(&self) -> &Outer<'a>
+    pub(crate) fn outer(&self) -> &OpenContainers<'a>
         ensures { result.now ≡ self.now.outer }
     {
         self.outer
@@ -94,7 +94,7 @@ impl<'a> Line<'a> {
     /// Whether it begins a container after those that it goes on with.
     pub(crate) fn begins_container(&self) -> bool
         ensures { result ≡ is_some (begun_at (asked_in self.now.outer self.now.bytes)
-            (behind self.now.outer.containers self.now.bytes).state) }
+            (match_line self.now.outer.containers self.now.bytes).state) }
     {
         if self.begins_plain_item() {
             return true;
@@ -109,7 +109,7 @@ impl<'a> Line<'a> {
     // Whether it begins an item with a plain bullet, as most that begin a container do.
     fn begins_plain_item(&self) -> bool
         ensures { IsTrue result → is_some (begun_at (asked_in self.now.outer self.now.bytes)
-            (behind self.now.outer.containers self.now.bytes).state) ≡ true }
+            (match_line self.now.outer.containers self.now.bytes).state) ≡ true }
     {
         let rest = self.rest();
         if rest.indent == 4 || self.after.remaining_space() > 0 {

@@ -23,7 +23,7 @@ ghost use Rattle.markdown_scanners_tree.specs.scanners.TextLines.{lines_of};
 use crate::byte_order_mark::text_start;
 use crate::definitions::{count_lines, scan_definition};
 use crate::foldings::{Folding, SHORT};
-use crate::taken::Taken;
+use crate::taken::Extent;
 use crate::walk::Walk;
 use caseless::default_case_fold_str;
 use markdown_scanners_tree::linklabel::scan_link_label_bytes;
@@ -257,8 +257,8 @@ impl<'a> LinkDefinitions<'a> {
     pub fn add_content(&mut self, content: &[u8], lines: &'a [u8]) -> Result<(), AllocError>
         ensures added { OnOk result ((named : List Named) × Names content.now named
             × ((asked : List ℕ) → known_as self.new asked ≡ known_before self.old named asked)) }
-        ensures refused { IfErr result (λ _. (place : ℕ)
-            × AreAddedUpTo place content.now self.old self.new) }
+        ensures refused { IfErr result (λ _. (offset : ℕ)
+            × AreAddedUpTo offset content.now self.old self.new) }
     {
         // Most blocks begin with no definition, and have no content gathered.
         if content.is_empty() {
@@ -269,7 +269,7 @@ impl<'a> LinkDefinitions<'a> {
         while let Some(definition) = scan_definition(&content[used..]) {
             let text = &content[used..];
             self.add_first(text, &definition, rest)?;
-            rest = place_in(rest, text, definition.len);
+            rest = offset_in(rest, text, definition.len);
             used += definition.len;
         }
         Ok(())
@@ -281,7 +281,7 @@ impl<'a> LinkDefinitions<'a> {
         &mut self,
         content: &[u8],
         lines: &'a [u8],
-    ) -> Result<Option<Taken>, AllocError>
+    ) -> Result<Option<Extent>, AllocError>
         ensures found { IfOk result (λ found. IfSome found (λ taken.
             (definition : ReferenceDefinition) × IsDefinition content.now definition
             × (taken.bytes ≡ definition.len)
@@ -419,7 +419,7 @@ fn read_range<'a>(
         is_lent found ≡ is_run_in lines.now text.now range.now) }
 {
     let bytes = &text[range.start..range.end];
-    let there = place_in(lines, text, range.start);
+    let there = offset_in(lines, text, range.start);
     if there.starts_with(bytes) {
         return Ok(CowSlice::Borrowed(&there[..bytes.len()]));
     }
@@ -429,7 +429,7 @@ fn read_range<'a>(
 }
 
 // What of the lines begins with the byte at the offset of a text whose lines are the ends of these.
-fn place_in<'a>(lines: &'a [u8], text: &[u8], offset: usize) -> &'a [u8]
+fn offset_in<'a>(lines: &'a [u8], text: &[u8], offset: usize) -> &'a [u8]
     ensures { result.now ≡ from_byte offset (lines_of text.now) (lines_of lines.now) }
 {
     let mut left = text;

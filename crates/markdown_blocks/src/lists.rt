@@ -5,7 +5,7 @@ ghost use Rattle.std.specs.Option.{option_to_list};
 ghost use Rattle.markdown_values.specs.values.Extensions.{commonmark};
 ghost use Rattle.markdown_blocks.specs.events.Events.{Event, seen_event, seen_leaf, leaf, ends};
 ghost use Rattle.markdown_blocks.specs.lists.Lists.{AreListsOf, Nodes, flatten, lists_of};
-ghost use Rattle.markdown_blocks.specs.lists.Tracked.{Tracked, at_start, read, start_read, closed, lists_behind, joins, loosened, list_begun, begun};
+ghost use Rattle.markdown_blocks.specs.lists.Tracked.{Tracked, at_start, read, start_read, closed, lists_given, joins, loosened, list_begun, begun};
 ghost use Rattle.markdown_blocks.specs.lists.Tracked.{level_within};
 
 use crate::blocks::BlockKind;
@@ -84,7 +84,7 @@ impl Model for Lists {
 impl Lists {
     /// Before the first event of a page.
     pub fn new(alloc: Global) -> Lists
-        ensures lists { (nodes : Nodes) → lists_behind result (flatten nodes) ≡ lists_of nodes }
+        ensures lists { (nodes : Nodes) → lists_given result (flatten nodes) ≡ lists_of nodes }
         ensures start { result ≡ at_start }
     {
         Lists {
@@ -107,8 +107,8 @@ impl Lists {
     /// event may be read again.
     pub fn read(&mut self, event: BlockEvent) -> Result<Option<ListBlock>, AllocError>
         ensures ended { IfOk result (λ ended. (events : List Event)
-            → lists_behind self.old (seen_event event.entry ∷ events)
-            ≡ option_to_list ended ++ lists_behind self.new events) }
+            → lists_given self.old (seen_event event.entry ∷ events)
+            ≡ option_to_list ended ++ lists_given self.new events) }
         ensures list { IfOk result (λ ended.
             ended ≡ (read self.old (seen_event event.entry)).list) }
         ensures state { OnOk result (self.new
@@ -124,7 +124,7 @@ impl Lists {
 
     /// The list that the last event of the page has left open, if any, which the end of the page ends.
     pub fn finish(&self) -> Option<ListBlock>
-        ensures lists { lists_behind self.now [] ≡ option_to_list result }
+        ensures lists { lists_given self.now [] ≡ option_to_list result }
         ensures list { result ≡ closed self.now }
     {
         self.current()

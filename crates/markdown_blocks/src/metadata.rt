@@ -66,7 +66,7 @@ fn metadata_of_text(
 {
     let (_, byte) = scan_metadata_block(text, yaml_style_enabled, pluses_style_enabled)?;
     let start = scan_nextline(text);
-    let end = closing_place(text, start, byte)?;
+    let end = closing_offset(text, start, byte)?;
     Some(Metadata {
         kind: style_of(byte),
         start,
@@ -86,20 +86,20 @@ fn style_of(byte: u8) -> MetadataBlockKind
     }
 }
 
-// The first place after this one where a line begins that closes a block which the byte opened.
-fn closing_place(page: &[u8], start: usize, byte: u8) -> Option<usize>
+// The first offset after this one where a line begins that closes a block which the byte opened.
+fn closing_offset(page: &[u8], start: usize, byte: u8) -> Option<usize>
     requires { start ≤ length page.now }
     ensures found { IfSome result (λ end. (start < end) × ClosesAt page.now byte end) }
-    ensures first { IfSome result (λ end. (place : ℕ) → start < place → place < end
-        → ¬ ClosesAt page.now byte place) }
-    ensures none { IfNone result ((place : ℕ) → start < place → ¬ ClosesAt page.now byte place) }
+    ensures first { IfSome result (λ end. (offset : ℕ) → start < offset → offset < end
+        → ¬ ClosesAt page.now byte offset) }
+    ensures none { IfNone result ((offset : ℕ) → start < offset → ¬ ClosesAt page.now byte offset) }
     ensures within { IfSome result (λ end. end ≤ length page.now) }
 {
-    let mut place = start;
-    while place < page.len() {
-        place += scan_nextline(&page[place..]);
-        if scan_closing_metadata_block(&page[place..], byte).is_some() {
-            return Some(place);
+    let mut offset = start;
+    while offset < page.len() {
+        offset += scan_nextline(&page[offset..]);
+        if scan_closing_metadata_block(&page[offset..], byte).is_some() {
+            return Some(offset);
         }
     }
     None

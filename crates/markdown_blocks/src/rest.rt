@@ -22,15 +22,15 @@ impl<'a> Model for Rest<'a> {
     ghost view = { λ r. record { indent = r.indent; text = r.text.now } };
 }
 
-/// The rest of the line at a place, which stands after its space then.
+/// The rest of the line at an offset, which stands after its space then.
 #[inline(always)]
 pub(crate) fn scan_rest<'a>(line: &'a [u8], start: &mut LineStart) -> Rest<'a>
     requires { start.old.bytes ≡ line.now }
     ensures rest { result ≡ rest_at start.old }
-    ensures place { start.new ≡ after_space 4 start.old }
+    ensures offset { start.new ≡ after_space 4 start.old }
     ensures bytes { start.new.bytes ≡ line.now }
-    ensures forward { start.old.place ≤ start.new.place }
-    ensures within { start.new.place ≤ length line.now }
+    ensures forward { start.old.offset ≤ start.new.offset }
+    ensures within { start.new.offset ≤ length line.now }
 {
     let indent = start.scan_space_upto(4);
     Rest {

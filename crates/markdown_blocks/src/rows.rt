@@ -6,11 +6,11 @@ ghost use Rattle.markdown_scanners_tree.specs.scanners.TextLines.{lines_of};
 ghost use Rattle.markdown_blocks.specs.declared.containers.Container.{Container};
 ghost use Rattle.markdown_blocks.specs.rows.Rows.{AreAlignments, AreGiven, body_rows, first_row, later_rows, row_at, rows_of, seen_row};
 
-use crate::containers::{Container, Outer, go_on};
-use crate::content::parts::first_place;
+use crate::containers::{Container, OpenContainers, go_on};
+use crate::content::parts::first_offset;
 use crate::delimiter_rows::alignments_in;
 use crate::rest::{Rest, scan_rest};
-use crate::taken::Taken;
+use crate::taken::Extent;
 use markdown_scanners_tree::line::LineStart;
 use markdown_values::values::{Alignment, Extensions};
 use std::alloc::{AllocError, Global};
@@ -20,7 +20,7 @@ use std::marker::Model;
 #[derive(Clone, Copy)]
 pub struct Row<'a> {
     /// How many bytes of the table's lines stand before its text.
-    pub place: usize,
+    pub offset: usize,
     /// What its line has after its containers and its indent, with the line ending.
     pub text: &'a [u8],
 }
@@ -29,10 +29,10 @@ pub struct Row<'a> {
 #[derive(Drop)]
 pub struct Rows<'a> {
     lines: &'a [u8],
-    outer: Outer<'a>,
+    outer: OpenContainers<'a>,
     // The head, unless it is given, and the lines that are read.
     head: Option<Row<'a>>,
-    read: Taken,
+    read: Extent,
 }
 
 impl<'a> Model for Rows<'a> {
@@ -71,16 +71,16 @@ impl<'a> Iterator for Rows<'a> {
 pub fn rows_of<'a>(lines: &'a [u8], containers: &'a [Container], kept: usize) -> Rows<'a>
     ensures rows { result ≡ rows_of kept containers.now (lines_of lines.now) }
 {
-    let outer = Outer::new(Extensions::none(), containers);
-    let Some((line, read)) = Taken::nothing().next(lines) else {
+    let outer = OpenContainers::new(Extensions::none(), containers);
+    let Some((line, read)) = Extent::nothing().next(lines) else {
         return Rows {
             lines,
             outer,
             head: None,
-            read: Taken::nothing(),
+            read: Extent::nothing(),
         };
     };
-    let head = row_at(line, first_place(line, containers, kept), 0);
+    let head = row_at(line, first_offset(line, containers, kept), 0);
     Rows {
         lines,
         outer,
@@ -90,7 +90,7 @@ pub fn rows_of<'a>(lines: &'a [u8], containers: &'a [Container], kept: usize) ->
 }
 
 // With the line after these, if there is one.
-fn with_next(lines: &[u8], read: Taken) -> Taken
+fn with_next(lines: &[u8], read: Extent) -> Extent
     ensures { (outer : List Container)
         → later_rows outer result.bytes (lines_of (drop result.bytes lines.now))
         ≡ body_rows outer read.bytes (lines_of (drop read.bytes lines.now)) }
@@ -101,7 +101,7 @@ fn with_next(lines: &[u8], read: Taken) -> Taken
     }
 }
 
-// The row that a line is, before which so many bytes stand, by the place after its containers.
+// The row that a line is, before which so many bytes stand, by the offset after its containers.
 fn row_at<'a>(line: &'a [u8], mut start: LineStart, before: usize) -> Row<'a>
     requires line { start.bytes ≡ line.now }
     requires fits { before + length line.now < 2 ^ 64 }
@@ -109,7 +109,7 @@ fn row_at<'a>(line: &'a [u8], mut start: LineStart, before: usize) -> Row<'a>
 {
     let rest = scan_rest(line, &mut start);
     Row {
-        place: before + start.bytes_scanned(),
+        offset: before + start.bytes_scanned(),
         text: rest.text,
     }
 }
@@ -128,13 +128,13 @@ pub fn alignments_of(
     ensures alignments { IfOk result (λ found.
         AreAlignments containers.now (lines_of lines.now) found.items) }
 {
-    let Some((_, read)) = Taken::nothing().next(lines) else {
+    let Some((_, read)) = Extent::nothing().next(lines) else {
         return Ok(Vec::new(alloc));
     };
     let Some((line, _)) = read.next(lines) else {
         return Ok(Vec::new(alloc));
     };
-    let outer = Outer::new(Extensions::none(), containers);
+    let outer = OpenContainers::new(Extensions::none(), containers);
     let (_, mut start) = go_on(line, &outer);
     let rest = scan_rest(line, &mut start);
     columns_of(alloc, &rest)

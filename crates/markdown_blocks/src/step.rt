@@ -13,7 +13,7 @@ pub struct Step<'a> {
     /// How many of the containers that were open the first line goes on with. The walk has the
     /// others, which it begins, after them.
     pub kept: usize,
-    /// The first line, and its place after the containers that it goes on with.
+    /// The first line, and its offset after the containers that it goes on with.
     pub line: &'a [u8],
     pub start: LineStart<'a>,
     /// How many columns of space stand after the containers, at most four.
@@ -32,12 +32,12 @@ pub struct Step<'a> {
 
 impl<'a> Step<'a> {
     ghost use Rattle.std.specs.Prelude.{◌≡◌};
-    ghost use Rattle.markdown_blocks.specs.containers.Containers.{marker_place, after_marker};
+    ghost use Rattle.markdown_blocks.specs.containers.Containers.{marker_start, after_marker};
 
     /// The offset in the line of the marker of the next container that it begins: at the first call
     /// the one after those that it goes on with. `start` stands after that marker then.
     pub fn pass_marker(&mut self) -> usize
-        ensures place { result ≡ marker_place self.old.start }
+        ensures offset { result ≡ marker_start self.old.start }
         ensures passed { self.new.start ≡ after_marker self.old.start }
         ensures kept { self.new.kept ≡ self.old.kept }
         ensures indent { self.new.indent ≡ self.old.indent }
@@ -47,8 +47,8 @@ impl<'a> Step<'a> {
         ensures lines { self.new.lines ≡ self.old.lines }
     {
         let indent = self.start.scan_space_upto(4);
-        let place = self.start.bytes_scanned();
+        let offset = self.start.bytes_scanned();
         scan_container(self.line, &mut self.start, indent, all_containers());
-        place
+        offset
     }
 }

@@ -4,28 +4,27 @@ ghost use Rattle.std.specs.Prelude.{◌≡◌, ◌↔◌, ◌≤◌, ◌++◌, L
 ghost use Rattle.markdown_scanners_tree.specs.Ascii.{space};
 ghost use Rattle.markdown_scanners_tree.specs.SomeExactly.{SomeExactly};
 ghost use Rattle.markdown_scanners_tree.specs.scanners.TextLines.{lines_of};
-ghost use Rattle.markdown_blocks.specs.blocks.Leaves.{Begins, In, IsHeader, IsRow, StopsBefore};
+ghost use Rattle.markdown_blocks.specs.blocks.Leaves.{Begins, In, IsRow, StopsBefore};
 ghost use Rattle.markdown_blocks.specs.blocks.Tables.{cells, separates, separators, ends_separated};
 ghost use Rattle.markdown_blocks.specs.delimiter_rows.DelimiterRows.{IsDelimiter};
 ghost use Rattle.markdown_blocks.specs.declared.blocks.BlockKind.TheVariants.{Paragraph};
 ghost use Rattle.markdown_blocks.specs.taken.Lines.{IsTaken};
 
 use crate::blocks::BlockKind;
-use crate::containers::Outer;
+use crate::containers::OpenContainers;
 use crate::delimiter_rows::count_columns;
-use crate::info::without_end;
+use crate::info::{without_end, without_front};
 use crate::kinds::kind_of;
 use crate::line::Line;
 use crate::rest::Rest;
-use crate::taken::Taken;
-use crate::terms::defines_term;
+use crate::taken::Extent;
 use markdown_scanners_tree::scanners::line_head;
 
 /// How many cells a line with this text has as a row.
 pub(crate) fn count_cells(text: &[u8]) -> u128
     ensures { result ≡ cells text.now }
 {
-    let row = without_end(line_head(text));
+    let row = without_front(without_end(line_head(text)));
     let (count, is_last) = count_separators(row);
     let is_first = matches!(row, [b'|', ..]);
     (count as u128 + 1)
@@ -77,7 +76,7 @@ fn columns_of(rest: &Rest) -> Option<usize>
 }
 
 /// The lines, and the rows of a table that stand directly after them.
-pub(crate) fn take_rows<'a>(text: &'a [u8], first: Taken, outer: &'a Outer<'a>) -> Taken
+pub(crate) fn take_rows<'a>(text: &'a [u8], first: Extent, outer: &'a OpenContainers<'a>) -> Extent
     ensures { (lines : List (List ℕ)) → IsTaken text.now first lines
         → (more : List (List ℕ)) × IsTaken text.now result (lines ++ more)
         × StopsBefore (λ line. ¬ IsRow outer.now line) more
@@ -91,13 +90,6 @@ pub(crate) fn take_rows<'a>(text: &'a [u8], first: Taken, outer: &'a Outer<'a>) 
         taken = more;
     }
     taken
-}
-
-/// Whether the line may be the header row of a table that begins after other lines of its paragraph.
-pub(crate) fn is_header(line: &Line) -> bool
-    ensures { IsTrue result ↔ IsHeader line.now.outer line.now.bytes }
-{
-    is_row(line) && !defines_term(line.rest(), line.outer().extensions())
 }
 
 // Whether the line is a row of a table in the containers.

@@ -99,14 +99,14 @@ pub(crate) fn scan_term_definition(
     ensures none { IfNone result (term_definition_of extensions indent start.old ≡ None) }
     ensures unchanged { IfNone result (start.new ≡ start.old) }
     ensures bytes { start.new.bytes ≡ line.now }
-    ensures rises { IfSome result (λ _. start.old.place < start.new.place) }
+    ensures rises { IfSome result (λ _. start.old.offset < start.new.offset) }
 {
     if !extensions.definition_lists {
         return None;
     }
     let width = start.scan_definition_list_definition_marker_with_indent(indent)?;
     Some(Container::TermDefinition(DefinitionItem {
-        begun: is_blank(&line[start.bytes_scanned()..]),
+        starts_blank: is_blank(&line[start.bytes_scanned()..]),
         width: width as u8,
     }))
 }

@@ -9,29 +9,29 @@ use Rattle.std.proofs.lemmas.List.{append_cancel_left, drop_all, take-append-dro
 use Rattle.markdown_scanners_tree.specs.line.State.{LineState, space_within, after_space}
 use Rattle.markdown_scanners_tree.specs.scanners.TextLines.{ends_line, with_first, lines_of}
 use Rattle.markdown_blocks.proofs.taken.TakenLemmas.{lines_bytes}
-use Rattle.markdown_blocks.specs.containers.Containers.{all_containers, begun_behind, begun_at, after_marker}
+use Rattle.markdown_blocks.specs.containers.Containers.{all_containers, begun_after, begun_at, after_marker}
 use Rattle.markdown_blocks.specs.declared.containers.Container.{Container}
-use Rattle.markdown_blocks.specs.declared.taken.Taken.{Taken}
+use Rattle.markdown_blocks.specs.declared.taken.Extent.{Extent}
 use Rattle.markdown_blocks.specs.events.Events.{first_of}
 use Rattle.markdown_blocks.specs.taken.Lines.{IsTaken}
 
 -- a marker is passed where one stands, and the space before it else
 pub marker_passed : (s t next : LineState) (indent : ℕ) (found : Option Container) → indent ≡ space_within 4 s → t ≡ after_space 4 s
-    → IfSome found (λ c. begun_behind all_containers indent t ≡ Some (c, next)) → IfNone found (begun_behind all_containers indent t ≡ None)
+    → IfSome found (λ c. begun_after all_containers indent t ≡ Some (c, next)) → IfNone found (begun_after all_containers indent t ≡ None)
     → IfNone found (next ≡ t)
     → next ≡ after_marker s
 marker_passed s t next indent (Some c) columns state found none same =
     let here : begun_at all_containers s ≡ Some (c, next) =
-    subst (λ n. begun_behind all_containers n (after_space 4 s) ≡ Some (c, next)) columns
-    (subst (λ z. begun_behind all_containers indent z ≡ Some (c, next)) state found) in
+    subst (λ n. begun_after all_containers n (after_space 4 s) ≡ Some (c, next)) columns
+    (subst (λ z. begun_after all_containers indent z ≡ Some (c, next)) state found) in
     rw (after_marker, here) refl
 marker_passed s t next indent None columns state found none same =
     let here : begun_at all_containers s ≡ None =
-    subst (λ n. begun_behind all_containers n (after_space 4 s) ≡ None) columns (subst (λ z. begun_behind all_containers indent z ≡ None) state none) in
+    subst (λ n. begun_after all_containers n (after_space 4 s) ≡ None) columns (subst (λ z. begun_after all_containers indent z ≡ None) state none) in
     rw (after_marker, here) (same ∙ state)
 
 -- the lines that are taken are the first ones, so many or all
-pub taken_front : (text : List ℕ) (taken : Taken) (lines : List (List ℕ)) (count : ℕ) → IsTaken text taken lines → length lines ≤ count
+pub taken_front : (text : List ℕ) (taken : Extent) (lines : List (List ℕ)) (count : ℕ) → IsTaken text taken lines → length lines ≤ count
     → (¬ (length lines < count)) ⊎ (lines_of (drop taken.bytes text) ≡ []) → IsTaken text taken (take count (lines_of text))
 taken_front text taken lines count h few done = subst (IsTaken text taken) (sym (same done)) h
   where
@@ -43,7 +43,7 @@ taken_front text taken lines count h few done = subst (IsTaken text taken) (sym 
         ap (take count) (h.parts ∙ ap (λ ls. lines ++ ls) none ∙ append-nil lines) ∙ take_all count lines few
 
 -- all lines are taken where there are no more
-pub all_taken : (text : List ℕ) (count : ℕ) (taken : Taken) → taken.bytes ≡ length text → taken.lines ≡ length (lines_of text)
+pub all_taken : (text : List ℕ) (count : ℕ) (taken : Extent) → taken.bytes ≡ length text → taken.lines ≡ length (lines_of text)
     → length (lines_of text) ≤ count → IsTaken text taken (take count (lines_of text))
 all_taken text count taken bytes lines few = record {
   within = omega (arith, bytes);
@@ -56,14 +56,14 @@ all_taken text count taken bytes lines few = record {
     all = take_all count (lines_of text) few
 
 -- the first lines of a text, and its rest
-pub record Front (text : List ℕ) (count : ℕ) (taken : Taken) (rest : List ℕ) : Type 0 where
+pub record Front (text : List ℕ) (count : ℕ) (taken : Extent) (rest : List ℕ) : Type 0 where
   pub lines_are : lines_of rest ≡ drop count (lines_of text)
   pub counted : taken.lines ≡ length (take count (lines_of text))
   pub bytes_are : taken.bytes ≡ length (concat (take count (lines_of text)))
   pub lines_left : length (lines_of text) ≡ taken.lines + length (lines_of rest)
   pub bytes_left : length text ≡ taken.bytes + length rest
 
-pub front_is : (text : List ℕ) (count : ℕ) (taken : Taken) (rest : List ℕ) → rest ≡ drop taken.bytes text
+pub front_is : (text : List ℕ) (count : ℕ) (taken : Extent) (rest : List ℕ) → rest ≡ drop taken.bytes text
     → IsTaken text taken (take count (lines_of text)) → Front text count taken rest
 front_is text count taken rest is h =
     let first = take count (lines_of text) in
@@ -90,7 +90,7 @@ lines_few (b ∷ bs) = by (ends_line (b ∷ bs)) refl (lines_few bs)
     by false is few = rw is (omega (arith, few, one_more (lines_of bs)))
 
 -- lines that have a byte are some
-pub some_taken : (text : List ℕ) (taken : Taken) (lines : List (List ℕ)) → IsTaken text taken lines → 0 < taken.bytes → 0 < taken.lines
+pub some_taken : (text : List ℕ) (taken : Extent) (lines : List (List ℕ)) → IsTaken text taken lines → 0 < taken.bytes → 0 < taken.lines
 some_taken text taken [] h some = absurd (omega (arith, some, lines_bytes text taken.bytes [] h.within h.parts))
 some_taken text taken (l ∷ lines) h some = omega (arith, h.counted)
 

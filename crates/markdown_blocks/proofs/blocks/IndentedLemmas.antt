@@ -6,9 +6,9 @@ use Rattle.std.proofs.lemmas.Bool.Decides.{eqb_tells}
 use Rattle.std.proofs.Math.Dec.{eqb}
 use Rattle.markdown_scanners_tree.specs.scanners.TextLines.{lines_of}
 use Rattle.markdown_blocks.specs.blank_lines.BlankLines.{is_blank}
-use Rattle.markdown_blocks.specs.containers.Containers.{Outer, behind, IsInside, rest_in}
+use Rattle.markdown_blocks.specs.containers.Containers.{OpenContainers, match_line, IsInside, rest_in}
 use Rattle.markdown_blocks.specs.declared.blocks.Ending.TheVariants.{Text}
-use Rattle.markdown_blocks.specs.declared.taken.Taken.{Taken}
+use Rattle.markdown_blocks.specs.declared.taken.Extent.{Extent}
 use Rattle.markdown_blocks.specs.taken.Lines.{IsTaken, IsNext}
 use Rattle.markdown_blocks.specs.blocks.Endings.{IsEnd}
 use Rattle.markdown_blocks.specs.blocks.Leaves.{HasIndent, In, IsBlankIn, EndsIndented, NoMoreIndented, LastHasText, GoesOnIndented}
@@ -18,7 +18,7 @@ all-append : (P : List ℕ → Type 0) (xs ys : List (List ℕ)) → AllByRecurs
 all-append P [] ys all more = more
 all-append P (x ∷ xs) ys all more = (all.0, all-append P xs ys all.1 more)
 
-module _ (outer : Outer) where
+module _ (outer : OpenContainers) where
   abbrev Inside : List ℕ → Type 0
   Inside line = ¬ EndsIndented outer.containers line
 
@@ -41,11 +41,11 @@ module _ (outer : Outer) where
 
   -- a line that ends nothing by its text is blank
   pub blank_given : (line : List ℕ) → ¬ IsEnd outer Text line → IsBlankIn outer.containers line
-  blank_given line none = by (eqb_tells (behind outer.containers line).kept (length outer.containers))
+  blank_given line none = by (eqb_tells (match_line outer.containers line).kept (length outer.containers))
       (cases_Bool (is_blank (rest_in outer.containers line).text))
     where
-      by : ((eqb (behind outer.containers line).kept (length outer.containers) ≡ true) × IsInside outer.containers line)
-          ⊎ ((eqb (behind outer.containers line).kept (length outer.containers) ≡ false) ×
+      by : ((eqb (match_line outer.containers line).kept (length outer.containers) ≡ true) × IsInside outer.containers line)
+          ⊎ ((eqb (match_line outer.containers line).kept (length outer.containers) ≡ false) ×
           (¬ IsInside outer.containers line))
           → (is_blank (rest_in outer.containers line).text ≡ true) ⊎ (is_blank (rest_in outer.containers line).text ≡ false) → IsBlankIn outer.containers line
       by (inr out) blank = absurd (none (inl out.1))
@@ -67,7 +67,7 @@ module _ (outer : Outer) where
   no_more-blank (b ∷ blanks) rest all none = inl (all.0, no_more-blank blanks rest all.1 none)
 
   -- what is taken of the code after its first lines, and what is seen: blank lines more
-  pub record Seen (text : List ℕ) (lines : List (List ℕ)) (taken seen : Taken) : Type 0 where
+  pub record Seen (text : List ℕ) (lines : List (List ℕ)) (taken seen : Extent) : Type 0 where
     pub more : List (List ℕ)
     pub blanks : List (List ℕ)
     pub is_taken : IsTaken text taken (lines ++ more)
@@ -75,10 +75,10 @@ module _ (outer : Outer) where
     pub inside : AllByRecursion Inside more
     pub last : LastHasText outer.containers more
     pub all_blank : AllByRecursion (IsBlankIn outer.containers) blanks
-    pub behind : lines_of (drop taken.bytes text) ≡ blanks ++ lines_of (drop seen.bytes text)
+    pub after : lines_of (drop taken.bytes text) ≡ blanks ++ lines_of (drop seen.bytes text)
 
   module _ (text : List ℕ) (lines : List (List ℕ)) where
-    pub seen-first : (first : Taken) → IsTaken text first lines → Seen text lines first first
+    pub seen-first : (first : Extent) → IsTaken text first lines → Seen text lines first first
     seen-first first h =
         record {
           more = [];
@@ -88,10 +88,10 @@ module _ (outer : Outer) where
           inside = tt;
           last = tt;
           all_blank = tt;
-          behind = refl;
+          after = refl;
         }
 
-    pub seen-blank : (taken seen more : Taken) (l : List ℕ) → Seen text lines taken seen → IsNext text seen l more → IsBlankIn outer.containers l
+    pub seen-blank : (taken seen more : Extent) (l : List ℕ) → Seen text lines taken seen → IsNext text seen l more → IsBlankIn outer.containers l
         → Seen text lines taken more
     seen-blank taken seen more l s n blank = record {
       more = s.more;
@@ -101,10 +101,10 @@ module _ (outer : Outer) where
       inside = s.inside;
       last = s.last;
       all_blank = all-push (IsBlankIn outer.containers) s.blanks l s.all_blank blank;
-      behind = s.behind ∙ ap (λ r. s.blanks ++ r) n.parts ∙ sym (append_assoc s.blanks (l ∷ []) (lines_of (drop more.bytes text)));
+      after = s.after ∙ ap (λ r. s.blanks ++ r) n.parts ∙ sym (append_assoc s.blanks (l ∷ []) (lines_of (drop more.bytes text)));
     }
 
-    pub seen-code : (taken seen more : Taken) (l : List ℕ) → Seen text lines taken seen → IsNext text seen l more → IsEnd outer Text l
+    pub seen-code : (taken seen more : Extent) (l : List ℕ) → Seen text lines taken seen → IsNext text seen l more → IsEnd outer Text l
         → In outer.containers HasIndent l
         → Seen text lines more more
     seen-code taken seen more l s n has_text indent =
@@ -119,11 +119,11 @@ module _ (outer : Outer) where
               (code_inside l indent));
           last = rw (← append_assoc) (last-push (s.more ++ s.blanks) l (code_has_text l has_text indent));
           all_blank = tt;
-          behind = refl;
+          after = refl;
         }
 
     -- the code ends where its taken lines do
-    pub seen-ends : (taken seen : Taken) → Seen text lines taken seen → NoMoreIndented outer.containers (lines_of (drop seen.bytes text))
+    pub seen-ends : (taken seen : Extent) → Seen text lines taken seen → NoMoreIndented outer.containers (lines_of (drop seen.bytes text))
         → (more : List (List ℕ)) × IsTaken text taken (lines ++ more) × GoesOnIndented outer.containers more (lines_of (drop taken.bytes text))
     seen-ends taken seen s none = (
       s.more,
@@ -131,6 +131,6 @@ module _ (outer : Outer) where
       record {
         inside = s.inside;
         last = s.last;
-        stopped = rw s.behind (no_more-blank s.blanks (lines_of (drop seen.bytes text)) s.all_blank none);
+        stopped = rw s.after (no_more-blank s.blanks (lines_of (drop seen.bytes text)) s.all_blank none);
       },
     )

@@ -4,13 +4,13 @@ use Rattle.std.specs.Prelude.{MatchBool}
 use Rattle.std.specs.List.{AllByRecursion}
 use Rattle.markdown_scanners_tree.specs.declared.scanners.html_kinds.HtmlBlockKind.{HtmlBlockKind}
 use Rattle.markdown_scanners_tree.specs.scanners.html_kinds.HtmlKinds.{ends_before_blank}
-use Rattle.markdown_blocks.specs.containers.Containers.{Outer, Rest, IsInside}
+use Rattle.markdown_blocks.specs.containers.Containers.{OpenContainers, Rest, IsInside}
 use Rattle.markdown_blocks.specs.declared.blocks.BlockKind.{BlockKind}
 use Rattle.markdown_blocks.specs.declared.blocks.BlockKind.TheVariants.{Blank, Break, Heading, Setext, Indented}
 use Rattle.markdown_blocks.specs.declared.blocks.BlockKind.TheVariants.{Fenced, Html, Table, Definition, Paragraph}
 use Rattle.markdown_blocks.specs.declared.containers.Container.{Container}
 use Rattle.markdown_blocks.specs.blocks.Leaves.{Begins, EndsIndented, NoMoreIndented, LastHasText, GoesOnIndented}
-use Rattle.markdown_blocks.specs.blocks.Leaves.{NoneBehind, OnFirst, StopsAt, StopsBefore, StopsBehind, EndsAsHtml, EndsHtml, OutOr, IsLeaf}
+use Rattle.markdown_blocks.specs.blocks.Leaves.{NoneAfter, OnFirst, StopsAt, StopsBefore, StopsAfter, EndsAsHtml, EndsHtml, OutOr, IsLeaf}
 
 -- all lines up to the first that has a property
 pub one_stop : (P : List ℕ → Type 0) (a b rest rest' : List (List ℕ)) → a ++ rest ≡ b ++ rest' → StopsBefore P a rest → StopsBefore P b rest'
@@ -34,7 +34,7 @@ no_start P before line lines rest is (inl none) other = cc
 no_start P before line lines rest is (inr here) other = other (subst (P before) is (rw append-nil at here))
 
 one_at : (P : List (List ℕ) → List (List ℕ) → Type 0) (before a b rest rest' : List (List ℕ)) → a ++ rest ≡ b ++ rest'
-    → NoneBehind P before a rest → (rest ≡ []) ⊎ P (before ++ a) rest → NoneBehind P before b rest' → (rest' ≡ []) ⊎ P (before ++ b) rest'
+    → NoneAfter P before a rest → (rest ≡ []) ⊎ P (before ++ a) rest → NoneAfter P before b rest' → (rest' ≡ []) ⊎ P (before ++ b) rest'
     → (a ≡ b) × (rest ≡ rest')
 one_at P before [] [] rest rest' same none stops none' stops' = (refl, same)
 one_at P before [] (y ∷ b) rest rest' same none stops none' stops' = absurd (no_start P before y (b ++ rest') rest same stops none'.0)
@@ -42,12 +42,12 @@ one_at P before (x ∷ a) [] rest rest' same none stops none' stops' = absurd (n
 one_at P before (x ∷ a) (y ∷ b) rest rest' same none stops none' stops' =
     let first : x ≡ y = cc in
     let tails : a ++ rest ≡ b ++ rest' = cc in
-    let behind : (ls : List (List ℕ)) → before ++ x ∷ ls ≡ (before ++ x ∷ []) ++ ls = λ ls. sym (append_assoc before (x ∷ []) ls) in
+    let after : (ls : List (List ℕ)) → before ++ x ∷ ls ≡ (before ++ x ∷ []) ++ ls = λ ls. sym (append_assoc before (x ∷ []) ls) in
     let front : before ++ y ∷ [] ≡ before ++ x ∷ [] = ap (λ l. before ++ l ∷ []) (sym first) in
     let here : (rest' ≡ []) ⊎ P ((before ++ x ∷ []) ++ b) rest' =
-    subst (λ ls. (rest' ≡ []) ⊎ P ls rest') (ap (λ l. before ++ l ∷ b) (sym first) ∙ behind b) stops' in
-    let more = one_at P (before ++ x ∷ []) a b rest rest' tails none.1 (subst (λ ls. (rest ≡ []) ⊎ P ls rest) (behind a) stops)
-    (subst (λ ls. NoneBehind P ls b rest') front none'.1) here in
+    subst (λ ls. (rest' ≡ []) ⊎ P ls rest') (ap (λ l. before ++ l ∷ b) (sym first) ∙ after b) stops' in
+    let more = one_at P (before ++ x ∷ []) a b rest rest' tails none.1 (subst (λ ls. (rest ≡ []) ⊎ P ls rest) (after a) stops)
+    (subst (λ ls. NoneAfter P ls b rest') front none'.1) here in
     (rw (first, more.0) refl, more.1)
 
 pub one_end : (P : List (List ℕ) → List (List ℕ) → Type 0) (a b rest rest' : List (List ℕ)) → a ++ rest ≡ b ++ rest' → StopsAt P a rest
@@ -59,8 +59,8 @@ module _ (outer : List Container) where
   with_last : (before lines rest : List (List ℕ)) (last : List ℕ) → lines ≡ before ++ last ∷ [] → lines ++ rest ≡ before ++ last ∷ rest
   with_last before lines rest last is = ap (λ ls. ls ++ rest) is ∙ append_assoc before (last ∷ []) rest
 
-  one_through : (P : List ℕ → Type 0) (a b rest rest' : List (List ℕ)) → a ++ rest ≡ b ++ rest' → StopsBehind outer P a rest
-      → StopsBehind outer P b rest' → a ≡ b
+  one_through : (P : List ℕ → Type 0) (a b rest rest' : List (List ℕ)) → a ++ rest ≡ b ++ rest' → StopsAfter outer P a rest
+      → StopsAfter outer P b rest' → a ≡ b
   one_through P a b rest rest' same (inl h) (inl h') =
       let one = one_stop P h.0 h'.0 (h.1 ∷ rest) (h'.1 ∷ rest')
       (sym (with_last h.0 a rest h.1 h.2) ∙ same ∙ with_last h'.0 b rest' h'.1 h'.2) h.3 h'.3 in
@@ -109,8 +109,8 @@ module _ (outer : List Container) where
   one_html kind first a b rest rest' same h h' =
       matched (ends_before_blank kind) h h' (λ s s'. (one_stop _ a b rest rest' same s s').0) by
     where
-      by : (EndsHtml kind first × (a ≡ [])) ⊎ ((¬ EndsHtml kind first) × StopsBehind outer (OutOr outer (EndsHtml kind)) a rest)
-          → (EndsHtml kind first × (b ≡ [])) ⊎ ((¬ EndsHtml kind first) × StopsBehind outer (OutOr outer (EndsHtml kind)) b rest') → a ≡ b
+      by : (EndsHtml kind first × (a ≡ [])) ⊎ ((¬ EndsHtml kind first) × StopsAfter outer (OutOr outer (EndsHtml kind)) a rest)
+          → (EndsHtml kind first × (b ≡ [])) ⊎ ((¬ EndsHtml kind first) × StopsAfter outer (OutOr outer (EndsHtml kind)) b rest') → a ≡ b
       by (inl e) (inl e') = e.1 ∙ sym e'.1
       by (inl e) (inr e') = absurd (e'.0 e.0)
       by (inr e) (inl e') = absurd (e.0 e'.0)
@@ -154,7 +154,7 @@ base_other (Table columns) h = cc
 base_other Definition h = refl
 base_other Paragraph h = cc
 
-module _ (outer : Outer) (first : Rest) where
+module _ (outer : OpenContainers) (first : Rest) where
   pub begins : (kind : BlockKind) (lines rest : List (List ℕ)) → IsLeaf outer kind first lines rest → Begins (base kind) first
   unfolding base
   begins Blank lines rest leaf = leaf.0

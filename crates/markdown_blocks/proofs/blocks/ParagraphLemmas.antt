@@ -12,18 +12,18 @@ use Rattle.markdown_scanners_tree.specs.scanners.TextLines.{lines_of}
 use Rattle.markdown_blocks.specs.blank_lines.BlankLines.{is_blank}
 use Rattle.markdown_blocks.specs.declared.blocks.TextEnd.{TextEnd}
 use Rattle.markdown_values.specs.declared.values.extensions.Extensions.{Extensions}
-use Rattle.markdown_blocks.specs.declared.taken.Taken.{Taken}
+use Rattle.markdown_blocks.specs.declared.taken.Extent.{Extent}
 use Rattle.markdown_blocks.specs.definitions.Content.{content_of}
 use Rattle.markdown_blocks.specs.definitions.Definitions.{HasText}
-use Rattle.markdown_blocks.specs.containers.Containers.{Outer, Rest, rest_in}
+use Rattle.markdown_blocks.specs.containers.Containers.{OpenContainers, Rest, rest_in}
 use Rattle.markdown_blocks.specs.taken.Lines.{IsTaken, IsNext}
 use Rattle.markdown_blocks.specs.blocks.Endings.{EndsText, IsUnderOrDefines}
-use Rattle.markdown_blocks.specs.blocks.Leaves.{IsBlank, HasIndent, DefinesTerm, In, IsUnderline, LeavesParagraph, LeavesBehind, Underlines}
-use Rattle.markdown_blocks.specs.blocks.Leaves.{BeginsTable, EndParagraph, NoneBehind}
+use Rattle.markdown_blocks.specs.blocks.Leaves.{IsBlank, HasIndent, DefinesTerm, In, IsUnderline, LeavesParagraph, LeavesAfter, Underlines}
+use Rattle.markdown_blocks.specs.blocks.Leaves.{BeginTable, EndParagraph, NoneAfter}
 use Rattle.markdown_blocks.proofs.taken.TakenLemmas.{taken-next}
 
-none-append : (P : List (List ℕ) → List (List ℕ) → Type 0) (before xs ys rest : List (List ℕ)) → NoneBehind P before xs (ys ++ rest)
-    → NoneBehind P (before ++ xs) ys rest → NoneBehind P before (xs ++ ys) rest
+none-append : (P : List (List ℕ) → List (List ℕ) → Type 0) (before xs ys rest : List (List ℕ)) → NoneAfter P before xs (ys ++ rest)
+    → NoneAfter P (before ++ xs) ys rest → NoneAfter P before (xs ++ ys) rest
 none-append P before [] ys rest none more = rw append-nil at more
 none-append P before (x ∷ xs) ys rest none more = (
   subst (λ ls. ¬ P before (x ∷ ls)) (sym (append_assoc xs ys rest)) none.0,
@@ -97,17 +97,17 @@ module _ (asked : Extensions) (rest : Rest) where
       not_under rest.text level under.byte under.run under.rest under.of_level under.is_run.parts under.is_run.all under.at_least_one
       (and_parts asked.definition_lists _ defines.1).1
 
-module _ (outer : Outer) (words : List ℕ) (before : List (List ℕ)) (line : List ℕ) where
+module _ (outer : OpenContainers) (words : List ℕ) (before : List (List ℕ)) (line : List ℕ) where
   -- a line that neither underlines nor defines a paragraph with text
   module _ (none : (level : Option HeadingLevel) → ¬ In outer.containers (IsUnderOrDefines outer.extensions level) line) where
-    pub goes_on : ¬ LeavesParagraph outer line → ¬ LeavesBehind outer words before line
+    pub goes_on : ¬ LeavesParagraph outer line → ¬ LeavesAfter outer words before line
     goes_on stays (inl out) = stays (inl out)
     goes_on stays (inr (inside, inl blank)) = stays (inr (inside, inl blank))
     goes_on stays (inr (inside, inr (inl (inl under, text)))) = none (Some under.0) (inside, under.1)
     goes_on stays (inr (inside, inr (inl (inr defines, text)))) = none None (inside, defines)
     goes_on stays (inr (inside, inr (inr interrupts))) = stays (inr (inside, inr (inr interrupts)))
 
-    pub leaves_so : LeavesParagraph outer line → LeavesBehind outer words before line
+    pub leaves_so : LeavesParagraph outer line → LeavesAfter outer words before line
     leaves_so (inl out) = inl out
     leaves_so (inr (inside, inl blank)) = inr (inside, inl blank)
     leaves_so (inr (inside, inr (inl under))) = absurd (none (Some under.0) (inside, under.1))
@@ -115,7 +115,7 @@ module _ (outer : Outer) (words : List ℕ) (before : List (List ℕ)) (line : L
 
   -- a line that does, after definitions alone or after text
   module _ (found : TextEnd) (is : EndsText outer found line) where
-    pub text_goes_on : found.interrupts ≡ false → (¬ HasText (content_of outer.containers words before)) → ¬ LeavesBehind outer words before line
+    pub text_goes_on : found.interrupts ≡ false → (¬ HasText (content_of outer.containers words before)) → ¬ LeavesAfter outer words before line
     text_goes_on goes none (inl out) = out.0 is.ends.0
     text_goes_on goes none (inr (inside, inl blank)) =
         under_text outer.extensions (rest_in outer.containers line) found.level is.ends.1 blank
@@ -123,7 +123,7 @@ module _ (outer : Outer) (words : List ℕ) (before : List (List ℕ)) (line : L
     text_goes_on goes none (inr (inside, inr (inr interrupts))) =
         let both : true ≡ false = sym (is.interrupts.1 interrupts.1) ∙ goes in cc
 
-    pub interrupts_so : found.interrupts ≡ true → LeavesBehind outer words before line
+    pub interrupts_so : found.interrupts ≡ true → LeavesAfter outer words before line
     interrupts_so so =
         inr (is.ends.0, inr (inr (under_near outer.extensions (rest_in outer.containers line) found.level is.ends.1, is.interrupts.0 so)))
 
@@ -133,77 +133,77 @@ module _ (outer : Outer) (words : List ℕ) (before : List (List ℕ)) (line : L
         ((is.ends.0, subst (λ l. IsUnderOrDefines outer.extensions l (rest_in outer.containers line)) so is.ends.1), text)
 
     pub defines_so : found.level ≡ None → HasText (content_of outer.containers words before)
-        → LeavesBehind outer words before line × ((level : HeadingLevel) → ¬ Underlines outer.containers words before level line)
+        → LeavesAfter outer words before line × ((level : HeadingLevel) → ¬ Underlines outer.containers words before level line)
     defines_so so text =
         let defines = subst (λ l. IsUnderOrDefines outer.extensions l (rest_in outer.containers line)) so is.ends.1 in (
           inr (is.ends.0, inr (inl (inr defines, text))),
           λ level under. one_of_both outer.extensions (rest_in outer.containers line) level defines under.0.1,
         )
 
-module _ (outer : Outer) (words : List ℕ) where
-  module _ (text : List ℕ) (first : Taken) where
+module _ (outer : OpenContainers) (words : List ℕ) where
+  module _ (text : List ℕ) (first : Extent) where
     -- the lines after the first, with none of which on the paragraph ends
-    abbrev pub Reached : Taken → Type 0
+    abbrev pub Reached : Extent → Type 0
     Reached taken =
         (line : List ℕ) → IsTaken text first (line ∷ [])
         → (later : List (List ℕ)) × IsTaken text taken (line ∷ later)
-        × NoneBehind (EndParagraph outer words) [] later (lines_of (drop taken.bytes text))
+        × NoneAfter (EndParagraph outer words) [] later (lines_of (drop taken.bytes text))
 
     -- and one line more, which goes on with the paragraph, if no table begins with it
-    abbrev pub ReachedLast : Taken → Taken → Type 0
+    abbrev pub ReachedLast : Extent → Extent → Type 0
     ReachedLast before taken =
         (line : List ℕ) → IsTaken text first (line ∷ [])
         → (later : List (List ℕ)) × (last : List ℕ) × IsTaken text before (line ∷ later) × IsNext text before last taken
-        × NoneBehind (EndParagraph outer words) [] later (lines_of (drop before.bytes text)) × (¬ LeavesBehind outer words later last)
+        × NoneAfter (EndParagraph outer words) [] later (lines_of (drop before.bytes text)) × (¬ LeavesAfter outer words later last)
 
     pub reached-first : Reached first
     reached-first line h = ([], h, tt)
 
-    pub reached-second : (second : Taken) (l : List ℕ) → IsNext text first l second → ¬ LeavesBehind outer words [] l → ReachedLast first second
+    pub reached-second : (second : Extent) (l : List ℕ) → IsNext text first l second → ¬ LeavesAfter outer words [] l → ReachedLast first second
     reached-second second l n goes line h = ([], l, h, n, tt, goes)
 
-    pub reached-more : (taken more : Taken) (l : List ℕ) → Reached taken → IsNext text taken l more
-        → ((line : List ℕ) (later : List (List ℕ)) → IsTaken text first (line ∷ []) → IsTaken text taken (line ∷ later) → ¬ LeavesBehind outer words later l)
+    pub reached-more : (taken more : Extent) (l : List ℕ) → Reached taken → IsNext text taken l more
+        → ((line : List ℕ) (later : List (List ℕ)) → IsTaken text first (line ∷ []) → IsTaken text taken (line ∷ later) → ¬ LeavesAfter outer words later l)
         → ReachedLast taken more
     reached-more taken more l reached n goes line h =
         let r = reached line h in (r.0, l, r.1, n, r.2, goes line r.0 h r.1)
 
     -- no table begins with that line
-    pub reached-last : (before taken : Taken) → ReachedLast before taken
+    pub reached-last : (before taken : Extent) → ReachedLast before taken
         → ((last : List ℕ) → lines_of (drop before.bytes text) ≡ last ∷ lines_of (drop taken.bytes text)
-        → ¬ BeginsTable outer (last ∷ lines_of (drop taken.bytes text)))
+        → ¬ BeginTable outer (last ∷ lines_of (drop taken.bytes text)))
         → Reached taken
     reached-last before taken reached no_table line h = by (reached line h)
       where
         by : (later : List (List ℕ)) × (last : List ℕ) × IsTaken text before (line ∷ later) × IsNext text before last taken
-            × NoneBehind (EndParagraph outer words) [] later (lines_of (drop before.bytes text)) × (¬ LeavesBehind outer words later last)
+            × NoneAfter (EndParagraph outer words) [] later (lines_of (drop before.bytes text)) × (¬ LeavesAfter outer words later last)
             → (later : List (List ℕ)) × IsTaken text taken (line ∷ later)
-            × NoneBehind (EndParagraph outer words) [] later (lines_of (drop taken.bytes text))
+            × NoneAfter (EndParagraph outer words) [] later (lines_of (drop taken.bytes text))
         by (later, last, all, next, none, goes) = (
           later ++ last ∷ [],
           taken-next text before taken (line ∷ later) last all next,
           none-append (EndParagraph outer words) [] later (last ∷ []) (lines_of (drop taken.bytes text))
-              (subst (NoneBehind (EndParagraph outer words) [] later) next.parts none) (stays, tt),
+              (subst (NoneAfter (EndParagraph outer words) [] later) next.parts none) (stays, tt),
         )
           where
             stays : ¬ EndParagraph outer words later (last ∷ lines_of (drop taken.bytes text))
             stays (inl leaves) = goes leaves
-            stays (inr table) = no_table last next.parts table
+            stays (inr table) = no_table last next.parts table.1
 
-    pub reached-tested : (before taken more : Taken) (l : List ℕ) (begins : Bool) → ReachedLast before taken → IsNext text taken l more → begins ≡ false
+    pub reached-tested : (before taken more : Extent) (l : List ℕ) (begins : Bool) → ReachedLast before taken → IsNext text taken l more → begins ≡ false
         → ((last : List ℕ) (lines : List (List ℕ)) → lines_of (drop before.bytes text) ≡ last ∷ l ∷ lines
-        → (IsTrue begins → BeginsTable outer (last ∷ l ∷ lines)) × (BeginsTable outer (last ∷ l ∷ lines) → IsTrue begins))
+        → (IsTrue begins → BeginTable outer (last ∷ l ∷ lines)) × (BeginTable outer (last ∷ l ∷ lines) → IsTrue begins))
         → Reached taken
     reached-tested before taken more l begins reached n not_so tells = reached-last before taken reached none
       where
         none : (last : List ℕ) → lines_of (drop before.bytes text) ≡ last ∷ lines_of (drop taken.bytes text)
-            → ¬ BeginsTable outer (last ∷ lines_of (drop taken.bytes text))
+            → ¬ BeginTable outer (last ∷ lines_of (drop taken.bytes text))
         none last parts table =
             let two : lines_of (drop before.bytes text) ≡ last ∷ l ∷ lines_of (drop more.bytes text) = parts ∙ ap (λ ls. last ∷ ls) n.parts in
             let passes : begins ≡ true =
-            (tells last (lines_of (drop more.bytes text)) two).1 (subst (λ ls. BeginsTable outer (last ∷ ls)) n.parts table) in
+            (tells last (lines_of (drop more.bytes text)) two).1 (subst (λ ls. BeginTable outer (last ∷ ls)) n.parts table) in
             let both : true ≡ false = sym passes ∙ not_so in cc
 
-    pub reached-end : (before taken : Taken) → ReachedLast before taken → lines_of (drop taken.bytes text) ≡ [] → Reached taken
+    pub reached-end : (before taken : Extent) → ReachedLast before taken → lines_of (drop taken.bytes text) ≡ [] → Reached taken
     reached-end before taken reached end =
-        reached-last before taken reached (λ last parts table. subst (λ ls. BeginsTable outer (last ∷ ls)) end table)
+        reached-last before taken reached (λ last parts table. subst (λ ls. BeginTable outer (last ∷ ls)) end table)

@@ -5,13 +5,13 @@ use Rattle.markdown_values.specs.declared.values.HeadingLevel.{HeadingLevel}
 use Rattle.markdown_scanners_tree.specs.SomeExactly.{SomeExactly}
 use Rattle.markdown_scanners_tree.specs.line.State.{LineState}
 use Rattle.markdown_blocks.specs.blank_lines.BlankLines.{is_blank}
-use Rattle.markdown_blocks.specs.containers.Containers.{Outer, Rest, rest_at, asked_in, begun_at, behind, IsInside, rest_in}
+use Rattle.markdown_blocks.specs.containers.Containers.{OpenContainers, Rest, rest_at, asked_in, begun_at, match_line, IsInside, rest_in}
 use Rattle.markdown_values.specs.declared.values.extensions.Extensions.{Extensions}
 use Rattle.markdown_blocks.specs.declared.blocks.TextEnd.{TextEnd}
 use Rattle.markdown_blocks.specs.blocks.Endings.{EndsText, IsUnderOrDefines}
-use Rattle.markdown_blocks.specs.blocks.Leaves.{IsBlank, IsUnderline, DefinesTerm, HasIndent, IsLazy, EndsParagraph, Interrupts, LeavesParagraph, In, OutOr}
+use Rattle.markdown_blocks.specs.blocks.Leaves.{IsBlank, IsUnderline, DefinesTerm, HasIndent, IsLazy, EndsParagraph, Interrupts, Leaves, LeavesParagraph, In, OutOr}
 
-module _ (outer : Outer) (line : List ℕ) (rest : Rest) (is : rest ≡ rest_in outer.containers line) (inside : IsInside outer.containers line) where
+module _ (outer : OpenContainers) (line : List ℕ) (rest : Rest) (is : rest ≡ rest_in outer.containers line) (inside : IsInside outer.containers line) where
   -- what is found in it
   pub some_inside : {A : Type 0} (P : A → Rest → Type 0) (found : Option A) → SomeExactly (λ a. P a rest) found
       → SomeExactly (λ a. In outer.containers (P a) line) found
@@ -46,6 +46,16 @@ module _ (outer : Outer) (line : List ℕ) (rest : Rest) (is : rest ≡ rest_in 
       by (inl out) = absurd (out.0 inside)
       by (inr here) = tells.1 (subst (EndsParagraph outer.extensions) (sym is) here.1)
 
+  -- what goes on with the block
+  pub goes_inside : (P : Rest → Type 0) (ends : Bool) → (IsTrue ends → P rest) × (P rest → IsTrue ends)
+      → (IsTrue (not ends) → ¬ Leaves outer P line) × ((¬ Leaves outer P line) → IsTrue (not ends))
+  goes_inside P true tells = (λ t. cc, λ stays. absurd (stays (inr (inside, subst P is (tells.0 refl)))))
+  goes_inside P false tells = (λ t leaves. by leaves, λ stays. refl)
+    where
+      by : ¬ Leaves outer P line
+      by (inl out) = out.0 inside
+      by (inr here) = let given : false ≡ true = tells.1 (subst P (sym is) here.1) in cc
+
   -- what ends another block
   pub ends_inside : (P : Rest → Type 0) (Q : Type 0) → (Q → P rest) × (P rest → Q)
       → (Q → OutOr outer.containers P line) × (OutOr outer.containers P line → Q)
@@ -56,8 +66,18 @@ module _ (outer : Outer) (line : List ℕ) (rest : Rest) (is : rest ≡ rest_in 
       by (inr here) = tells.1 (subst P (sym is) here.1)
 
 -- a line that doesn't stand in the containers
-module _ (outer : Outer) (line : List ℕ) (out : ¬ IsInside outer.containers line) where
-  pub leaves_outside : (r : Bool) (s : LineState) → s ≡ (behind outer.containers line).state → (IsTrue r → IsLazy (asked_in outer line) s)
+module _ (outer : OpenContainers) (line : List ℕ) (out : ¬ IsInside outer.containers line) where
+  pub goes_outside : (P : Rest → Type 0) (r : Bool) → (IsTrue r → IsLazy (asked_in outer line) (match_line outer.containers line).state)
+      × (IsLazy (asked_in outer line) (match_line outer.containers line).state → IsTrue r)
+      → (IsTrue r → ¬ Leaves outer P line) × ((¬ Leaves outer P line) → IsTrue r)
+  goes_outside P true tells = (λ t leaves. by leaves, λ stays. refl)
+    where
+      by : ¬ Leaves outer P line
+      by (inl alone) = alone.1 (tells.0 refl)
+      by (inr here) = out here.0
+  goes_outside P false tells = (λ t. cc, λ stays. absurd (stays (inl (out, λ lazy. let given : false ≡ true = tells.1 lazy in cc))))
+
+  pub leaves_outside : (r : Bool) (s : LineState) → s ≡ (match_line outer.containers line).state → (IsTrue r → IsLazy (asked_in outer line) s)
       × (IsLazy (asked_in outer line) s → IsTrue r)
       → (IsTrue (not r) → LeavesParagraph outer line) × (LeavesParagraph outer line → IsTrue (not r))
   leaves_outside true s is tells = (λ t. cc, by)

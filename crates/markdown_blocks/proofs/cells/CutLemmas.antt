@@ -15,11 +15,11 @@ use Rattle.markdown_scanners_tree.specs.Bytes.{begins_with, is_line_ending, is_s
 use Rattle.markdown_scanners_tree.specs.scanners.tables.DelimiterRow.{is_pipe}
 use Rattle.markdown_blocks.specs.blocks.Tables.{cells_in}
 use Rattle.markdown_blocks.specs.cells.Cells.{cell_at, cells_at, cells_of, pieces}
-use Rattle.markdown_blocks.specs.cells.Contents.{bytes_of_cell, content_of_cell, escapes_pipe, unescaped, unescaped_places}
+use Rattle.markdown_blocks.specs.cells.Contents.{bytes_of_cell, content_of_cell, escapes_pipe, unescaped, unescaped_offsets}
 use Rattle.markdown_blocks.specs.declared.cells.Cell.{Cell}
 use Rattle.markdown_blocks.specs.info.Info.{without_end, without_front}
 use Rattle.markdown_blocks.proofs.cells.LawLemmas.{pieces_joined}
-use Rattle.markdown_blocks.proofs.content.AsciiCuts.{cut_before_end, cut_behind_front, spaces_low}
+use Rattle.markdown_blocks.proofs.content.AsciiCuts.{cut_before_end, cut_after_front, spaces_low}
 use Rattle.markdown_blocks.proofs.content.CutMoves.{between_utf8, cut_of_front, cut_of_part, cut_of_rest}
 
 -- a row may be cut where a cell begins and ends
@@ -37,7 +37,7 @@ module _ (row : List ℕ) (utf8 : IsUtf8 row) where
       let w = without_front p in
       let m = length w - suffix_len is_space_or_tab w in
       let few = prefix_len-le-length is_space_or_tab p in
-      let begins : IsCharBoundary p n = cut_behind_front is_space_or_tab spaces_low p own in
+      let begins : IsCharBoundary p n = cut_after_front is_space_or_tab spaces_low p own in
       let inner : IsCharBoundary w m = cut_before_end is_space_or_tab spaces_low w in
       let last : IsCharBoundary p (n + m) = IsCharBoundary-from_rest p n m few inner in
       let size : length (without_end w) ≡ m = (let short = length-take m w in omega (arith, short)) in
@@ -126,15 +126,18 @@ cells_cut text utf8 =
     let n = prefix_len (λ b. not (is_line_ending b)) text in
     let m = length head - suffix_len is_space_or_tab head in
     let count : length head ≡ n = (let short = length-take n text in omega (arith, short, prefix_len-le-length (λ b. not (is_line_ending b)) text)) in
-    let row = without_end head in
+    let line = without_end head in
+    let from = prefix_len is_space_or_tab line in
+    let row = without_front line in
     let head_ends : IsCharBoundary text n = subst (IsCharBoundary text) count (head_cut text) in
-    let own : IsUtf8 row = IsUtf8-take head m (IsUtf8-take text n utf8 head_ends) (cut_before_end is_space_or_tab spaces_low head) in
-    let in_text : (i : ℕ) → IsCharBoundary row i → IsCharBoundary text i =
+    let own : IsUtf8 line = IsUtf8-take head m (IsUtf8-take text n utf8 head_ends) (cut_before_end is_space_or_tab spaces_low head) in
+    let in_text : (i : ℕ) → IsCharBoundary line i → IsCharBoundary text i =
     λ i cut. cut_of_front text n i head_ends (cut_of_front head m i (cut_before_end is_space_or_tab spaces_low head) cut) in
-    let all = cells_cut_at row own 0 (pieces space row) (IsCharBoundary-start row own) (sym (pieces_joined space row)) in
-    all_by (IsCellCut row) (IsCellCut text) (cells_of text) (λ cell cut. (in_text cell.start cut.0, in_text cell.end cut.1))
-    (all_taken (IsCellCut row) (cells_in row) (drop (if begins_with is_pipe row then 1 else 0) (cells_at 0 (pieces space row)))
-    (all_dropped (IsCellCut row) (if begins_with is_pipe row then 1 else 0) (cells_at 0 (pieces space row)) all))
+    let begins : IsCharBoundary line from = cut_after_front is_space_or_tab spaces_low line own in
+    let all = cells_cut_at line own from (pieces space row) begins (sym (pieces_joined space row)) in
+    all_by (IsCellCut line) (IsCellCut text) (cells_of text) (λ cell cut. (in_text cell.start cut.0, in_text cell.end cut.1))
+    (all_taken (IsCellCut line) (cells_in row) (drop (if begins_with is_pipe row then 1 else 0) (cells_at from (pieces space row)))
+    (all_dropped (IsCellCut line) (if begins_with is_pipe row then 1 else 0) (cells_at from (pieces space row)) all))
 
 -- ---- contents
 
@@ -177,7 +180,7 @@ cell_utf8 row cell utf8 less cut =
 module _ (row : List ℕ) where
   -- where bytes stand in a row up to a boundary, and what is left of them may be cut after one
   unescaped_cut : (bytes : List ℕ) (from n : ℕ) → take n (drop from row) ≡ bytes → IsCharBoundary row (from + length bytes) → (i : ℕ)
-      → i < length (unescaped bytes) → IsCharBoundary (unescaped bytes) (i + 1) → IsCharBoundary row (get_or (unescaped_places from bytes) i 0 + 1)
+      → i < length (unescaped bytes) → IsCharBoundary (unescaped bytes) (i + 1) → IsCharBoundary row (get_or (unescaped_offsets from bytes) i 0 + 1)
   unescaped_cut [] from n stands ends i low cut = absurd (omega (arith, low))
   unescaped_cut (b ∷ bs) from zero stands ends i low cut = absurd (cc)
   unescaped_cut (b ∷ bs) from (suc n) stands ends i low cut =
@@ -223,8 +226,8 @@ module _ (row : List ℕ) where
 
       by : (s : Bool) → escapes_pipe (b ∷ bs) ≡ s → (i : ℕ) → i < length (unescaped (b ∷ bs)) → IsCharBoundary (unescaped (b ∷ bs)) (i + 1)
           → ((i : ℕ) → i < length (unescaped bs) → IsCharBoundary (unescaped bs) (i + 1)
-          → IsCharBoundary row (get_or (unescaped_places (from + 1) bs) i 0 + 1))
-          → IsCharBoundary row (get_or (unescaped_places from (b ∷ bs)) i 0 + 1)
+          → IsCharBoundary row (get_or (unescaped_offsets (from + 1) bs) i 0 + 1))
+          → IsCharBoundary row (get_or (unescaped_offsets from (b ∷ bs)) i 0 + 1)
       by true is i low cut later = rw is (later i (rw is at low) (rw is at cut))
       by false is zero low cut later = rw is (here bs refl (rw is at cut))
       by false is (suc i) low cut later =
@@ -238,7 +241,7 @@ module _ (row : List ℕ) where
 -- where the content of a cell may be cut after one of its bytes, so may the row after that byte's from
 pub cell_ends : (row : List ℕ) (cell : Cell) → cell.start ≤ cell.end → IsCellCut row cell → (offset : ℕ)
     → offset < length (content_of_cell row cell).text → IsCharBoundary (content_of_cell row cell).text (offset + 1)
-    → IsCharBoundary row (slice_index (content_of_cell row cell).places offset + 1)
+    → IsCharBoundary row (slice_index (content_of_cell row cell).offsets offset + 1)
 cell_ends row cell less cut offset low at =
     let n = cell.end - cell.start in
     let within = cut.1.0 in

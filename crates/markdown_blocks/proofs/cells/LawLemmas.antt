@@ -9,22 +9,24 @@ use Rattle.markdown_scanners_tree.specs.Ascii.{space, vertical_line}
 use Rattle.markdown_scanners_tree.specs.Bytes.{begins_with, is_line_ending, is_space_or_tab, line_head}
 use Rattle.markdown_scanners_tree.specs.scanners.tables.DelimiterRow.{is_pipe}
 use Rattle.markdown_blocks.specs.blocks.Tables.{separates, separators, cells, cells_in}
-use Rattle.markdown_blocks.specs.cells.Cells.{AreBetween, behind_byte, pieces, cell_at, cells_at, cells_of, cells_of_row}
+use Rattle.markdown_blocks.specs.cells.Cells.{AreBetween, after_byte, pieces, cell_at, cells_at, cells_of, cells_of_row}
 use Rattle.markdown_blocks.specs.declared.cells.Cell.{Cell}
 use Rattle.markdown_blocks.specs.info.Info.{without_end, without_front}
 use Rattle.markdown_blocks.proofs.cells.CellLemmas.{length-cells_at, length-pieces}
 
 -- as many cells as the row has
-length-cells_of_row : (row : List ℕ) → length (cells_of_row row) ≡ cells_in row
-length-cells_of_row row =
+length-cells_of_row : (from : ℕ) (row : List ℕ) → length (cells_of_row from row) ≡ cells_in row
+length-cells_of_row from row =
     let front = if begins_with is_pipe row then 1 else 0 in
-    let all = cells_at 0 (pieces space row) in
+    let all = cells_at from (pieces space row) in
     let many : cells_in row ≤ length (drop front all) =
-    omega (arith, length-drop front all, length-cells_at 0 (pieces space row), length-pieces space row) in
+    omega (arith, length-drop front all, length-cells_at from (pieces space row), length-pieces space row) in
     length-take-le (cells_in row) (drop front all) many
 
 pub length-cells_of : (text : List ℕ) → length (cells_of text) ≡ cells text
-length-cells_of text = length-cells_of_row (without_end (line_head text))
+length-cells_of text =
+    let row = without_end (line_head text) in
+    length-cells_of_row (prefix_len is_space_or_tab row) (without_front row)
 
 -- no more cells than bytes, but one where there are none
 separators-le : (before : ℕ) (row : List ℕ) → separators before row ≤ length row
@@ -44,12 +46,12 @@ cells_in-le (b ∷ bs) = by (is_pipe b) refl (separators-le b bs)
     by false is few = rw is (omega (arith, few))
 
 -- pieces joined with pipes are the row
-joined_behind : (s : Bool) (b : ℕ) (ps : List (List ℕ)) (n : ℕ) → length ps ≡ suc n → (s ≡ true → b ≡ vertical_line)
-    → join_with_byte vertical_line (behind_byte s b ps) ≡ b ∷ join_with_byte vertical_line ps
-joined_behind s b [] n filled pipe = cc
-joined_behind true b (p ∷ ps) n filled pipe = ap (λ a. a ∷ join_with_byte vertical_line (p ∷ ps)) (sym (pipe refl))
-joined_behind false b (p ∷ []) n filled pipe = refl
-joined_behind false b (p ∷ q ∷ ps) n filled pipe = refl
+joined_after : (s : Bool) (b : ℕ) (ps : List (List ℕ)) (n : ℕ) → length ps ≡ suc n → (s ≡ true → b ≡ vertical_line)
+    → join_with_byte vertical_line (after_byte s b ps) ≡ b ∷ join_with_byte vertical_line ps
+joined_after s b [] n filled pipe = cc
+joined_after true b (p ∷ ps) n filled pipe = ap (λ a. a ∷ join_with_byte vertical_line (p ∷ ps)) (sym (pipe refl))
+joined_after false b (p ∷ []) n filled pipe = refl
+joined_after false b (p ∷ q ∷ ps) n filled pipe = refl
 
 separates_pipe : (before b : ℕ) → separates before b ≡ true → b ≡ vertical_line
 separates_pipe before b is = grind (arith, nat_tests)
@@ -57,15 +59,19 @@ separates_pipe before b is = grind (arith, nat_tests)
 pub pieces_joined : (before : ℕ) (row : List ℕ) → join_with_byte vertical_line (pieces before row) ≡ row
 pieces_joined before [] = refl
 pieces_joined before (b ∷ bs) =
-    joined_behind (separates before b) b (pieces b bs) (separators b bs) (length-pieces b bs) (separates_pipe before b)
+    joined_after (separates before b) b (pieces b bs) (separators b bs) (length-pieces b bs) (separates_pipe before b)
     ∙ ap (λ r. b ∷ r) (pieces_joined b bs)
 
 -- a cell stands in its piece
 without_end-le : (bytes : List ℕ) → length (without_end bytes) ≤ length bytes
 without_end-le bytes = omega (arith, length-take {A = ℕ})
 
-cell_within : (place : ℕ) (piece : List ℕ) → (cell_at place piece).end ≤ place + length piece
-cell_within place piece =
+pub without_front-le : (bytes : List ℕ) → prefix_len is_space_or_tab bytes + length (without_front bytes) ≡ length bytes
+without_front-le bytes =
+    omega (arith, length-drop (prefix_len is_space_or_tab bytes) bytes, prefix_len-le-length is_space_or_tab bytes)
+
+cell_within : (offset : ℕ) (piece : List ℕ) → (cell_at offset piece).end ≤ offset + length piece
+cell_within offset piece =
     omega (
       arith,
       without_end-le (without_front piece),
@@ -73,18 +79,18 @@ cell_within place piece =
       prefix_len-le-length is_space_or_tab piece,
     )
 
-between_at : (begin place end : ℕ) (ps : List (List ℕ)) → begin ≤ place → place + length (join_with_byte vertical_line ps) ≤ end
-    → AreBetween begin end (cells_at place ps)
-between_at begin place end [] low high = tt
-between_at begin place end (p ∷ []) low high =
-    let within = cell_within place p in (omega (arith, low), omega arith, omega (arith, within, high), tt)
-between_at begin place end (p ∷ q ∷ ps) low high =
-    let within = cell_within place p in
+between_at : (begin offset end : ℕ) (ps : List (List ℕ)) → begin ≤ offset → offset + length (join_with_byte vertical_line ps) ≤ end
+    → AreBetween begin end (cells_at offset ps)
+between_at begin offset end [] low high = tt
+between_at begin offset end (p ∷ []) low high =
+    let within = cell_within offset p in (omega (arith, low), omega arith, omega (arith, within, high), tt)
+between_at begin offset end (p ∷ q ∷ ps) low high =
+    let within = cell_within offset p in
     let size = length-append p (vertical_line ∷ join_with_byte vertical_line (q ∷ ps)) in (
       omega (arith, low),
       omega arith,
       omega (arith, within, high, size),
-      between_at (cell_at place p).end (place + length p + 1) end (q ∷ ps) (omega (arith, within)) (omega (arith, high, size)),
+      between_at (cell_at offset p).end (offset + length p + 1) end (q ∷ ps) (omega (arith, within)) (omega (arith, high, size)),
     )
 
 between_take : (n begin end : ℕ) (cs : List Cell) → AreBetween begin end cs → AreBetween begin end (take n cs)
@@ -108,15 +114,18 @@ line_head-le text = omega (arith, length-take (prefix_len (λ b. not (is_line_en
 pub cells-le : (text : List ℕ) → length (cells_of text) ≤ max 1 (length text)
 cells-le text =
     let row = without_end (line_head text) in
-    omega (arith, cells_in-le row, length-cells_of_row row, without_end-le (line_head text), line_head-le text)
+    omega (arith, cells_in-le (without_front row), length-cells_of text, without_front-le row, without_end-le (line_head text), line_head-le text)
 
 -- the cells of a line stand within its row
 pub row_between : (text : List ℕ) (end : ℕ) → length (without_end (line_head text)) ≤ end → AreBetween 0 end (cells_of text)
 row_between text end within =
-    let row = without_end (line_head text) in
-    between_take (cells_in row) 0 end (drop (if begins_with is_pipe row then 1 else 0) (cells_at 0 (pieces space row)))
-    (between_drop (if begins_with is_pipe row then 1 else 0) 0 end (cells_at 0 (pieces space row))
-    (between_at 0 0 end (pieces space row) (omega arith) (omega (arith, within, ap length (pieces_joined space row)))))
+    let line = without_end (line_head text) in
+    let from = prefix_len is_space_or_tab line in
+    let row = without_front line in
+    between_take (cells_in row) 0 end (drop (if begins_with is_pipe row then 1 else 0) (cells_at from (pieces space row)))
+    (between_drop (if begins_with is_pipe row then 1 else 0) 0 end (cells_at from (pieces space row))
+    (between_at 0 from end (pieces space row) (omega arith)
+    (omega (arith, within, without_front-le line, ap length (pieces_joined space row)))))
 
 pub between : (text : List ℕ) → AreBetween 0 (length text) (cells_of text)
 between text = row_between text (length text) (omega (arith, without_end-le (line_head text), line_head-le text))

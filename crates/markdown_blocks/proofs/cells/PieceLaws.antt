@@ -7,7 +7,7 @@ use Rattle.std.proofs.lemmas.Bool.Decides.{nat_tests}
 use Rattle.markdown_scanners_tree.specs.Ascii.{space, backslash, vertical_line}
 use Rattle.markdown_scanners_tree.specs.scanners.TextLines.{with_first}
 use Rattle.markdown_blocks.specs.blocks.Tables.{separates, separators}
-use Rattle.markdown_blocks.specs.cells.Cells.{behind_byte, pieces}
+use Rattle.markdown_blocks.specs.cells.Cells.{after_byte, pieces}
 use Rattle.markdown_blocks.specs.cells.Pieces.{ArePieces, EndPlain, last_byte}
 use Rattle.markdown_blocks.proofs.cells.CellLemmas.{length-pieces, plain_before, separates_plain}
 use Rattle.markdown_blocks.proofs.cells.LawLemmas.{pieces_joined}
@@ -21,8 +21,8 @@ last_plain : (b : ℕ) (bs : List ℕ) → last_byte b bs ≢ backslash → last
 last_plain b [] plain = λ same. absurd (omega (arith, same))
 last_plain b (c ∷ bs) plain = plain
 
-behind_plain : (before b : ℕ) → separates before b ≡ true → before ≢ backslash
-behind_plain before b is = grind (arith, nat_tests)
+after_plain : (before b : ℕ) → separates before b ≡ true → before ≢ backslash
+after_plain before b is = grind (arith, nat_tests)
 
 separates_here : (before : ℕ) → before ≢ backslash → separates before vertical_line ≡ true
 separates_here before plain = grind (arith, nat_tests)
@@ -41,7 +41,7 @@ pieces_whole : (before : ℕ) (row : List ℕ) → Whole before (pieces before r
 pieces_whole before [] = (refl, tt)
 pieces_whole before (b ∷ bs) = by (separates before b) refl (pieces b bs) (pieces_whole b bs)
   where
-    by : (s : Bool) → separates before b ≡ s → (ps : List (List ℕ)) → Whole b ps → Whole before (behind_byte s b ps)
+    by : (s : Bool) → separates before b ≡ s → (ps : List (List ℕ)) → Whole b ps → Whole before (after_byte s b ps)
     by s is [] w = absurd w
     by true is (p ∷ ps) w = (refl, (sym (separators_plain b p (separates_plain before b is)) ∙ w.0, w.1))
     by false is (p ∷ ps) w = (rw is (omega (arith, w.0)), w.1)
@@ -55,9 +55,9 @@ pieces_parted : (before : ℕ) (row : List ℕ) → Parted before (pieces before
 pieces_parted before [] = tt
 pieces_parted before (b ∷ bs) = by (separates before b) refl (pieces b bs) (pieces_parted b bs)
   where
-    by : (s : Bool) → separates before b ≡ s → (ps : List (List ℕ)) → Parted b ps → Parted before (behind_byte s b ps)
+    by : (s : Bool) → separates before b ≡ s → (ps : List (List ℕ)) → Parted b ps → Parted before (after_byte s b ps)
     by true is [] w = tt
-    by true is (p ∷ ps) w = (behind_plain before b is, further b (p ∷ ps) w)
+    by true is (p ∷ ps) w = (after_plain before b is, further b (p ∷ ps) w)
     by false is [] w = tt
     by false is (p ∷ []) w = tt
     by false is (p ∷ q ∷ ps) w = w

@@ -32,6 +32,13 @@ without_pipe = refl
 three : texts (codes "| bar | baz | boo |\r\n") ≡ codes "bar" ∷ codes "baz" ∷ codes "boo" ∷ []
 three = refl
 
+-- after further spaces and tabs
+indented : texts (codes "  \t| a | b |\n") ≡ codes "a" ∷ codes "b" ∷ []
+indented = refl
+
+indented_bare : texts (codes "   a | b\n") ≡ codes "a" ∷ codes "b" ∷ []
+indented_bare = refl
+
 -- empty cells
 one_empty : texts (codes "||\n") ≡ [] ∷ []
 one_empty = refl
@@ -42,7 +49,7 @@ empty_between = refl
 blank_first : texts (codes "| |\tc") ≡ [] ∷ codes "c" ∷ []
 blank_first = refl
 
--- backslashes before pipes, and the places of what is left
+-- backslashes before pipes, and the offsets of what is left
 two_backslashes : texts (codes "`\\\\|`|c\\\\\\|d") ≡ codes "`\\|`" ∷ codes "c\\\\|d" ∷ []
 two_backslashes = refl
 
@@ -50,7 +57,7 @@ escaped_last : texts (codes "|b\\|\n") ≡ codes "b|" ∷ []
 escaped_last = refl
 
 placed : contents (codes "\\|c\\|| \\")
-    ≡ record { text = codes "|c|"; places = 1 ∷ 2 ∷ 4 ∷ []; is_lent = false } ∷ record { text = codes "\\"; places = 7 ∷ []; is_lent = true } ∷ []
+    ≡ record { text = codes "|c|"; offsets = 1 ∷ 2 ∷ 4 ∷ []; is_lent = false } ∷ record { text = codes "\\"; offsets = 7 ∷ []; is_lent = true } ∷ []
 placed = refl
 
 -- a pipe alone, and nothing

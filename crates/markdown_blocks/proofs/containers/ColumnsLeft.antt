@@ -66,7 +66,7 @@ white_after n s white =
     let m = space_within n s in
     let lead : leading_spaces (rest_of s) ≡ s.pending + leading_spaces (written_out s.phase (unscanned s)) = leading_more s.pending _ in
     white_before (unscanned s) s.phase (s.phase + m - s.pending) (omega (arith, lead))
-    (subst (λ (bs : List ℕ). is_white bs ≡ true) (sym (drop-drop (bytes_for m s) s.place s.bytes)) white)
+    (subst (λ (bs : List ℕ). is_white bs ≡ true) (sym (drop-drop (bytes_for m s) s.offset s.bytes)) white)
 
 not_so : (t : Bool) → (t ≡ true → ⊥) → t ≡ false
 not_so true none = absurd (none refl)

@@ -14,8 +14,8 @@ use Rattle.markdown_blocks.specs.declared.containers.Container.TheVariants.{Quot
 use Rattle.markdown_values.specs.declared.values.extensions.Extensions.{Extensions}
 use Rattle.markdown_blocks.specs.declared.containers.Container.{Container}
 use Rattle.markdown_blocks.proofs.taken.TakenLemmas.{slice_after}
-use Rattle.markdown_blocks.specs.containers.Containers.{goes_on_blank, go_on, Behind, behind_quote, all_containers, begun_at}
-use Rattle.markdown_blocks.specs.containers.Containers.{begun_behind, either_begun, extension_of, footnote_by, item_of}
+use Rattle.markdown_blocks.specs.containers.Containers.{goes_on_blank, go_on, LineMatch, past_quote, all_containers, begun_at}
+use Rattle.markdown_blocks.specs.containers.Containers.{begun_after, either_begun, extension_of, footnote_by, item_of}
 use Rattle.markdown_blocks.specs.containers.Containers.{term_definition_by, within_quote, within_width}
 use Rattle.markdown_blocks.specs.containers.Footnotes.{footnote_label}
 
@@ -24,27 +24,27 @@ pub near : (indent : ℕ) → indent < 4 → (indent == 4) ≡ false
 near indent h = grind arith
 
 quote_here : (indent : ℕ) (s : LineState) → indent < 4 → begins_with (λ b. b == greater_than_sign) (unscanned s) ≡ true
-    → within_quote (behind_quote indent s) ≡ Some (is_blank (unscanned (after_quote s)), after_quote s)
+    → within_quote (past_quote indent s) ≡ Some (is_blank (unscanned (after_quote s)), after_quote s)
 quote_here indent s h marked = rw (near indent h, marked) refl
 
 pub quote_passed : (s t after : LineState) (indent : ℕ) (blank : Bool) → indent ≡ space_within 4 s → t ≡ after_space 4 s → indent < 4
     → begins_with (λ b. b == greater_than_sign) (unscanned t) ≡ true → after ≡ after_quote t → blank ≡ is_blank (unscanned after)
-    → within_quote (behind_quote (space_within 4 s) (after_space 4 s)) ≡ Some (blank, after)
+    → within_quote (past_quote (space_within 4 s) (after_space 4 s)) ≡ Some (blank, after)
 quote_passed s t after indent blank columns is few marked passed empty =
-    let here : within_quote (behind_quote indent t) ≡ Some (blank, after) =
+    let here : within_quote (past_quote indent t) ≡ Some (blank, after) =
     quote_here indent t few marked ∙ ap (λ z. Some (is_blank (unscanned z), z)) (sym passed) ∙ ap (λ b. Some (b, after)) (sym empty) in
-    subst (λ n. within_quote (behind_quote n (after_space 4 s)) ≡ Some (blank, after)) columns
-    (subst (λ z. within_quote (behind_quote indent z) ≡ Some (blank, after)) is here)
+    subst (λ n. within_quote (past_quote n (after_space 4 s)) ≡ Some (blank, after)) columns
+    (subst (λ z. within_quote (past_quote indent z) ≡ Some (blank, after)) is here)
 
 pub item_given : (found : Outcome (ℕ × ℕ × ℕ)) (after : LineState) (delimiter start width : ℕ) (begun : Bool) → Some (delimiter, start, width) ≡ found.answer
     → after ≡ found.state → begun ≡ is_blank (unscanned after)
-    → item_of found ≡ Some (Item (record { delimiter = delimiter; start = start; width = width; begun = begun }), after)
+    → item_of found ≡ Some (Item (record { delimiter = delimiter; start = start; width = width; starts_blank = begun }), after)
 item_given found after delimiter start width begun answers is blank = rw (← answers, ← is, blank) refl
 
 -- no block quote begins there
 pub begun_other : (asked : Extensions) (indent : ℕ) (s t : LineState) → (indent == 4) ≡ false
     → begins_with (λ b. b == greater_than_sign) (unscanned s) ≡ false → t ≡ s
-    → begun_behind asked indent s ≡ either_begun (item_of (item_outcome indent t)) (extension_of asked indent t)
+    → begun_after asked indent s ≡ either_begun (item_of (item_outcome indent t)) (extension_of asked indent t)
 begun_other asked indent s t far other same =
     rw (far, other) (ap (λ z. either_begun (item_of (item_outcome indent z)) (extension_of asked indent z)) (sym same))
 
@@ -95,13 +95,13 @@ begun_by_all asked s r is =
 
 -- the container that a line begins, where its rest is passed
 pub begun_given : (asked : Extensions) (s t after : LineState) (indent : ℕ) (r : Option Container) → indent ≡ space_within 4 s → t ≡ after_space 4 s
-    → IfSome r (λ container. begun_behind asked indent t ≡ Some (container, after)) → IfNone r (begun_behind asked indent t ≡ None)
+    → IfSome r (λ container. begun_after asked indent t ≡ Some (container, after)) → IfNone r (begun_after asked indent t ≡ None)
     → is_some r ≡ is_some (begun_at asked s)
-begun_given asked s t after indent r columns is found none = subst (λ n. is_some r ≡ is_some (begun_behind asked n (after_space 4 s))) columns
-    (subst (λ z. is_some r ≡ is_some (begun_behind asked indent z)) is (by r found none))
+begun_given asked s t after indent r columns is found none = subst (λ n. is_some r ≡ is_some (begun_after asked n (after_space 4 s))) columns
+    (subst (λ z. is_some r ≡ is_some (begun_after asked indent z)) is (by r found none))
   where
-    by : (r : Option Container) → IfSome r (λ container. begun_behind asked indent t ≡ Some (container, after)) → IfNone r (begun_behind asked indent t ≡ None)
-        → is_some r ≡ is_some (begun_behind asked indent t)
+    by : (r : Option Container) → IfSome r (λ container. begun_after asked indent t ≡ Some (container, after)) → IfNone r (begun_after asked indent t ≡ None)
+        → is_some r ≡ is_some (begun_after asked indent t)
     by None found none = sym (ap is_some none)
     by (Some container) found none = sym (ap is_some found)
 
@@ -114,16 +114,16 @@ pub no_quote : (s after : LineState) → begins_with (λ b. b == greater_than_si
 no_quote s after other is = rw other at is
 
 -- what is left of the line from a position on
-pub rest_at_place : (line : List ℕ) (s : LineState) (p : ℕ) → s.bytes ≡ line → p ≡ s.place → unscanned s ≡ take (length line - p) (drop p line)
-rest_at_place line s p same place = sym (slice_after line p ∙ rw (same, place) refl)
+pub rest_at_offset : (line : List ℕ) (s : LineState) (p : ℕ) → s.bytes ≡ line → p ≡ s.offset → unscanned s ≡ take (length line - p) (drop p line)
+rest_at_offset line s p same offset = sym (slice_after line p ∙ rw (same, offset) refl)
 
 -- that is blank
-pub blank_at : (line : List ℕ) (s : LineState) (p : ℕ) (blank : Bool) → s.bytes ≡ line → p ≡ s.place → blank ≡ is_blank (take (length line - p) (drop p line))
+pub blank_at : (line : List ℕ) (s : LineState) (p : ℕ) (blank : Bool) → s.bytes ≡ line → p ≡ s.offset → blank ≡ is_blank (take (length line - p) (drop p line))
     → blank ≡ is_blank (unscanned s)
-blank_at line s p blank same place is = is ∙ ap is_blank (sym (rest_at_place line s p same place))
+blank_at line s p blank same offset is = is ∙ ap is_blank (sym (rest_at_offset line s p same offset))
 
 -- a line after a container, by what it has of that
-abbrev pub step_on : List Container → LineState → Option (Bool × LineState) → Behind
+abbrev pub step_on : List Container → LineState → Option (Bool × LineState) → LineMatch
 step_on inner s found = elim found [
   | Some r ↦ (let more = go_on r.0 inner r.1 in record { kept = suc more.kept; state = more.state })
   | None ↦ record { kept = 0; state = s }
@@ -137,31 +137,31 @@ plain_width : (begun : Bool) (width : ℕ) (cs : List Container) (s : LineState)
     → (not begun && list_all goes_on_blank cs) ≡ true
     → step_on cs s (within_width begun width true s) ≡ record { kept = suc (length cs); state = s }
 plain_width true width cs s later all = cc
-plain_width false width cs s later all = ap (λ (b : Behind). record { kept = suc b.kept; state = b.state }) (later all)
+plain_width false width cs s later all = ap (λ (b : LineMatch). record { kept = suc b.kept; state = b.state }) (later all)
 
 pub plain_on : (cs : List Container) (s : LineState) → list_all goes_on_blank cs ≡ true → GoesOn cs s
 plain_on [] s all = refl
 plain_on (Quote ∷ cs) s all = cc
 plain_on (Footnote ∷ cs) s all = plain_width false 4 cs s (plain_on cs s) all
-plain_on (Item item ∷ cs) s all = plain_width item.begun item.width cs s (plain_on cs s) all
-plain_on (TermDefinition definition ∷ cs) s all = plain_width definition.begun definition.width cs s (plain_on cs s) all
+plain_on (Item item ∷ cs) s all = plain_width item.starts_blank item.width cs s (plain_on cs s) all
+plain_on (TermDefinition definition ∷ cs) s all = plain_width definition.starts_blank definition.width cs s (plain_on cs s) all
 
--- from a place on, and so after it
-plain_behind : (plain kept : ℕ) (cs : List Container) → plain ≤ kept → list_all goes_on_blank (drop plain cs) ≡ true
+-- from an offset on, and so after it
+plain_after : (plain kept : ℕ) (cs : List Container) → plain ≤ kept → list_all goes_on_blank (drop plain cs) ≡ true
     → list_all goes_on_blank (drop kept cs) ≡ true
-plain_behind zero zero cs low all = all
-plain_behind zero (suc kept) [] low all = refl
-plain_behind zero (suc kept) (c ∷ cs) low all = plain_behind zero kept cs (omega arith) (by (goes_on_blank c) refl)
+plain_after zero zero cs low all = all
+plain_after zero (suc kept) [] low all = refl
+plain_after zero (suc kept) (c ∷ cs) low all = plain_after zero kept cs (omega arith) (by (goes_on_blank c) refl)
   where
     by : (b : Bool) → goes_on_blank c ≡ b → list_all goes_on_blank cs ≡ true
     by true is = rw is at all
     by false is = let none : list_all goes_on_blank (c ∷ cs) ≡ false = rw is refl in cc
-plain_behind (suc plain) zero cs low all = absurd (omega arith)
-plain_behind (suc plain) (suc kept) [] low all = refl
-plain_behind (suc plain) (suc kept) (c ∷ cs) low all = plain_behind plain kept cs (omega arith) all
+plain_after (suc plain) zero cs low all = absurd (omega arith)
+plain_after (suc plain) (suc kept) [] low all = refl
+plain_after (suc plain) (suc kept) (c ∷ cs) low all = plain_after plain kept cs (omega arith) all
 
 pub plain_rest : (blank : Bool) (plain kept : ℕ) (cs rest : List Container) (s : LineState) → blank ≡ true → plain ≤ kept
     → list_all goes_on_blank (drop plain cs) ≡ true → rest ≡ drop kept cs → go_on blank rest s ≡ record { kept = length rest; state = s }
 plain_rest false plain kept cs rest s is low all at = cc
 plain_rest true plain kept cs rest s is low all at =
-    plain_on rest s (ap (list_all goes_on_blank) at ∙ plain_behind plain kept cs low all)
+    plain_on rest s (ap (list_all goes_on_blank) at ∙ plain_after plain kept cs low all)

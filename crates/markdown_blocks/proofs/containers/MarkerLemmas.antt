@@ -8,7 +8,7 @@ use Rattle.markdown_scanners_tree.specs.line.Outcome.{definition_outcome, not_fo
 use Rattle.markdown_scanners_tree.specs.line.State.{LineState, unscanned}
 use Rattle.markdown_scanners_tree.specs.scanners.list_items.ListMarker.{Marker, bullet_marker, is_bullet, list_marker, ordered_marker, ordered_marker_of}
 use Rattle.markdown_scanners_tree.specs.scanners.Breaks.{is_thematic_break}
-use Rattle.markdown_blocks.specs.containers.Containers.{begun_behind, either_begun, extension_of, footnote_by, footnote_of, item_of}
+use Rattle.markdown_blocks.specs.containers.Containers.{begun_after, either_begun, extension_of, footnote_by, footnote_of, item_of}
 use Rattle.markdown_blocks.specs.containers.Containers.{term_definition_by, term_definition_of}
 use Rattle.markdown_blocks.specs.containers.Footnotes.{footnote_label}
 use Rattle.markdown_blocks.specs.containers.ItemMarkers.{item_outcome, item_outcome_by}
@@ -77,7 +77,7 @@ either_none (Some begun) second none = refl
 
 -- where a byte of an item's marker stands, an item begins or nothing
 pub item_begun : (asked : Extensions) (indent : ℕ) (s : LineState) → begins_with is_item_byte (unscanned s) ≡ true
-    → (indent == 4) ≡ false → begun_behind asked indent s ≡ item_of (item_outcome indent s)
+    → (indent == 4) ≡ false → begun_after asked indent s ≡ item_of (item_outcome indent s)
 item_begun asked indent s item near =
     rw (near, begins_with_other greater_than_sign (unscanned s) refl item)
     (either_none (item_of (item_outcome indent s)) (extension_of asked indent s)
@@ -126,7 +126,7 @@ other_begun asked indent s no_item =
 
 -- where no byte of a marker stands nothing begins
 pub none_begun : (asked : Extensions) (indent : ℕ) (s : LineState) → begins_with is_item_byte (unscanned s) ≡ false
-    → begins_with (is_other_byte asked) (unscanned s) ≡ false → begun_behind asked indent s ≡ None
+    → begins_with (is_other_byte asked) (unscanned s) ≡ false → begun_after asked indent s ≡ None
 none_begun asked indent s no_item none = elim (cases_Bool (indent == 4)) [
   | inl far ↦ rw far refl
   | inr near ↦ rw (near, no_quote_there asked (unscanned s) none)

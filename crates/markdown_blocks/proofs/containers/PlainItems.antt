@@ -14,7 +14,7 @@ use Rattle.markdown_scanners_tree.specs.scanners.list_items.ListMarker.{Marker, 
 use Rattle.markdown_scanners_tree.proofs.line.SpaceLemmas.{IsTaken, none_at_front, none_of_byte, one_of_byte, state_of}
 use Rattle.markdown_scanners_tree.proofs.line.WrittenLemmas.{head-cons}
 use Rattle.markdown_blocks.specs.blank_lines.BlankLines.{is_blank}
-use Rattle.markdown_blocks.specs.containers.Containers.{begun_behind, item_of}
+use Rattle.markdown_blocks.specs.containers.Containers.{begun_after, item_of}
 use Rattle.markdown_blocks.specs.containers.ItemMarkers.{further_spaces, item_outcome, item_outcome_after, item_outcome_by}
 use Rattle.markdown_blocks.specs.containers.private.Markers.{IsPlainBullet, is_item_byte}
 use Rattle.markdown_blocks.specs.declared.containers.Container.TheVariants.{Item}
@@ -101,28 +101,28 @@ module _ (indent : ℕ) (s : LineState) (bullet byte : ℕ) (rest : List ℕ) (i
   past_marker = bytes_further 1 s
 
   abbrev pub past_space : LineState
-  past_space = state_of s.bytes (s.place + 1 + 1) 0 (s.phase + 2)
+  past_space = state_of s.bytes (s.offset + 1 + 1) 0 (s.phase + 2)
 
-  space_there : drop (s.place + 1) s.bytes ≡ 32 ∷ byte ∷ rest
-  space_there = tail_at s.bytes s.place bullet (32 ∷ byte ∷ rest) at
+  space_there : drop (s.offset + 1) s.bytes ≡ 32 ∷ byte ∷ rest
+  space_there = tail_at s.bytes s.offset bullet (32 ∷ byte ∷ rest) at
 
   pub word_there : unscanned past_space ≡ byte ∷ rest
-  word_there = tail_at s.bytes (s.place + 1) 32 (byte ∷ rest) space_there
+  word_there = tail_at s.bytes (s.offset + 1) 32 (byte ∷ rest) space_there
 
   one_space : IsTaken 1 1 past_marker past_space
   one_space =
-      let there = byte_there s.bytes (s.place + 1) 32 (byte ∷ rest) space_there in
+      let there = byte_there s.bytes (s.offset + 1) 32 (byte ∷ rest) space_there in
       let sum : s.phase + 1 + 1 ≡ s.phase + 2 = omega arith in
-      subst (λ (c : ℕ). IsTaken 1 1 past_marker (state_of s.bytes (s.place + 1 + 1) 0 c)) sum
-      (one_of_byte s.bytes (s.place + 1) (s.phase + 1) s.pending 32 1 0 none there.0 there.1 (inl (refl, refl)) refl)
+      subst (λ (c : ℕ). IsTaken 1 1 past_marker (state_of s.bytes (s.offset + 1 + 1) 0 c)) sum
+      (one_of_byte s.bytes (s.offset + 1) (s.phase + 1) s.pending 32 1 0 none there.0 there.1 (inl (refl, refl)) refl)
 
   text_front : begins_with is_space_or_tab (unscanned past_space) ≡ false
   text_front = ap (begins_with is_space_or_tab) word_there ∙ (let w = word byte more in rw (w.space, w.tab) refl)
 
   no_space : IsTaken 0 0 past_space past_space
   no_space =
-      let there = byte_there s.bytes (s.place + 1 + 1) byte rest word_there in
-      none_of_byte s.bytes (s.place + 1 + 1) (s.phase + 2) 0 0 refl (omega (arith, there.0))
+      let there = byte_there s.bytes (s.offset + 1 + 1) byte rest word_there in
+      none_of_byte s.bytes (s.offset + 1 + 1) (s.phase + 2) 0 0 refl (omega (arith, there.0))
       (none_at_front (unscanned past_space) (s.phase + 2) text_front)
 
   pub not_blank : is_blank (unscanned past_space) ≡ false
@@ -158,13 +158,13 @@ module _ (indent : ℕ) (s : LineState) (bullet byte : ℕ) (rest : List ℕ) (i
 
 -- a plain bullet begins an item
 pub plain_given : (indent : ℕ) (s after : LineState) (bullet width : ℕ) → IsPlainBullet bullet (unscanned s) → s.pending ≡ 0
-    → after ≡ record { bytes = s.bytes; place = s.place + 2; pending = 0; phase = (s.phase + 2) % 4 } → width ≡ indent + 2
-    → item_of (item_outcome indent s) ≡ Some (Item (record { delimiter = bullet; start = 0; width = width; begun = false }), after)
+    → after ≡ record { bytes = s.bytes; offset = s.offset + 2; pending = 0; phase = (s.phase + 2) % 4 } → width ≡ indent + 2
+    → item_of (item_outcome indent s) ≡ Some (Item (record { delimiter = bullet; start = 0; width = width; starts_blank = false }), after)
 plain_given indent s after bullet width (byte, rest, is, more, at) none there wide =
-    let two : s.place + 1 + 1 ≡ s.place + 2 = omega arith in
+    let two : s.offset + 1 + 1 ≡ s.offset + 2 = omega arith in
     let sum : indent + 1 + 1 + 0 ≡ indent + 2 = omega arith in
     let same : after ≡ past_space indent s bullet byte rest is more none at =
-    there ∙ ap (λ p. record { bytes = s.bytes; place = p; pending = 0; phase = (s.phase + 2) % 4 }) (sym two) in
+    there ∙ ap (λ p. record { bytes = s.bytes; offset = p; pending = 0; phase = (s.phase + 2) % 4 }) (sym two) in
     let whole = plain_outcome indent s bullet byte rest is more none at in
     item_given (item_outcome indent s) after bullet 0 width false
     (ap (λ n. Some (bullet, 0, n)) (wide ∙ sym sum) ∙ sym (ap (λ (o : Outcome (ℕ × ℕ × ℕ)). o.answer) whole))
@@ -173,7 +173,7 @@ plain_given indent s after bullet width (byte, rest, is, more, at) none there wi
 
 -- so does one after less than four columns of space, whatever extensions are on
 pub plain_begun : (asked : Extensions) (indent : ℕ) (s : LineState) (bullet : ℕ) → IsPlainBullet bullet (unscanned s) → s.pending ≡ 0
-    → (indent == 4) ≡ false → is_some (begun_behind asked indent s) ≡ true
+    → (indent == 4) ≡ false → is_some (begun_after asked indent s) ≡ true
 plain_begun asked indent s bullet (byte, rest, is, more, at) none near =
     let item : begins_with is_item_byte (unscanned s) ≡ true =
     ap (begins_with is_item_byte) at ∙ ap (λ t. t || is_digit bullet) is in

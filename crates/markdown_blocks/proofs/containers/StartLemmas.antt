@@ -16,7 +16,7 @@ use Rattle.markdown_scanners_tree.specs.scanners.list_items.ListMarker.{list_mar
 use Rattle.markdown_scanners_tree.specs.scanners.Breaks.{is_thematic_break}
 use Rattle.markdown_scanners_tree.proofs.PrefixLemmas.{both_true, list_all-prefix}
 
-abbrev few_digits : ℕ
+abbrev pub few_digits : ℕ
 few_digits = 10 ^ 9
 
 all_digits : (digits : List ℕ) → list_all is_digit digits ≡ true → AllDigits 10 digits
@@ -67,7 +67,7 @@ either_small : (found other : Option Marker) (m : Marker) → ((n : Marker) → 
 either_small None other m small small' is = small' m is
 either_small (Some n) other m small small' is = small m is
 
-marker_small : (r : List ℕ) (m : Marker) → list_marker r ≡ Some m → m.start < few_digits
+pub marker_small : (r : List ℕ) (m : Marker) → list_marker r ≡ Some m → m.start < few_digits
 marker_small r m is =
     either_small (bullet_marker r) (ordered_marker r) m (bullet_small r) (λ n at. ordered_small (take_while is_digit r) _ n
     (all_digits (take_while is_digit r) (list_all-prefix is_digit r)) at) is

@@ -9,14 +9,14 @@ use Rattle.markdown_scanners_tree.specs.line.State.{LineState, after_space, lead
 use Rattle.markdown_scanners_tree.proofs.line.SpaceLemmas.{none_at_front}
 use Rattle.markdown_scanners_tree.proofs.line.WrittenLemmas.{head-cons}
 use Rattle.markdown_blocks.specs.blank_lines.BlankLines.{is_blank}
-use Rattle.markdown_blocks.specs.containers.Containers.{behind, go_on, within}
+use Rattle.markdown_blocks.specs.containers.Containers.{match_line, go_on, within}
 use Rattle.markdown_blocks.specs.declared.containers.Container.{Container}
 use Rattle.markdown_blocks.specs.declared.containers.Container.TheVariants.{Item}
 use Rattle.markdown_blocks.specs.declared.containers.ListItem.{ListItem}
 
 -- an item has some columns of space on each later line
 pub ends_item : (item : ListItem) (inner : List Container) (byte : ℕ) (rest : List ℕ) → 0 < item.width → 32 < byte
-    → behind (Item item ∷ inner) (byte ∷ rest) ≡ record { kept = 0; state = start_of (byte ∷ rest) }
+    → match_line (Item item ∷ inner) (byte ∷ rest) ≡ record { kept = 0; state = start_of (byte ∷ rest) }
 ends_item item inner byte rest some text =
     let line = byte ∷ rest in
     let s = start_of line in

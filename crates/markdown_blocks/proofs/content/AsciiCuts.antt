@@ -9,11 +9,11 @@ use Rattle.std.proofs.lemmas.List.Sums.{prefix_len-le-length, prefix_len_stops, 
 use Rattle.std.proofs.lemmas.Str.{IsCharBoundary-before_ascii, IsCharBoundary-end, IsCharBoundary-start, IsUtf8-drop, IsUtf8-take}
 use Rattle.markdown_scanners_tree.specs.Ascii.{number_sign}
 use Rattle.markdown_scanners_tree.specs.Bytes.{is_line_ending, is_space_or_tab, line_head}
-use Rattle.markdown_scanners_tree.proofs.ForCallers.{cut_behind_ascii}
+use Rattle.markdown_scanners_tree.proofs.ForCallers.{cut_after_ascii}
 use Rattle.markdown_scanners_tree.proofs.line.ColumnLemmas.{bool_cases}
 use Rattle.markdown_blocks.specs.content.Content.{words_len}
 use Rattle.markdown_blocks.specs.content.Parts.{without_closing, without_signs}
-use Rattle.markdown_blocks.specs.info.Info.{behind_fence, info_of, without_end, without_front}
+use Rattle.markdown_blocks.specs.info.Info.{after_fence, info_of, without_end, without_front}
 
 -- bytes that pass the test are ASCII
 abbrev pub IsOfAscii : (ℕ → Bool) → Type 0
@@ -43,12 +43,12 @@ module _ (test : ℕ → Bool) (low : IsOfAscii test) where
       get_or-reverse bytes (n - 1) 0 (omega (arith, some, few)) ∙ ap (λ i. get_or bytes i 0) (omega (arith, some, few)) in
       subst (λ b. b < 128) same last
 
-  pub cut_behind_front : (bytes : List ℕ) → IsUtf8 bytes → IsCharBoundary bytes (prefix_len test bytes)
-  cut_behind_front bytes utf8 = by (prefix_len test bytes) (λ n is. at_front bytes n is) (prefix_len-le-length test bytes)
+  pub cut_after_front : (bytes : List ℕ) → IsUtf8 bytes → IsCharBoundary bytes (prefix_len test bytes)
+  cut_after_front bytes utf8 = by (prefix_len test bytes) (λ n is. at_front bytes n is) (prefix_len-le-length test bytes)
     where
       by : (n : ℕ) → ((k : ℕ) → k < n → get_or bytes k 0 < 128) → n ≤ length bytes → IsCharBoundary bytes n
       by zero all within = IsCharBoundary-start bytes utf8
-      by (suc n) all within = cut_behind_ascii bytes (suc n) utf8 within (omega arith) (all (suc n - 1) (omega arith))
+      by (suc n) all within = cut_after_ascii bytes (suc n) utf8 within (omega arith) (all (suc n - 1) (omega arith))
 
   pub cut_before_end : (bytes : List ℕ) → IsCharBoundary bytes (length bytes - suffix_len test bytes)
   cut_before_end bytes = elim (leb_tells 1 (suffix_len test bytes)) [
@@ -58,8 +58,8 @@ module _ (test : ℕ → Bool) (low : IsOfAscii test) where
         subst (IsCharBoundary bytes) all (IsCharBoundary-end bytes))
   ]
 
-  pub behind_front : (bytes : List ℕ) → IsUtf8 bytes → IsUtf8 (drop (prefix_len test bytes) bytes)
-  behind_front bytes utf8 = IsUtf8-drop bytes (prefix_len test bytes) utf8 (cut_behind_front bytes utf8)
+  pub after_front : (bytes : List ℕ) → IsUtf8 bytes → IsUtf8 (drop (prefix_len test bytes) bytes)
+  after_front bytes utf8 = IsUtf8-drop bytes (prefix_len test bytes) utf8 (cut_after_front bytes utf8)
 
   pub before_end : (bytes : List ℕ) → IsUtf8 bytes → IsUtf8 (take (length bytes - suffix_len test bytes) bytes)
   before_end bytes utf8 = IsUtf8-take bytes (length bytes - suffix_len test bytes) utf8 (cut_before_end bytes)
@@ -93,19 +93,19 @@ pub head_utf8 : (text : List ℕ) → IsUtf8 text → IsUtf8 (line_head text)
 head_utf8 text utf8 = before_stop (λ b. not (is_line_ending b)) ending_low text utf8
 
 pub front_utf8 : (text : List ℕ) → IsUtf8 text → IsUtf8 (without_front text)
-front_utf8 text utf8 = behind_front is_space_or_tab spaces_low text utf8
+front_utf8 text utf8 = after_front is_space_or_tab spaces_low text utf8
 
 pub end_utf8 : (text : List ℕ) → IsUtf8 text → IsUtf8 (without_end text)
 end_utf8 text utf8 = before_end is_space_or_tab spaces_low text utf8
 
-pub fence_utf8 : (byte : ℕ) → byte < 128 → (text : List ℕ) → IsUtf8 text → IsUtf8 (behind_fence byte text)
-fence_utf8 byte low text utf8 = behind_front (λ b. b == byte) (byte_low byte low) text utf8
+pub fence_utf8 : (byte : ℕ) → byte < 128 → (text : List ℕ) → IsUtf8 text → IsUtf8 (after_fence byte text)
+fence_utf8 byte low text utf8 = after_front (λ b. b == byte) (byte_low byte low) text utf8
 
 -- the info string after a fence of a byte of ASCII
 pub info_utf8 : (byte : ℕ) (fence : List ℕ) → byte < 128 → IsUtf8 fence → IsUtf8 (info_of byte fence)
 info_utf8 byte fence low utf8 =
-    end_utf8 (without_front (line_head (behind_fence byte fence)))
-    (front_utf8 (line_head (behind_fence byte fence)) (head_utf8 (behind_fence byte fence) (fence_utf8 byte low fence utf8)))
+    end_utf8 (without_front (line_head (after_fence byte fence)))
+    (front_utf8 (line_head (after_fence byte fence)) (head_utf8 (after_fence byte fence) (fence_utf8 byte low fence utf8)))
 
 -- the text of a heading without a closing sequence
 pub closing_utf8 : (text : List ℕ) → IsUtf8 text → IsUtf8 (without_closing text)

@@ -5,20 +5,20 @@ use Rattle.std.proofs.lemmas.Bool.Decides.{leb_tells}
 use Rattle.std.proofs.lemmas.List.{get_or-drop, get_or-take, length-append, length-drop, length-take, take-append-le}
 use Rattle.std.proofs.lemmas.Str.{IsCharBoundary-from_take, IsUtf8-drop, IsUtf8-take}
 
--- of so many bytes from a place on
-pub cut_of_part : (text : List ℕ) (place n i : ℕ) → IsCharBoundary text (place + n) → IsCharBoundary (take n (drop place text)) i
-    → IsCharBoundary text (place + i)
-cut_of_part text place n i ends cut =
-    let few = length-take n (drop place text) in
-    let size = length-drop place text in
+-- of so many bytes from an offset on
+pub cut_of_part : (text : List ℕ) (offset n i : ℕ) → IsCharBoundary text (offset + n) → IsCharBoundary (take n (drop offset text)) i
+    → IsCharBoundary text (offset + i)
+cut_of_part text offset n i ends cut =
+    let few = length-take n (drop offset text) in
+    let size = length-drop offset text in
     let within = cut.0 in
     let most = ends.0 in
     elim (leb_tells n i) [
-      | inl far ↦ (let same : place + n ≡ place + i = omega (arith, far.1, few, within) in subst (IsCharBoundary text) same ends)
+      | inl far ↦ (let same : offset + n ≡ offset + i = omega (arith, far.1, few, within) in subst (IsCharBoundary text) same ends)
       | inr near ↦ (
         omega (arith, near.1, most),
         λ low high.
-            let byte = get_or-take n (drop place text) i 0 near.1 ∙ get_or-drop place text i 0 in
+            let byte = get_or-take n (drop offset text) i 0 near.1 ∙ get_or-drop offset text i 0 in
             subst (λ b. 192 ≤ b) byte
             (cut.1 (omega (arith, few, size, near.1, low)) (subst (λ b. 128 ≤ b) (sym byte) high)),
       )
@@ -31,14 +31,14 @@ cut_of_front text n i ends cut =
     let end : 0 + i ≡ i = omega arith in
     subst (IsCharBoundary text) end (cut_of_part text 0 n i (subst (IsCharBoundary text) at ends) cut)
 
--- and a boundary of the text is one of what stands from a place on
-pub cut_of_rest : (text : List ℕ) (place i : ℕ) → IsCharBoundary text (place + i) → IsCharBoundary (drop place text) i
-cut_of_rest text place i cut =
-    let size = length-drop place text in
+-- and a boundary of the text is one of what stands from an offset on
+pub cut_of_rest : (text : List ℕ) (offset i : ℕ) → IsCharBoundary text (offset + i) → IsCharBoundary (drop offset text) i
+cut_of_rest text offset i cut =
+    let size = length-drop offset text in
     let within = cut.0 in (
       omega (arith, size, within),
       λ low high.
-          let byte = get_or-drop place text i 0 in
+          let byte = get_or-drop offset text i 0 in
           subst (λ b. 192 ≤ b) (sym byte) (cut.1 (omega (arith, low, size)) (subst (λ b. 128 ≤ b) byte high)),
     )
 

@@ -171,14 +171,14 @@ module _ (lines : List ℕ) (p : Part) (inside : IsIn lines p) where
       let n = prefix_len (λ b. not (is_line_ending b)) p.bytes in
       let few = prefix_len-le-length (λ b. not (is_line_ending b)) p.bytes in
       let size : length (take n p.bytes) ≡ n = length-take-le n p.bytes few in
-      let head : take n (drop p.place lines) ≡ take n p.bytes =
-      ap (take n) inside.1 ∙ take-append-le n p.bytes (drop (p.place + length p.bytes) lines) few in (
+      let head : take n (drop p.offset lines) ≡ take n p.bytes =
+      ap (take n) inside.1 ∙ take-append-le n p.bytes (drop (p.offset + length p.bytes) lines) few in (
         omega (arith, inside.0, size, few),
-        sym (take-append-drop n (drop p.place lines)) ∙ ap (λ h. h ++ drop n (drop p.place lines)) head
-            ∙ ap (λ t. take n p.bytes ++ t) (drop-drop n p.place lines ∙ ap (λ k. drop (p.place + k) lines) (sym size)),
+        sym (take-append-drop n (drop p.offset lines)) ∙ ap (λ h. h ++ drop n (drop p.offset lines)) head
+            ∙ ap (λ t. take n p.bytes ++ t) (drop-drop n p.offset lines ∙ ap (λ k. drop (p.offset + k) lines) (sym size)),
       )
 
   pub ending_inside : IsIn lines (ending_of p)
   ending_inside =
-      let at : p.place + length p.bytes ≡ p.place + length p.bytes + 0 = omega arith in
+      let at : p.offset + length p.bytes ≡ p.offset + length p.bytes + 0 = omega arith in
       (omega (arith, inside.0), ap (λ n. drop n lines) at)

@@ -8,8 +8,8 @@ use Rattle.std.proofs.lemmas.List.Folds.{list_any-append, list_any_at}
 use Rattle.markdown_scanners_tree.specs.Ascii.{carriage_return, space}
 use Rattle.markdown_scanners_tree.specs.line.State.{space_within}
 use Rattle.markdown_blocks.specs.content.Content.{HasNoReturn, IsCodeOrHtml, IsContent, Placed, content_len, text_of}
-use Rattle.markdown_blocks.specs.content.Parts.{AreParts, Part, ended, first_place, has_return, head_of}
-use Rattle.markdown_blocks.specs.content.Parts.{later_parts, later_place, moved, part_at, text_place, written}
+use Rattle.markdown_blocks.specs.content.Parts.{AreParts, Part, ended, first_offset, has_return, head_of}
+use Rattle.markdown_blocks.specs.content.Parts.{later_parts, later_offset, moved, part_at, text_offset, written}
 use Rattle.markdown_blocks.specs.declared.blocks.BlockKind.{BlockKind}
 use Rattle.markdown_blocks.specs.declared.blocks.BlockKind.TheVariants.{Indented, Fenced, Html}
 use Rattle.markdown_blocks.specs.declared.containers.Container.{Container}
@@ -48,7 +48,7 @@ module _ (kind : BlockKind) (is : IsCodeOrHtml kind) (outer : List Container) (i
   later_have : (before : ℕ) (lines : List (List ℕ)) → AllByRecursion HasNone (later_parts kind outer indent before lines)
   later_have before [] = tt
   later_have before (line ∷ lines) =
-      let p = moved before (part_at (text_place kind indent (later_place kind outer line))) in
+      let p = moved before (part_at (text_offset kind indent (later_offset kind outer line))) in
       all_both HasNone (written kind p) (later_parts kind outer indent (before + length line) lines) (written_have kind is p refl)
       (later_have (before + length line) lines)
 
@@ -57,14 +57,14 @@ parts_have : (kind : BlockKind) → IsCodeOrHtml kind → (outer : List Containe
 parts_have kind code outer kept [] parts none = subst (AllByRecursion HasNone) (sym none) tt
 parts_have Indented code outer kept (line ∷ later) parts (inner, are, is) =
     subst (AllByRecursion HasNone) (sym is)
-    (all_both HasNone _ _ (ended_have (part_at (text_place Indented 0 (first_place kept outer line))) refl)
+    (all_both HasNone _ _ (ended_have (part_at (text_offset Indented 0 (first_offset kept outer line))) refl)
     (later_have Indented tt outer 0 (length line) inner))
 parts_have (Html kind) code outer kept (line ∷ later) parts (inner, are, is) =
     subst (AllByRecursion HasNone) (sym is)
-    (all_both HasNone _ _ (ended_have (part_at (first_place kept outer line)) refl) (later_have (Html kind) tt outer 0 (length line) inner))
+    (all_both HasNone _ _ (ended_have (part_at (first_offset kept outer line)) refl) (later_have (Html kind) tt outer 0 (length line) inner))
 parts_have (Fenced count byte) code outer kept (line ∷ later) parts (inner, are, is) =
     subst (AllByRecursion HasNone) (sym is)
-    (later_have (Fenced count byte) tt outer (space_within 4 (first_place kept outer line)) (length line) inner)
+    (later_have (Fenced count byte) tt outer (space_within 4 (first_offset kept outer line)) (length line) inner)
 parts_have kind code outer kept (line ∷ later) parts are = absurd code
 
 joined_none : (parts : List Part) → AllByRecursion HasNone parts → has_return (flat_map text_of parts) ≡ false

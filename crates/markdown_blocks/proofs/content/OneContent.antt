@@ -3,7 +3,7 @@ use Rattle.std.proofs.Common.{ℕ, List, [], ◌∷◌, ◌++◌, ◌≡◌, len
 use Rattle.std.proofs.lemmas.List.{same_from_push}
 use Rattle.markdown_scanners_tree.specs.line.State.{LineState, space_within}
 use Rattle.markdown_blocks.specs.content.Content.{IsContent, Placed, content_with}
-use Rattle.markdown_blocks.specs.content.Parts.{AreInner, AreParts, ArePartsAt, Part, first_place, later_parts, part_at, text_place, written}
+use Rattle.markdown_blocks.specs.content.Parts.{AreInner, AreParts, ArePartsAt, Part, first_offset, later_parts, part_at, text_offset, written}
 use Rattle.markdown_blocks.specs.declared.blocks.BlockKind.{BlockKind}
 use Rattle.markdown_blocks.specs.declared.blocks.BlockKind.TheVariants.{Blank, Break, Heading, Setext, Indented, Fenced, Html, Table, Definition, Paragraph}
 use Rattle.markdown_blocks.specs.declared.containers.Container.{Container}
@@ -17,12 +17,12 @@ one_inner kind outer later inner other (inr h) (inr g) = h.0 ∙ sym g.0
 
 text_parts : (kind : BlockKind) (outer : List Container) (s : LineState) (before : ℕ) (later : List (List ℕ)) (parts other : List Part)
     → (inner : List (List ℕ)) × AreInner kind outer later inner
-    × (parts ≡ written kind (part_at (text_place kind 0 s)) ++ later_parts kind outer 0 before inner)
+    × (parts ≡ written kind (part_at (text_offset kind 0 s)) ++ later_parts kind outer 0 before inner)
     → (inner : List (List ℕ)) × AreInner kind outer later inner
-    × (other ≡ written kind (part_at (text_place kind 0 s)) ++ later_parts kind outer 0 before inner)
+    × (other ≡ written kind (part_at (text_offset kind 0 s)) ++ later_parts kind outer 0 before inner)
     → parts ≡ other
 text_parts kind outer s before later parts other h g =
-    h.2 ∙ ap (λ inner. written kind (part_at (text_place kind 0 s)) ++ later_parts kind outer 0 before inner)
+    h.2 ∙ ap (λ inner. written kind (part_at (text_offset kind 0 s)) ++ later_parts kind outer 0 before inner)
     (one_inner kind outer later h.0 g.0 h.1 g.1) ∙ sym g.2
 
 one_list_at : (kind : BlockKind) (outer : List Container) (s : LineState) (before : ℕ) (later : List (List ℕ)) (parts other : List Part)
@@ -43,7 +43,7 @@ pub one_list_of_parts : (kind : BlockKind) (outer : List Container) (kept : ℕ)
     → AreParts kind outer kept lines parts → AreParts kind outer kept lines other → parts ≡ other
 one_list_of_parts kind outer kept [] parts other h g = h ∙ sym g
 one_list_of_parts kind outer kept (line ∷ later) parts other h g =
-    one_list_at kind outer (first_place kept outer line) (length line) later parts other h g
+    one_list_at kind outer (first_offset kept outer line) (length line) later parts other h g
 
 pub one_content : (kind : BlockKind) (outer : List Container) (kept : ℕ) (lines : List (List ℕ)) (content other : Placed)
     → IsContent kind outer kept lines content → IsContent kind outer kept lines other → content ≡ other

@@ -1,4 +1,4 @@
--- The places of a content rise.
+-- The offsets of a content rise.
 use Rattle.std.proofs.Common.{ℕ, zero, suc, Bool, true, false, ◌==◌, ◌+◌, ◌-◌, ◌<◌, ◌≤◌, ◌≡◌, List, [], ◌∷◌, ◌++◌, length, take, replicate, if◌then◌else◌}
 use Rattle.std.proofs.Common.{refl, sym, ap, subst, inl, inr, arith, append_assoc, ◌⊎◌}
 use Rattle.std.specs.Prelude.{⊤, slice_index}
@@ -7,24 +7,24 @@ use Rattle.std.specs.List.{flat_map, range_with_len}
 use Rattle.std.proofs.lemmas.Bool.{eqb-true}
 use Rattle.std.proofs.lemmas.Bool.Decides.{leb_tells}
 use Rattle.markdown_scanners_tree.specs.Ascii.{space}
-use Rattle.markdown_blocks.specs.content.Content.{IsContent, Placed, places_of, text_of}
+use Rattle.markdown_blocks.specs.content.Content.{IsContent, Placed, offsets_of, text_of}
 use Rattle.markdown_blocks.specs.content.Parts.{AreParts, Part, later_parts}
 use Rattle.markdown_blocks.specs.declared.blocks.BlockKind.{BlockKind}
 use Rattle.markdown_blocks.specs.declared.blocks.BlockKind.TheVariants.{Heading, Paragraph, Setext}
 use Rattle.markdown_blocks.specs.declared.containers.Container.{Container}
-use Rattle.markdown_blocks.proofs.content.ByteLemmas.{StandBehind, parts_behind}
+use Rattle.markdown_blocks.proofs.content.ByteLemmas.{StandAfter, parts_after}
 
--- No place stands before this one. Each stands after the one before it, or there where that is the place of a space, which may be a
+-- No offset stands before this one. Each stands after the one before it, or there where that is the offset of a space, which may be a
 -- column of the same tab.
 abbrev pub RisePast : ℕ → List ℕ → List ℕ → Type 0
-RisePast from [] places = ⊤
+RisePast from [] offsets = ⊤
 RisePast from (b ∷ bytes) [] = ⊤
-RisePast from (b ∷ bytes) (offset ∷ places) = (from ≤ offset) × RisePast (if b == space then offset else suc offset) bytes places
+RisePast from (b ∷ bytes) (offset ∷ offsets) = (from ≤ offset) × RisePast (if b == space then offset else suc offset) bytes offsets
 
-earlier_past : (from to : ℕ) (bytes places : List ℕ) → from ≤ to → RisePast to bytes places → RisePast from bytes places
-earlier_past from to [] places less rise = tt
+earlier_past : (from to : ℕ) (bytes offsets : List ℕ) → from ≤ to → RisePast to bytes offsets → RisePast from bytes offsets
+earlier_past from to [] offsets less rise = tt
 earlier_past from to (b ∷ bytes) [] less rise = tt
-earlier_past from to (b ∷ bytes) (offset ∷ places) less rise = (omega (arith, less, rise.0), rise.1)
+earlier_past from to (b ∷ bytes) (offset ∷ offsets) less rise = (omega (arith, less, rise.0), rise.1)
 
 at_most_next : (test : Bool) (offset : ℕ) → (if test then offset else suc offset) ≤ offset + 1
 at_most_next true offset = omega arith
@@ -56,85 +56,85 @@ columns_past (suc n) filler offset more rest (inr one) rise =
     at_most true = omega arith
     at_most false = omega arith
 
-part_past : (from : ℕ) (p : Part) (more rest : List ℕ) → from ≤ p.place → (0 < p.columns → from < p.place)
+part_past : (from : ℕ) (p : Part) (more rest : List ℕ) → from ≤ p.offset → (0 < p.columns → from < p.offset)
     → (p.filler ≡ space) ⊎ (p.columns ≤ 1)
-    → RisePast (p.place + length p.bytes) more rest → RisePast from (text_of p ++ more) (places_of p ++ rest)
+    → RisePast (p.offset + length p.bytes) more rest → RisePast from (text_of p ++ more) (offsets_of p ++ rest)
 part_past from p more rest low after are rise =
     let columns = replicate p.columns p.filler in
-    let run = run_past p.bytes p.place more rest rise in
-    subst (λ (t : List ℕ). RisePast from t (places_of p ++ rest)) (sym (append_assoc columns p.bytes more))
+    let run = run_past p.bytes p.offset more rest rise in
+    subst (λ (t : List ℕ). RisePast from t (offsets_of p ++ rest)) (sym (append_assoc columns p.bytes more))
     (subst (RisePast from (columns ++ (p.bytes ++ more)))
-    (sym (append_assoc (replicate p.columns (p.place - 1)) (range_with_len p.place (length p.bytes)) rest))
+    (sym (append_assoc (replicate p.columns (p.offset - 1)) (range_with_len p.offset (length p.bytes)) rest))
     (elim (leb_tells 1 p.columns) [
       | inl some ↦ (let later = after (omega (arith, some.1)) in
-          earlier_past from (p.place - 1) _ _ (omega (arith, later))
-          (columns_past p.columns p.filler (p.place - 1) _ _ are (earlier_past (suc (p.place - 1)) p.place _ _ (omega (arith, later)) run)))
+          earlier_past from (p.offset - 1) _ _ (omega (arith, later))
+          (columns_past p.columns p.filler (p.offset - 1) _ _ are (earlier_past (suc (p.offset - 1)) p.offset _ _ (omega (arith, later)) run)))
       | inr none ↦ (let zero_columns : p.columns ≡ 0 = omega (arith, none.1) in
           subst (λ n. RisePast from (replicate n p.filler ++ (p.bytes ++ more))
-          (replicate n (p.place - 1) ++ (range_with_len p.place (length p.bytes) ++ rest))) (sym zero_columns)
-          (earlier_past from p.place _ _ low run))
+          (replicate n (p.offset - 1) ++ (range_with_len p.offset (length p.bytes) ++ rest))) (sym zero_columns)
+          (earlier_past from p.offset _ _ low run))
     ]))
 
-parts_past : (from : ℕ) (parts : List Part) → StandBehind from parts → RisePast from (flat_map text_of parts) (flat_map places_of parts)
+parts_past : (from : ℕ) (parts : List Part) → StandAfter from parts → RisePast from (flat_map text_of parts) (flat_map offsets_of parts)
 parts_past from [] after = tt
 parts_past from (p ∷ parts) after =
-    part_past from p (flat_map text_of parts) (flat_map places_of parts) after.0 after.1 after.2
-    (parts_past (p.place + length p.bytes) parts after.3)
+    part_past from p (flat_map text_of parts) (flat_map offsets_of parts) after.0 after.1 after.2
+    (parts_past (p.offset + length p.bytes) parts after.3)
 
-front_past : (n from : ℕ) (bytes places : List ℕ) → RisePast from bytes places → RisePast from (take n bytes) (take n places)
-front_past zero from bytes places rise = tt
-front_past (suc n) from [] places rise = tt
+front_past : (n from : ℕ) (bytes offsets : List ℕ) → RisePast from bytes offsets → RisePast from (take n bytes) (take n offsets)
+front_past zero from bytes offsets rise = tt
+front_past (suc n) from [] offsets rise = tt
 front_past (suc n) from (b ∷ bytes) [] rise = tt
-front_past (suc n) from (b ∷ bytes) (offset ∷ places) rise = (rise.0, front_past n _ bytes places rise.1)
+front_past (suc n) from (b ∷ bytes) (offset ∷ offsets) rise = (rise.0, front_past n _ bytes offsets rise.1)
 
--- the places of a content rise
+-- the offsets of a content rise
 pub content_past : (kind : BlockKind) (outer : List Container) (kept : ℕ) (lines : List (List ℕ)) (content : Placed)
-    → IsContent kind outer kept lines content → RisePast 0 content.text content.places
+    → IsContent kind outer kept lines content → RisePast 0 content.text content.offsets
 content_past kind outer kept lines content is =
-    subst (λ (c : Placed). RisePast 0 c.text c.places) (sym is.is_content)
-    (front_past _ 0 (flat_map text_of is.parts) (flat_map places_of is.parts)
-    (parts_past 0 is.parts (parts_behind kind outer kept lines is.parts is.are_parts)))
+    subst (λ (c : Placed). RisePast 0 c.text c.offsets) (sym is.is_content)
+    (front_past _ 0 (flat_map text_of is.parts) (flat_map offsets_of is.parts)
+    (parts_past 0 is.parts (parts_after kind outer kept lines is.parts is.are_parts)))
 
 -- ---- by offsets
 
-past_from : (bytes places : List ℕ) (from j : ℕ) → RisePast from bytes places → length places ≡ length bytes → j < length places
-    → from ≤ slice_index places j
-past_from [] places from j rise each low = absurd (omega (arith, each, low))
+past_from : (bytes offsets : List ℕ) (from j : ℕ) → RisePast from bytes offsets → length offsets ≡ length bytes → j < length offsets
+    → from ≤ slice_index offsets j
+past_from [] offsets from j rise each low = absurd (omega (arith, each, low))
 past_from (b ∷ bytes) [] from j rise each low = absurd (omega (arith, low))
-past_from (b ∷ bytes) (offset ∷ places) from zero rise each low = rise.0
-past_from (b ∷ bytes) (offset ∷ places) from (suc j) rise each low =
-    omega (arith, rise.0, past_from bytes places _ j rise.1 (omega (arith, each)) (omega (arith, low)), least (b == space))
+past_from (b ∷ bytes) (offset ∷ offsets) from zero rise each low = rise.0
+past_from (b ∷ bytes) (offset ∷ offsets) from (suc j) rise each low =
+    omega (arith, rise.0, past_from bytes offsets _ j rise.1 (omega (arith, each)) (omega (arith, low)), least (b == space))
   where
     least : (test : Bool) → offset ≤ (if test then offset else suc offset)
     least true = omega arith
     least false = omega arith
 
 -- what stands after a byte that is no space stands after it on the page
-pub places_past : (bytes places : List ℕ) (from i j : ℕ) → RisePast from bytes places → length places ≡ length bytes → i < j
-    → j < length places → ¬ (slice_index bytes i ≡ space) → slice_index places i < slice_index places j
-places_past [] places from i j rise each less low other = absurd (omega (arith, each, low))
-places_past (b ∷ bytes) [] from i j rise each less low other = absurd (omega (arith, low))
-places_past (b ∷ bytes) (offset ∷ places) from i zero rise each less low other = absurd (omega (arith, less))
-places_past (b ∷ bytes) (offset ∷ places) from (suc i) (suc j) rise each less low other =
-    places_past bytes places _ i j rise.1 (omega (arith, each)) (omega (arith, less)) (omega (arith, low)) other
-places_past (b ∷ bytes) (offset ∷ places) from zero (suc j) rise each less low other = by (b == space) refl rise.1
+pub offsets_past : (bytes offsets : List ℕ) (from i j : ℕ) → RisePast from bytes offsets → length offsets ≡ length bytes → i < j
+    → j < length offsets → ¬ (slice_index bytes i ≡ space) → slice_index offsets i < slice_index offsets j
+offsets_past [] offsets from i j rise each less low other = absurd (omega (arith, each, low))
+offsets_past (b ∷ bytes) [] from i j rise each less low other = absurd (omega (arith, low))
+offsets_past (b ∷ bytes) (offset ∷ offsets) from i zero rise each less low other = absurd (omega (arith, less))
+offsets_past (b ∷ bytes) (offset ∷ offsets) from (suc i) (suc j) rise each less low other =
+    offsets_past bytes offsets _ i j rise.1 (omega (arith, each)) (omega (arith, less)) (omega (arith, low)) other
+offsets_past (b ∷ bytes) (offset ∷ offsets) from zero (suc j) rise each less low other = by (b == space) refl rise.1
   where
-    by : (test : Bool) → (b == space) ≡ test → RisePast (if test then offset else suc offset) bytes places → offset < slice_index places j
+    by : (test : Bool) → (b == space) ≡ test → RisePast (if test then offset else suc offset) bytes offsets → offset < slice_index offsets j
     by true is rest = absurd (other (eqb-true b space is))
     by false is rest =
-        let there = past_from bytes places (suc offset) j rest (omega (arith, each)) (omega (arith, low)) in
+        let there = past_from bytes offsets (suc offset) j rest (omega (arith, each)) (omega (arith, low)) in
         omega (arith, there)
 
 -- ---- text in which no tab is cut
 
--- each place stands after the one before it, and none before this one
+-- each offset stands after the one before it, and none before this one
 abbrev pub RiseStrictly : ℕ → List ℕ → Type 0
 RiseStrictly from [] = ⊤
-RiseStrictly from (offset ∷ places) = (from ≤ offset) × RiseStrictly (suc offset) places
+RiseStrictly from (offset ∷ offsets) = (from ≤ offset) × RiseStrictly (suc offset) offsets
 
-earlier_strictly : (from to : ℕ) (places : List ℕ) → from ≤ to → RiseStrictly to places → RiseStrictly from places
+earlier_strictly : (from to : ℕ) (offsets : List ℕ) → from ≤ to → RiseStrictly to offsets → RiseStrictly from offsets
 earlier_strictly from to [] less rise = tt
-earlier_strictly from to (offset ∷ places) less rise = (omega (arith, less, rise.0), rise.1)
+earlier_strictly from to (offset ∷ offsets) less rise = (omega (arith, less, rise.0), rise.1)
 
 run_strictly : (n offset : ℕ) (rest : List ℕ) → RiseStrictly (offset + n) rest → RiseStrictly offset (range_with_len offset n ++ rest)
 run_strictly zero offset rest rise = earlier_strictly offset (offset + 0) rest (omega arith) rise
@@ -148,18 +148,18 @@ abbrev AreUncut : List Part → Type 0
 AreUncut [] = ⊤
 AreUncut (p ∷ parts) = (p.columns ≡ 0) × AreUncut parts
 
-parts_strictly : (parts : List Part) (from : ℕ) → StandBehind from parts → AreUncut parts → RiseStrictly from (flat_map places_of parts)
+parts_strictly : (parts : List Part) (from : ℕ) → StandAfter from parts → AreUncut parts → RiseStrictly from (flat_map offsets_of parts)
 parts_strictly [] from after uncut = tt
 parts_strictly (p ∷ parts) from after uncut =
-    let rest = parts_strictly parts (p.place + length p.bytes) after.3 uncut.1 in
-    let run = run_strictly (length p.bytes) p.place (flat_map places_of parts) rest in
-    subst (λ n. RiseStrictly from ((replicate n (p.place - 1) ++ range_with_len p.place (length p.bytes)) ++ flat_map places_of parts)) (sym uncut.0)
-    (earlier_strictly from p.place _ after.0 run)
+    let rest = parts_strictly parts (p.offset + length p.bytes) after.3 uncut.1 in
+    let run = run_strictly (length p.bytes) p.offset (flat_map offsets_of parts) rest in
+    subst (λ n. RiseStrictly from ((replicate n (p.offset - 1) ++ range_with_len p.offset (length p.bytes)) ++ flat_map offsets_of parts)) (sym uncut.0)
+    (earlier_strictly from p.offset _ after.0 run)
 
-front_strictly : (n : ℕ) (places : List ℕ) (from : ℕ) → RiseStrictly from places → RiseStrictly from (take n places)
-front_strictly zero places from rise = tt
+front_strictly : (n : ℕ) (offsets : List ℕ) (from : ℕ) → RiseStrictly from offsets → RiseStrictly from (take n offsets)
+front_strictly zero offsets from rise = tt
 front_strictly (suc n) [] from rise = tt
-front_strictly (suc n) (offset ∷ places) from rise = (rise.0, front_strictly n places (suc offset) rise.1)
+front_strictly (suc n) (offset ∷ offsets) from rise = (rise.0, front_strictly n offsets (suc offset) rise.1)
 
 -- a block whose content is inlines
 abbrev pub HasInlines : BlockKind → Type 0
@@ -187,10 +187,10 @@ module _ (outer : List Container) where
       subst AreUncut (sym is) (refl, paragraph_uncut (length line) inner)
   parts_uncut kind kept (line ∷ later) parts inlines is = absurd inlines
 
--- the places of a content of inlines rise
+-- the offsets of a content of inlines rise
 pub inlines_strictly : (kind : BlockKind) (outer : List Container) (kept : ℕ) (lines : List (List ℕ)) (content : Placed) → HasInlines kind
-    → IsContent kind outer kept lines content → RiseStrictly 0 content.places
+    → IsContent kind outer kept lines content → RiseStrictly 0 content.offsets
 inlines_strictly kind outer kept lines content inlines is =
-    subst (λ (c : Placed). RiseStrictly 0 c.places) (sym is.is_content)
-    (front_strictly _ (flat_map places_of is.parts) 0
-    (parts_strictly is.parts 0 (parts_behind kind outer kept lines is.parts is.are_parts) (parts_uncut outer kind kept lines is.parts inlines is.are_parts)))
+    subst (λ (c : Placed). RiseStrictly 0 c.offsets) (sym is.is_content)
+    (front_strictly _ (flat_map offsets_of is.parts) 0
+    (parts_strictly is.parts 0 (parts_after kind outer kept lines is.parts is.are_parts) (parts_uncut outer kind kept lines is.parts inlines is.are_parts)))

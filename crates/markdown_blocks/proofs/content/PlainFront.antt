@@ -67,5 +67,5 @@ plain_front n s fewer =
     let t : space_within n s ≡ s.pending + lead = omega (arith, fewer, all) in
     let reach : s.phase + space_within n s - s.pending ≡ s.phase + lead = omega (arith, t) in
     let left : unscanned (after_space n s) ≡ drop (bytes_below s.phase u (s.phase + lead)) u =
-    sym (drop-drop (bytes_for (space_within n s) s) s.place s.bytes) ∙ ap (λ k. drop (bytes_below s.phase u k) u) reach in
+    sym (drop-drop (bytes_for (space_within n s) s) s.offset s.bytes) ∙ ap (λ k. drop (bytes_below s.phase u k) u) reach in
     ap (prefix_len is_space_or_tab) left ∙ plain_after u s.phase

@@ -68,6 +68,30 @@ last_tab (b ∷ bs) c k n is some past =
         let two : m ≡ suc m - 1 = omega arith in
         ap (λ j. get_or (b ∷ bs) (j - 1) 0) more ∙ ap (λ j. get_or (b ∷ bs) j 0) one ∙ ap (λ j. get_or bs j 0) two ∙ later m rest (omega arith) there
 
+-- a byte reaches to the next tab stop at most
+near_after : (c b : ℕ) → column_after c b ≤ c + 4
+near_after c b = bool_cases (b == 9) (λ is. rw is (omega arith)) (λ other. rw other (omega arith))
+
+-- the last of the bytes below a column reaches at most three past it
+few_past : (bs : List ℕ) (c k n : ℕ) → n ≡ bytes_below c bs k → 0 < n → column_past c (take n bs) ≤ k + 3
+few_past [] c k n is some = absurd (omega (arith, is, some))
+few_past (b ∷ bs) c k n is some =
+    bool_cases (is_line_ending b)
+    (λ ends. absurd (omega (arith, is, some, below_end c b bs k ends)))
+    (λ goes. elim (leb_tells k c) [
+      | inl far ↦ absurd (omega (arith, is, some, none_below (b ∷ bs) c k far.1))
+      | inr near ↦ (let more : n ≡ suc (bytes_below (column_after c b) bs k) = is ∙ below-cons c b bs k goes ∙ rw (lt-ltb c k near.1) (omega arith) in
+          next (bytes_below (column_after c b) bs k) refl near.1 more (λ m rest there. few_past bs (column_after c b) k (suc m) rest there))
+    ])
+  where
+    next : (m : ℕ) → m ≡ bytes_below (column_after c b) bs k → c < k → n ≡ suc m
+        → ((m : ℕ) → suc m ≡ bytes_below (column_after c b) bs k → 0 < suc m → column_past (column_after c b) (take (suc m) bs) ≤ k + 3)
+        → column_past c (take n (b ∷ bs)) ≤ k + 3
+    next zero none low more later =
+        subst (λ j. column_past c (take j (b ∷ bs)) ≤ k + 3) (sym more) (omega (arith, low, near_after c b))
+    next (suc m) rest low more later =
+        subst (λ j. column_past c (take j (b ∷ bs)) ≤ k + 3) (sym more) (later m rest (omega arith))
+
 -- the spaces at the front of a text after others
 pub spaces_before : (n : ℕ) (rest : List ℕ) → leading_spaces (replicate n space ++ rest) ≡ n + leading_spaces rest
 spaces_before zero rest = omega arith
@@ -189,39 +213,42 @@ all_taken n s fewer =
 
 pub record Reached (line : List ℕ) (s : LineState) : Type 0 where
   pub of_line : s.bytes ≡ line
-  pub within : s.place ≤ length line
-  pub behind_tab : 0 < s.pending → (0 < s.place) × (get_or line (s.place - 1) 0 ≡ tab)
+  pub within : s.offset ≤ length line
+  pub after_tab : 0 < s.pending → (0 < s.offset) × (get_or line (s.offset - 1) 0 ≡ tab)
   -- directly before it stands a byte of ASCII, or nothing
-  pub behind_ascii : 0 < s.place → get_or line (s.place - 1) 0 < 128
+  pub after_ascii : 0 < s.offset → get_or line (s.offset - 1) 0 < 128
+  pub few : s.pending < 4
 
 pub at_start : (line : List ℕ) → Reached line (start_of line)
 at_start line = record {
   of_line = refl;
   within = omega arith;
-  behind_tab = λ some. absurd (omega (arith, some));
-  behind_ascii = λ some. absurd (omega (arith, some));
+  after_tab = λ some. absurd (omega (arith, some));
+  after_ascii = λ some. absurd (omega (arith, some));
+  few = omega arith;
 }
 
 -- where no column is pending
-pub none_pending : (line : List ℕ) (s : LineState) → s.bytes ≡ line → s.place ≤ length line → s.pending ≡ 0
-    → (0 < s.place → get_or line (s.place - 1) 0 < 128) → Reached line s
+pub none_pending : (line : List ℕ) (s : LineState) → s.bytes ≡ line → s.offset ≤ length line → s.pending ≡ 0
+    → (0 < s.offset → get_or line (s.offset - 1) 0 < 128) → Reached line s
 none_pending line s is within none ascii = record {
   of_line = is;
   within = within;
-  behind_tab = λ some. absurd (omega (arith, none, some));
-  behind_ascii = ascii;
+  after_tab = λ some. absurd (omega (arith, none, some));
+  after_ascii = ascii;
+  few = omega (arith, none);
 }
 
 module _ (line : List ℕ) (s : LineState) (r : Reached line s) where
   -- what is passed ends with a byte of ASCII
-  passed_ascii : {place : ℕ} (n : ℕ) → place ≡ s.place + n → 0 < n → get_or (unscanned s) (n - 1) 0 < 128 → get_or line (place - 1) 0 < 128
+  passed_ascii : {offset : ℕ} (n : ℕ) → offset ≡ s.offset + n → 0 < n → get_or (unscanned s) (n - 1) 0 < 128 → get_or line (offset - 1) 0 < 128
   passed_ascii n is some low =
       let at = ap (λ p. get_or line (p - 1) 0) is ∙ ap (λ p. get_or line p 0) (omega (arith, some))
-      ∙ ap (λ l. get_or l (s.place + (n - 1)) 0) (sym r.of_line) ∙ sym (get_or-drop s.place s.bytes (n - 1) 0) in
+      ∙ ap (λ l. get_or l (s.offset + (n - 1)) 0) (sym r.of_line) ∙ sym (get_or-drop s.offset s.bytes (n - 1) 0) in
       subst (λ b. b < 128) (sym at) low
 
-  left : length (unscanned s) ≡ length line - s.place
-  left = length-drop s.place s.bytes ∙ ap (λ l. length l - s.place) r.of_line
+  left : length (unscanned s) ≡ length line - s.offset
+  left = length-drop s.offset s.bytes ∙ ap (λ l. length l - s.offset) r.of_line
 
   pub after_some : (n : ℕ) → Reached line (after_space n s)
   after_some n =
@@ -234,14 +261,30 @@ module _ (line : List ℕ) (s : LineState) (r : Reached line s) where
       record {
         of_line = r.of_line;
         within = omega (arith, few, size, inside);
-        behind_tab = λ some. by m refl some;
-        behind_ascii = λ some. ascii m refl some;
+        after_tab = λ some. by m refl some;
+        after_ascii = λ some. ascii m refl some;
+        few = few_by m refl;
       }
     where
-      ascii : (m : ℕ) → m ≡ bytes_for (space_within n s) s → 0 < (after_space n s).place → get_or line ((after_space n s).place - 1) 0 < 128
+      few_by : (m : ℕ) → m ≡ bytes_for (space_within n s) s → (after_space n s).pending < 4
+      few_by zero none =
+          let column : column_past s.phase (take (bytes_for (space_within n s) s) (unscanned s)) ≡ s.phase =
+          ap (λ k. column_past s.phase (take k (unscanned s))) (sym none) in
+          omega (arith, r.few, column)
+      few_by (suc m) is =
+          let u = unscanned s in
+          let k = s.phase + space_within n s - s.pending in
+          elim (leb_tells k s.phase) [
+            | inl near ↦ absurd (omega (arith, is, none_below u s.phase k near.1))
+            | inr far ↦ (let past : column_past s.phase (take (bytes_for (space_within n s) s) u) ≤ k + 3 =
+                subst (λ j. column_past s.phase (take j u) ≤ k + 3) is (few_past u s.phase k (suc m) is (omega arith)) in
+                omega (arith, past, far.1))
+          ]
+
+      ascii : (m : ℕ) → m ≡ bytes_for (space_within n s) s → 0 < (after_space n s).offset → get_or line ((after_space n s).offset - 1) 0 < 128
       ascii zero none some =
-          let same : (after_space n s).place ≡ s.place = omega (arith, none) in
-          subst (λ p. get_or line (p - 1) 0 < 128) (sym same) (r.behind_ascii (omega (arith, some, same)))
+          let same : (after_space n s).offset ≡ s.offset = omega (arith, none) in
+          subst (λ p. get_or line (p - 1) 0 < 128) (sym same) (r.after_ascii (omega (arith, some, same)))
       ascii (suc m) is some =
           let u = unscanned s in
           let k = s.phase + space_within n s - s.pending in
@@ -250,12 +293,12 @@ module _ (line : List ℕ) (s : LineState) (r : Reached line s) where
           passed_ascii (suc m) (omega (arith, is)) (omega arith) last
 
       by : (m : ℕ) → m ≡ bytes_for (space_within n s) s → 0 < (after_space n s).pending
-          → (0 < (after_space n s).place) × (get_or line ((after_space n s).place - 1) 0 ≡ tab)
+          → (0 < (after_space n s).offset) × (get_or line ((after_space n s).offset - 1) 0 ≡ tab)
       by zero none some =
-          let same : (after_space n s).place ≡ s.place = omega (arith, none) in
+          let same : (after_space n s).offset ≡ s.offset = omega (arith, none) in
           let column : column_past s.phase (take (bytes_for (space_within n s) s) (unscanned s)) ≡ s.phase =
           ap (λ k. column_past s.phase (take k (unscanned s))) (sym none) in
-          let old = r.behind_tab (omega (arith, some, column)) in
+          let old = r.after_tab (omega (arith, some, column)) in
           (omega (arith, same, old.0), ap (λ p. get_or line (p - 1) 0) same ∙ old.1)
       by (suc m) is some =
           let u = unscanned s in
@@ -265,10 +308,10 @@ module _ (line : List ℕ) (s : LineState) (r : Reached line s) where
             | inr far ↦ (let past : k < column_past s.phase (take (suc m) u) =
                 subst (λ j. k < column_past s.phase (take j u)) (sym is) (omega (arith, some, far.1)) in
                 let last = last_tab u s.phase k (suc m) is (omega arith) past in
-                let at : (after_space n s).place - 1 ≡ s.place + (suc m - 1) = omega (arith, is) in (
+                let at : (after_space n s).offset - 1 ≡ s.offset + (suc m - 1) = omega (arith, is) in (
                   omega (arith, is),
-                  ap (λ p. get_or line p 0) at ∙ ap (λ l. get_or l (s.place + (suc m - 1)) 0) (sym r.of_line)
-                      ∙ sym (get_or-drop s.place s.bytes (suc m - 1) 0) ∙ last,
+                  ap (λ p. get_or line p 0) at ∙ ap (λ l. get_or l (s.offset + (suc m - 1)) 0) (sym r.of_line)
+                      ∙ sym (get_or-drop s.offset s.bytes (suc m - 1) 0) ∙ last,
                 ))
           ]
 
@@ -280,11 +323,11 @@ module _ (line : List ℕ) (s : LineState) (r : Reached line s) where
       none_pending line (after_all_space s) r.of_line (omega (arith, few, size, inside)) refl
       (λ some. by (prefix_len (λ b. b == space || b == tab) (unscanned s)) refl some)
     where
-      by : (n : ℕ) → n ≡ prefix_len (λ b. b == space || b == tab) (unscanned s) → 0 < s.place + n
-          → get_or line ((after_all_space s).place - 1) 0 < 128
+      by : (n : ℕ) → n ≡ prefix_len (λ b. b == space || b == tab) (unscanned s) → 0 < s.offset + n
+          → get_or line ((after_all_space s).offset - 1) 0 < 128
       by zero none some =
-          let same : (after_all_space s).place ≡ s.place = omega (arith, none) in
-          subst (λ p. get_or line (p - 1) 0 < 128) (sym same) (r.behind_ascii (omega (arith, some)))
+          let same : (after_all_space s).offset ≡ s.offset = omega (arith, none) in
+          subst (λ p. get_or line (p - 1) 0 < 128) (sym same) (r.after_ascii (omega (arith, some)))
       by (suc n) is some = passed_ascii (suc n) (omega (arith, is)) (omega arith) (at_front is_space_or_tab spaces_low (unscanned s) (suc n - 1) (omega (arith, is)))
 
   -- bytes are passed, of which the last is ASCII

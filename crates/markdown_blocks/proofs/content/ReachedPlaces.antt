@@ -1,4 +1,4 @@
--- The places after containers are reached, and what a line has of a content stands in it there.
+-- The offsets after containers are reached, and what a line has of a content stands in it there.
 use Rattle.std.proofs.Common.{ℕ, zero, suc, Bool, true, false, not, ◌&&◌, ◌==◌, ◌+◌, ◌-◌}
 use Rattle.std.proofs.Common.{◌<◌, ◌≤◌, ◌≡◌, List, [], ◌∷◌, length, take, take_while, drop, get_or, nat_le, nat_lt}
 use Rattle.std.proofs.Common.{Option, Some, None, refl, sym, ap, ◌∙◌, subst, arith}
@@ -19,11 +19,11 @@ use Rattle.markdown_scanners_tree.specs.scanners.list_items.ListMarker.{Marker, 
 use Rattle.markdown_scanners_tree.specs.scanners.list_items.ListMarker.{is_delimiter, list_marker, ordered_marker_of}
 use Rattle.markdown_scanners_tree.proofs.line.ColumnLemmas.{bool_cases}
 use Rattle.markdown_blocks.specs.blank_lines.BlankLines.{is_blank}
-use Rattle.markdown_blocks.specs.containers.Containers.{all_containers, begun_at, behind, either_begun, extension_of}
+use Rattle.markdown_blocks.specs.containers.Containers.{all_containers, begun_at, match_line, either_begun, extension_of}
 use Rattle.markdown_blocks.specs.containers.Containers.{footnote_by, footnote_of, go_on, item_of, term_definition_by, term_definition_of, within, within_width}
 use Rattle.markdown_blocks.specs.containers.Footnotes.{circumflex, closes_label, footnote_label, is_label_byte}
 use Rattle.markdown_blocks.specs.containers.ItemMarkers.{further_spaces, item_outcome, item_outcome_by}
-use Rattle.markdown_blocks.specs.content.Parts.{after_containers, after_indent, after_markers, after_width, first_place, later_place, text_place}
+use Rattle.markdown_blocks.specs.content.Parts.{after_containers, after_indent, after_markers, after_width, first_offset, later_offset, text_offset}
 use Rattle.markdown_blocks.specs.declared.blocks.BlockKind.{BlockKind}
 use Rattle.markdown_blocks.specs.declared.blocks.BlockKind.TheVariants.{Blank, Break, Heading, Setext, Indented}
 use Rattle.markdown_blocks.specs.declared.blocks.BlockKind.TheVariants.{Fenced, Html, Table, Definition, Paragraph}
@@ -98,9 +98,9 @@ ordered_low r digits (d ∷ rest) m there is =
     let found : Some (record { width = length digits + 1; delimiter = d; start = digits_value 10 digits }) ≡ Some m = rw all at is in
     let same : record { width = length digits + 1; delimiter = d; start = digits_value 10 digits } ≡ m = cc in
     let low : d < 128 = grind (arith, nat_tests) in
-    let place : length digits + 0 ≡ length digits + 1 - 1 = omega arith in
+    let offset : length digits + 0 ≡ length digits + 1 - 1 = omega arith in
     let byte : d ≡ get_or r (length digits + 1 - 1) 0 =
-    ap (λ t. get_or t 0 0) (sym there) ∙ get_or-drop (length digits) r 0 0 ∙ ap (λ n. get_or r n 0) place in
+    ap (λ t. get_or t 0 0) (sym there) ∙ get_or-drop (length digits) r 0 0 ∙ ap (λ n. get_or r n 0) offset in
     subst (λ (n : Marker). (1 ≤ n.width) × (get_or r (n.width - 1) 0 < 128)) same (omega arith, subst (λ b. b < 128) byte low))
     (λ other. none_some m (rw other at is))
 
@@ -158,8 +158,8 @@ label_low (a ∷ b ∷ rest) label is =
     let found : Some (take n rest) ≡ Some label = rw all at is in
     let width : length (take n rest) ≡ length label = ap (λ (o : Option (List ℕ)). width_of o) found in
     let closed = two_low (drop n rest) (last_of (a == left_bracket) (b == circumflex) (nat_lt 0 n) (closes_label (drop n rest)) all) in
-    let place : suc (suc (n + 1)) ≡ length label + 4 - 1 = omega (arith, width, length-take n rest, prefix_len-le-length is_label_byte rest) in
-    subst (λ k. get_or (a ∷ b ∷ rest) k 0 < 128) place (subst (λ c. c < 128) (get_or-drop n rest 1 0) closed))
+    let offset : suc (suc (n + 1)) ≡ length label + 4 - 1 = omega (arith, width, length-take n rest, prefix_len-le-length is_label_byte rest) in
+    subst (λ k. get_or (a ∷ b ∷ rest) k 0 < 128) offset (subst (λ c. c < 128) (get_or-drop n rest 1 0) closed))
     (λ other. none_some label (rw other at is))
   where
     width_of : Option (List ℕ) → ℕ
@@ -273,8 +273,8 @@ module _ (line : List ℕ) where
       subst (Reached line) (ap (state_in s) found) (quote_reached (after_space 4 s) after (near s few) quote))
       (λ other. none_some (more, t) (rw (few, other) at is)))
   within_reached Footnote blank more s t r is = width_reached false 4 blank more s t r is
-  within_reached (Item item) blank more s t r is = width_reached item.begun item.width blank more s t r is
-  within_reached (TermDefinition definition) blank more s t r is = width_reached definition.begun definition.width blank more s t r is
+  within_reached (Item item) blank more s t r is = width_reached item.starts_blank item.width blank more s t r is
+  within_reached (TermDefinition definition) blank more s t r is = width_reached definition.starts_blank definition.width blank more s t r is
 
   indent_left : (width : ℕ) (blank : Bool) (s : LineState) → Reached line s → Reached line (after_width width blank s)
   indent_left width false s r = r
@@ -299,8 +299,8 @@ module _ (line : List ℕ) where
   on_reached blank [] s r = r
   on_reached blank (c ∷ inner) s r = one_more blank c inner s (within c blank s) refl r (λ more t there. on_reached more inner t there)
 
-  pub behind_reached : (outer : List Container) → Reached line (behind outer line).state
-  behind_reached outer = on_reached (is_blank line) outer (start_of line) (at_start line)
+  pub after_reached : (outer : List Container) → Reached line (match_line outer line).state
+  after_reached outer = on_reached (is_blank line) outer (start_of line) (at_start line)
 
   one_inside : (blank : Bool) (c : Container) (inner : List Container) (s : LineState) (found : Option (Bool × LineState)) → within c blank s ≡ found
       → Reached line s → ((more : Bool) (t : LineState) → Reached line t → Reached line (after_containers more inner t))
@@ -323,25 +323,25 @@ module _ (line : List ℕ) where
   markers_reached zero s r = r
   markers_reached (suc n) s r = one_marker n s (begun_at all_containers s) refl r (λ t there. markers_reached n t there)
 
-  pub first_reached : (kept : ℕ) (outer : List Container) → Reached line (first_place kept outer line)
-  first_reached kept outer = markers_reached (length outer - kept) (behind (take kept outer) line).state (behind_reached (take kept outer))
+  pub first_reached : (kept : ℕ) (outer : List Container) → Reached line (first_offset kept outer line)
+  first_reached kept outer = markers_reached (length outer - kept) (match_line (take kept outer) line).state (after_reached (take kept outer))
 
-  pub later_reached : (kind : BlockKind) (outer : List Container) → Reached line (later_place kind outer line)
+  pub later_reached : (kind : BlockKind) (outer : List Container) → Reached line (later_offset kind outer line)
   later_reached Indented outer = inside_reached (is_blank line) outer (start_of line) (at_start line)
   later_reached (Fenced count byte) outer = inside_reached (is_blank line) outer (start_of line) (at_start line)
   later_reached (Html kind) outer = inside_reached (is_blank line) outer (start_of line) (at_start line)
-  later_reached Blank outer = behind_reached outer
-  later_reached Break outer = behind_reached outer
-  later_reached (Heading level) outer = behind_reached outer
-  later_reached (Setext level) outer = behind_reached outer
-  later_reached (Table columns) outer = behind_reached outer
-  later_reached Definition outer = behind_reached outer
-  later_reached Paragraph outer = behind_reached outer
+  later_reached Blank outer = after_reached outer
+  later_reached Break outer = after_reached outer
+  later_reached (Heading level) outer = after_reached outer
+  later_reached (Setext level) outer = after_reached outer
+  later_reached (Table columns) outer = after_reached outer
+  later_reached Definition outer = after_reached outer
+  later_reached Paragraph outer = after_reached outer
 
   words_reached : (s : LineState) → Reached line s → Reached line (after_all_space (after_space 4 s))
   words_reached s r = after_all line (after_space 4 s) (after_some line s r 4)
 
-  pub text_reached : (kind : BlockKind) (indent : ℕ) (s : LineState) → Reached line s → Reached line (text_place kind indent s)
+  pub text_reached : (kind : BlockKind) (indent : ℕ) (s : LineState) → Reached line s → Reached line (text_offset kind indent s)
   text_reached Indented indent s r = after_some line s r 4
   text_reached (Fenced count byte) indent s r = after_some line s r indent
   text_reached (Html kind) indent s r = r

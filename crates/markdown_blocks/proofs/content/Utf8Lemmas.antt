@@ -11,16 +11,16 @@ use Rattle.markdown_scanners_tree.specs.Bytes.{line_head}
 use Rattle.markdown_scanners_tree.specs.line.Outcome.{after_all_space}
 use Rattle.markdown_scanners_tree.specs.line.State.{LineState, after_space, space_within, unscanned}
 use Rattle.markdown_scanners_tree.specs.scanners.TextLines.{lines_of}
-use Rattle.markdown_scanners_tree.proofs.ForCallers.{cut_behind_ascii}
+use Rattle.markdown_scanners_tree.proofs.ForCallers.{cut_after_ascii}
 use Rattle.markdown_blocks.specs.content.Bytes.{AreBytesOf}
 use Rattle.markdown_blocks.specs.content.Content.{IsContent, Placed, content_len, joined, text_of}
-use Rattle.markdown_blocks.specs.content.Parts.{AreInner, AreParts, ArePartsAt, Part, first_place}
-use Rattle.markdown_blocks.specs.content.Parts.{heading_part, later_parts, later_place, moved, part_at, text_place, written}
+use Rattle.markdown_blocks.specs.content.Parts.{AreInner, AreParts, ArePartsAt, Part, first_offset}
+use Rattle.markdown_blocks.specs.content.Parts.{heading_part, later_parts, later_offset, moved, part_at, text_offset, written}
 use Rattle.markdown_blocks.specs.declared.blocks.BlockKind.{BlockKind}
 use Rattle.markdown_blocks.specs.declared.blocks.BlockKind.TheVariants.{Blank, Break, Heading, Setext, Indented}
 use Rattle.markdown_blocks.specs.declared.blocks.BlockKind.TheVariants.{Fenced, Html, Table, Definition, Paragraph}
 use Rattle.markdown_blocks.specs.declared.containers.Container.{Container}
-use Rattle.markdown_blocks.specs.info.Info.{behind_fence, without_end, without_front}
+use Rattle.markdown_blocks.specs.info.Info.{after_fence, without_end, without_front}
 use Rattle.markdown_blocks.proofs.content.AsciiCuts.{closing_utf8, end_utf8, fence_utf8, front_utf8, head_utf8, words_utf8}
 use Rattle.markdown_blocks.proofs.content.ByteLemmas.{inner_first}
 use Rattle.markdown_blocks.proofs.content.EndingLemmas.{all_both, all_first, written_all}
@@ -36,24 +36,24 @@ filler_ascii filler low (suc n) (suc i) = filler_ascii filler low n i
 -- ---- parts of a line
 
 module _ (line : List ℕ) (utf8 : IsUtf8 line) where
-  -- where a place is reached the line may be cut
-  place_cut : (s : LineState) → Reached line s → IsCharBoundary line s.place
-  place_cut s r = by s.place r.within r.behind_ascii
+  -- where an offset is reached the line may be cut
+  offset_cut : (s : LineState) → Reached line s → IsCharBoundary line s.offset
+  offset_cut s r = by s.offset r.within r.after_ascii
     where
       by : (n : ℕ) → n ≤ length line → (0 < n → get_or line (n - 1) 0 < 128) → IsCharBoundary line n
       by zero within low = IsCharBoundary-start line utf8
-      by (suc n) within low = cut_behind_ascii line (suc n) utf8 within (omega arith) (low (omega arith))
+      by (suc n) within low = cut_after_ascii line (suc n) utf8 within (omega arith) (low (omega arith))
 
   pub rest_utf8 : (s : LineState) → Reached line s → IsUtf8 (unscanned s)
-  rest_utf8 s r = subst (λ (l : List ℕ). IsUtf8 (drop s.place l)) (sym r.of_line) (IsUtf8-drop line s.place utf8 (place_cut s r))
+  rest_utf8 s r = subst (λ (l : List ℕ). IsUtf8 (drop s.offset l)) (sym r.of_line) (IsUtf8-drop line s.offset utf8 (offset_cut s r))
 
   heading_utf8 : (s : LineState) → Reached line s → IsUtf8 (heading_part s).bytes
   heading_utf8 s r =
       let text = unscanned (after_all_space (after_space 4 s)) in
-      let after = without_front (behind_fence number_sign text) in
+      let after = without_front (after_fence number_sign text) in
       let whole = rest_utf8 (after_all_space (after_space 4 s)) (after_all line (after_space 4 s) (after_some line s r 4)) in
       closing_utf8 (without_end (line_head after))
-      (end_utf8 (line_head after) (head_utf8 after (front_utf8 (behind_fence number_sign text) (fence_utf8 number_sign (omega arith) text whole))))
+      (end_utf8 (line_head after) (head_utf8 after (front_utf8 (after_fence number_sign text) (fence_utf8 number_sign (omega arith) text whole))))
 
 -- a byte of ASCII fills each part, and its bytes are UTF-8
 abbrev pub IsUtf8Part : Part → Type 0
@@ -69,8 +69,8 @@ later_are : (kind : BlockKind) (outer : List Container) (indent before : ℕ) (l
     → AreUtf8 (later_parts kind outer indent before lines)
 later_are kind outer indent before [] all = tt
 later_are kind outer indent before (line ∷ lines) all =
-    let s = text_place kind indent (later_place kind outer line) in
-    let r = text_reached line kind indent (later_place kind outer line) (later_reached line kind outer) in
+    let s = text_offset kind indent (later_offset kind outer line) in
+    let r = text_reached line kind indent (later_offset kind outer line) (later_reached line kind outer) in
     all_both IsUtf8Part (written kind (moved before (part_at s))) (later_parts kind outer indent (before + length line) lines)
     (written_are kind (moved before (part_at s)) (omega arith, rest_utf8 line all.0 s r))
     (later_are kind outer indent (before + length line) lines all.1)
@@ -86,12 +86,12 @@ module _ (line : List ℕ) (later : List (List ℕ)) (outer : List Container) (u
 
   text_are : (kind : BlockKind) (s : LineState) → Reached line s → (parts : List Part)
       → (inner : List (List ℕ)) × AreInner kind outer later inner
-      × (parts ≡ written kind (part_at (text_place kind 0 s)) ++ later_parts kind outer 0 (length line) inner) → AreUtf8 parts
+      × (parts ≡ written kind (part_at (text_offset kind 0 s)) ++ later_parts kind outer 0 (length line) inner) → AreUtf8 parts
   text_are kind s r parts (inner, are, is) =
-      let p = part_at (text_place kind 0 s) in
+      let p = part_at (text_offset kind 0 s) in
       subst AreUtf8 (sym is)
       (all_both IsUtf8Part (written kind p) (later_parts kind outer 0 (length line) inner)
-      (written_are kind p (omega arith, rest_utf8 line utf8 (text_place kind 0 s) (text_reached line kind 0 s r))) (inner_are kind 0 inner are))
+      (written_are kind p (omega arith, rest_utf8 line utf8 (text_offset kind 0 s) (text_reached line kind 0 s r))) (inner_are kind 0 inner are))
 
   none_are : (parts : List Part) → parts ≡ [] → AreUtf8 parts
   none_are parts none = subst AreUtf8 (sym none) tt
@@ -114,7 +114,7 @@ pub block_parts_are : (kind : BlockKind) (outer : List Container) (kept : ℕ) (
     → AreParts kind outer kept lines parts → AreUtf8 parts
 block_parts_are kind outer kept [] parts all none = subst AreUtf8 (sym none) tt
 block_parts_are kind outer kept (line ∷ later) parts all are =
-    parts_are line later outer all.0 all.1 kind (first_place kept outer line) (first_reached line kept outer) parts are
+    parts_are line later outer all.0 all.1 kind (first_offset kept outer line) (first_reached line kept outer) parts are
 
 -- ---- the content
 
@@ -150,26 +150,26 @@ content_utf8 kind outer kept lines content is utf8 =
     (front_is kind (joined is.parts).text
     (joined_utf8 is.parts (block_parts_are kind outer kept (lines_of lines) is.parts (lines_utf8 (lines_of lines) lines refl utf8) is.are_parts)))
 
--- A content may be cut before one of its bytes exactly where the lines may be cut before that byte's place.
+-- A content may be cut before one of its bytes exactly where the lines may be cut before that byte's offset.
 pub content_cuts : (lines : List ℕ) (content : Placed) → AreBytesOf lines content → (offset : ℕ) → offset < length content.text
-    → IsCharBoundary content.text offset ↔ IsCharBoundary lines (slice_index content.places offset)
-content_cuts lines content bytes offset inside = by (slice_index content.places offset) (bytes offset inside).0 (bytes offset inside).1
+    → IsCharBoundary content.text offset ↔ IsCharBoundary lines (slice_index content.offsets offset)
+content_cuts lines content bytes offset inside = by (slice_index content.offsets offset) (bytes offset inside).0 (bytes offset inside).1
   where
-    ascii : (place : ℕ) → place < length lines → slice_index content.text offset < 128 → slice_index lines place < 128
-        → IsCharBoundary content.text offset ↔ IsCharBoundary lines place
-    ascii place within one other = (
+    ascii : (source : ℕ) → source < length lines → slice_index content.text offset < 128 → slice_index lines source < 128
+        → IsCharBoundary content.text offset ↔ IsCharBoundary lines source
+    ascii source within one other = (
       λ cut. (omega (arith, within), λ low high. absurd (omega (arith, other, high))),
       λ cut. (omega (arith, inside), λ low high. absurd (omega (arith, one, high))),
     )
 
-    by : (place : ℕ) → place < length lines
-        → (slice_index content.text offset ≡ slice_index lines place)
-        ⊎ (((slice_index content.text offset ≡ space) × (slice_index lines place ≡ tab))
-        ⊎ ((slice_index content.text offset ≡ line_feed) × (slice_index lines place ≡ carriage_return)))
-        → IsCharBoundary content.text offset ↔ IsCharBoundary lines place
-    by place within (inl same) = (
+    by : (source : ℕ) → source < length lines
+        → (slice_index content.text offset ≡ slice_index lines source)
+        ⊎ (((slice_index content.text offset ≡ space) × (slice_index lines source ≡ tab))
+        ⊎ ((slice_index content.text offset ≡ line_feed) × (slice_index lines source ≡ carriage_return)))
+        → IsCharBoundary content.text offset ↔ IsCharBoundary lines source
+    by source within (inl same) = (
       λ cut. (omega (arith, within), λ low high. subst (λ b. 192 ≤ b) same (cut.1 inside (subst (λ b. 128 ≤ b) (sym same) high))),
       λ cut. (omega (arith, inside), λ low high. subst (λ b. 192 ≤ b) (sym same) (cut.1 within (subst (λ b. 128 ≤ b) same high))),
     )
-    by place within (inr (inl (one, other))) = ascii place within (omega (arith, one)) (omega (arith, other))
-    by place within (inr (inr (one, other))) = ascii place within (omega (arith, one)) (omega (arith, other))
+    by source within (inr (inl (one, other))) = ascii source within (omega (arith, one)) (omega (arith, other))
+    by source within (inr (inr (one, other))) = ascii source within (omega (arith, one)) (omega (arith, other))

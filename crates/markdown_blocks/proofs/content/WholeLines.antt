@@ -13,12 +13,12 @@ use Rattle.markdown_scanners_tree.proofs.ForCallers.{lines_joined}
 use Rattle.markdown_scanners_tree.proofs.line.StepLemmas.{no_space_taken}
 use Rattle.markdown_blocks.specs.content.Content.{text_of}
 use Rattle.markdown_blocks.specs.content.Left.{IsRun}
-use Rattle.markdown_blocks.specs.content.Parts.{AreInner, AreParts, ArePartsAt, GoOn, Part, after_markers, ended, first_place, has_return}
+use Rattle.markdown_blocks.specs.content.Parts.{AreInner, AreParts, ArePartsAt, GoOn, Part, after_markers, ended, first_offset, has_return}
 use Rattle.markdown_blocks.specs.content.Parts.{later_parts, moved, one_part, part_at}
 use Rattle.markdown_blocks.specs.declared.blocks.BlockKind.{BlockKind}
 use Rattle.markdown_blocks.specs.declared.blocks.BlockKind.TheVariants.{Fenced, Html}
 use Rattle.markdown_blocks.specs.declared.containers.Container.{Container}
-use Rattle.markdown_blocks.specs.declared.taken.Taken.{Taken}
+use Rattle.markdown_blocks.specs.declared.taken.Extent.{Extent}
 use Rattle.markdown_blocks.proofs.content.EndingLemmas.{all_first, ended_none, none_in_lines}
 
 -- the parts that are these lines, before which so many bytes stand
@@ -82,7 +82,7 @@ whole_run text begin end lines low within parts =
 
 -- ---- they are the parts of a block
 
-first_start : (kept : ℕ) (line : List ℕ) → first_place kept [] line ≡ start_of line
+first_start : (kept : ℕ) (line : List ℕ) → first_offset kept [] line ≡ start_of line
 first_start zero line = refl
 first_start (suc kept) line = let none : 0 - suc kept ≡ 0 = omega arith in ap (λ n. after_markers n (start_of line)) none
 
@@ -101,7 +101,7 @@ all_of_html kind kept (line ∷ later) none =
 
 inner_of_fenced : (count byte kept : ℕ) (line : List ℕ) (later inner : List (List ℕ)) → space_within 4 (start_of line) ≡ 0
     → HaveNone inner → AreInner (Fenced count byte) [] later inner
-    → ArePartsAt (Fenced count byte) [] (first_place kept [] line) (length line) later (whole_parts (length line) inner)
+    → ArePartsAt (Fenced count byte) [] (first_offset kept [] line) (length line) later (whole_parts (length line) inner)
 inner_of_fenced count byte kept line later inner none have are = (
   inner,
   are,
@@ -132,7 +132,7 @@ html_is kind which outer text none is have kept =
       whole_run text 0 (length text) lines (omega arith) (omega arith) parts,
     )
 
-pub fenced_is : (kind : BlockKind) (count byte : ℕ) (outer : List Container) (text line : List ℕ) (first read : Taken) (inner : List (List ℕ)) → outer ≡ []
+pub fenced_is : (kind : BlockKind) (count byte : ℕ) (outer : List Container) (text line : List ℕ) (first read : Extent) (inner : List (List ℕ)) → outer ≡ []
     → has_return text ≡ false → kind ≡ Fenced count byte
     → lines_of text ≡ line ∷ lines_of (drop first.bytes text) → first.bytes ≡ length line → space_within 4 (start_of line) ≡ 0
     → AreInner kind outer (lines_of (drop first.bytes text)) inner → lines_of (drop first.bytes text) ≡ inner ++ lines_of (drop read.bytes text)

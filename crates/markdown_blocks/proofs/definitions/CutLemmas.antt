@@ -10,7 +10,7 @@ use Rattle.markdown_scanners_tree.specs.Bytes.{begins_with, line_ending}
 use Rattle.markdown_scanners_tree.specs.declared.scanners.reference_definitions.ReferenceDefinition.{ReferenceDefinition}
 use Rattle.markdown_scanners_tree.specs.scanners.TextLines.{ends_line, lines_of}
 use Rattle.markdown_scanners_tree.specs.scanners.reference_definitions.ReferenceDefinition.{IsRestOfLine, IsEnd}
-use Rattle.markdown_blocks.specs.declared.taken.Taken.{Taken}
+use Rattle.markdown_blocks.specs.declared.taken.Extent.{Extent}
 use Rattle.markdown_blocks.specs.definitions.Definitions.{IsDefinition}
 use Rattle.markdown_blocks.specs.taken.Lines.{IsTaken}
 use Rattle.markdown_blocks.proofs.whole.WholeLemmas.{LastEnds, lines_cut}
@@ -80,18 +80,18 @@ rest_cut text x n within is =
     subst (λ t. Cut (x + n) t) whole (subst (λ m. Cut m ((take x text ++ is.spaces) ++ is.after)) size
     (ending_cut (take x text ++ is.spaces) is.after is.ending is.ends))
 
-end_cut : (text : List ℕ) (place : ℕ) (title : Option (Range ℕ)) (len : ℕ) → len ≤ length text → IsEnd text place title len → Cut len text
-end_cut text place None len within is =
-    subst (λ m. Cut m text) (sym is.len_is) (rest_cut text place is.ending (omega (arith, within, is.len_is)) is.nothing_further)
-end_cut text place (Some title) len within is =
+end_cut : (text : List ℕ) (offset : ℕ) (title : Option (Range ℕ)) (len : ℕ) → len ≤ length text → IsEnd text offset title len → Cut len text
+end_cut text offset None len within is =
+    subst (λ m. Cut m text) (sym is.len_is) (rest_cut text offset is.ending (omega (arith, within, is.len_is)) is.nothing_further)
+end_cut text offset (Some title) len within is =
     subst (λ m. Cut m text) (sym is.len_is) (rest_cut text (title.end + 1) is.ending (omega (arith, within, is.len_is)) is.nothing_further)
 
 pub definition_cut : (text : List ℕ) (d : ReferenceDefinition) → d.len ≤ length text → IsDefinition text d
     → lines_of text ≡ lines_of (take d.len text) ++ lines_of (drop d.len text)
 unfolding Cut
-definition_cut text d within is = end_cut text is.place d.title d.len within is.ends
+definition_cut text d within is = end_cut text is.offset d.title d.len within is.ends
 
-pub taken_cut : (text : List ℕ) (d : ReferenceDefinition) (taken : Taken) → d.len ≤ length text → IsDefinition text d → taken.bytes ≡ d.len
+pub taken_cut : (text : List ℕ) (d : ReferenceDefinition) (taken : Extent) → d.len ≤ length text → IsDefinition text d → taken.bytes ≡ d.len
     → taken.lines ≡ length (lines_of (take d.len text)) → IsTaken text taken (lines_of (take d.len text))
 taken_cut text d taken within is bytes counted = record {
   within = omega (arith, bytes, within);

@@ -11,7 +11,7 @@ use Rattle.markdown_scanners_tree.specs.declared.scanners.reference_definitions.
 use Rattle.markdown_scanners_tree.specs.scanners.TextLines.{lines_of}
 use Rattle.markdown_scanners_tree.proofs.ForCallers.{one_reference_definition}
 use Rattle.markdown_blocks.specs.declared.containers.Container.{Container}
-use Rattle.markdown_blocks.specs.declared.taken.Taken.{Taken}
+use Rattle.markdown_blocks.specs.declared.taken.Extent.{Extent}
 use Rattle.markdown_blocks.specs.definitions.Content.{content_of, words_in}
 use Rattle.markdown_blocks.specs.definitions.Definitions.{AreDefinitions, HasText, most_nested, IsDefinition}
 use Rattle.markdown_blocks.specs.info.Info.{without_front}
@@ -42,7 +42,7 @@ pub plain_text : (b : ℕ) (bytes : List ℕ) → ¬ (b ≡ left_bracket) → Ha
 plain_text b bytes other = record {
   definitions = [];
   rest = b ∷ bytes;
-  behind = (refl, plain_front b bytes other);
+  after = (refl, plain_front b bytes other);
   some = λ none. cc;
 }
 
@@ -53,13 +53,13 @@ module _ (content : List ℕ) (taken : ℕ) (definitions : List ReferenceDefinit
   more_given fewer = record {
     definitions = definitions;
     rest = drop taken content;
-    behind = is;
+    after = is;
     some = λ none. let size : length (drop taken content) ≡ 0 = ap length none in omega (arith, size, length-drop taken content, fewer);
   }
 
   pub more_tells : HasText content → taken < length content
   more_tells has =
-      let one = one_list_of_definitions content has.definitions definitions has.rest (drop taken content) has.behind is in
+      let one = one_list_of_definitions content has.definitions definitions has.rest (drop taken content) has.after is in
       by (drop taken content) one.1 (length-drop taken content)
     where
       by : (left : List ℕ) → has.rest ≡ left → length left ≡ length content - taken → taken < length content
@@ -79,14 +79,14 @@ content-more outer words before line =
         ∙ ap (λ c. words_in outer l ++ c) (push ls)
 
 -- the content of the lines that are read, after what stood before it
-pub record Read (outer : List Container) (words text line : List ℕ) (count : ℕ) (read : Taken) (old content : List ℕ) : Type 0 where
+pub record Read (outer : List Container) (words text line : List ℕ) (count : ℕ) (read : Extent) (old content : List ℕ) : Type 0 where
   pub before : List (List ℕ)
   pub few : length before ≤ count - 1
   pub is_read : IsTaken text read (line ∷ before)
   pub gathered : content ≡ old ++ content_of outer words before
 
 module _ (outer : List Container) (words text line : List ℕ) (count : ℕ) (old : List ℕ) where
-  pub read-first : (first : Taken) (content : List ℕ) → IsTaken text first (line ∷ []) → content ≡ old ++ without_front words
+  pub read-first : (first : Extent) (content : List ℕ) → IsTaken text first (line ∷ []) → content ≡ old ++ without_front words
       → Read outer words text line count first old content
   read-first first content h gathered = record {
     before = [];
@@ -96,7 +96,7 @@ module _ (outer : List Container) (words text line : List ℕ) (count : ℕ) (ol
   }
 
   -- a line more
-  pub read-more : (read more : Taken) (l content now : List ℕ) → Read outer words text line count read old content → read.lines < count
+  pub read-more : (read more : Extent) (l content now : List ℕ) → Read outer words text line count read old content → read.lines < count
       → IsNext text read l more → now ≡ content ++ words_in outer l → Read outer words text line count more old now
   read-more read more l content now r fewer n grown = record {
     before = r.before ++ l ∷ [];
@@ -106,7 +106,7 @@ module _ (outer : List Container) (words text line : List ℕ) (count : ℕ) (ol
         ∙ append_assoc old (content_of outer words r.before) (words_in outer l) ∙ ap (λ c. old ++ c) (content-more outer words r.before l);
   }
 
-  module _ (first read : Taken) (content : List ℕ) (h : IsTaken text first (line ∷ [])) (r : Read outer words text line count read old content) where
+  module _ (first read : Extent) (content : List ℕ) (h : IsTaken text first (line ∷ [])) (r : Read outer words text line count read old content) where
     left : lines_of (drop first.bytes text) ≡ r.before ++ lines_of (drop read.bytes text)
     left = append_cancel_left (line ∷ []) (lines_of (drop first.bytes text)) (r.before ++ lines_of (drop read.bytes text)) (sym h.parts ∙ r.is_read.parts)
 
@@ -129,7 +129,7 @@ module _ (outer : List Container) (words text line : List ℕ) (count : ℕ) (ol
         all = ap (take (count - 1)) (left ∙ ap (λ ls. r.before ++ ls) none ∙ append-nil r.before) ∙ take_all (count - 1) r.before r.few
 
 -- the content of a block: its first lines, of all that stand there
-module _ (text line : List ℕ) (later : List (List ℕ)) (first taken : Taken) (h : IsTaken text first (line ∷ [])) (t : IsTaken text taken (line ∷ later)) where
+module _ (text line : List ℕ) (later : List (List ℕ)) (first taken : Extent) (h : IsTaken text first (line ∷ [])) (t : IsTaken text taken (line ∷ later)) where
   rest_is : lines_of (drop first.bytes text) ≡ later ++ lines_of (drop taken.bytes text)
   rest_is = append_cancel_left (line ∷ []) (lines_of (drop first.bytes text)) (later ++ lines_of (drop taken.bytes text)) (sym h.parts ∙ t.parts)
 
@@ -146,7 +146,7 @@ module _ (text line : List ℕ) (later : List (List ℕ)) (first taken : Taken) 
       ∙ take-append-le (length later - 1) later (lines_of (drop taken.bytes text)) (omega arith)
 
 -- the line that is taken from the front is the first
-pub first_line : (text line : List ℕ) (later : List (List ℕ)) (taken : Taken) → IsTaken text taken (line ∷ later) → (start one : Taken) (l : List ℕ)
+pub first_line : (text line : List ℕ) (later : List (List ℕ)) (taken : Extent) → IsTaken text taken (line ∷ later) → (start one : Extent) (l : List ℕ)
     → IsTaken text start [] → IsNext text start l one → IsTaken text one (line ∷ [])
 first_line text line later taken t start one l none n =
     let is = taken-next text start one [] l none n in

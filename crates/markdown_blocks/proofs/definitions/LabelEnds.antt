@@ -12,14 +12,14 @@ use Rattle.markdown_scanners_tree.specs.Kept.{KeptByte, kept_head, kept_return, 
 use Rattle.markdown_scanners_tree.specs.declared.scanners.reference_definitions.ReferenceDefinition.{ReferenceDefinition}
 use Rattle.markdown_scanners_tree.specs.linklabel.Label.{Bracketed, Label, bracketed, preceded, kept_units, label_between, is_label_content}
 use Rattle.markdown_scanners_tree.specs.linklabel.Length.{IsLabelLength}
-use Rattle.markdown_scanners_tree.proofs.PrefixLemmas.{both_true, from_place}
+use Rattle.markdown_scanners_tree.proofs.PrefixLemmas.{both_true, from_offset}
 use Rattle.markdown_blocks.specs.definitions.Definitions.{IsDefinition}
 use Rattle.markdown_blocks.specs.definitions.LabelEnds.{is_label_end, has_label_end}
 
--- where the byte that is kept closes a bracket, the source has one at its place, before which so many bytes were passed
+-- where the byte that is kept closes a bracket, the source has one at its offset, before which so many bytes were passed
 abbrev Closes : ℕ → List ℕ → KeptByte → Type 0
 Closes passed source k = k.byte ≡ right_bracket
-    → (front : List ℕ) × (back : List ℕ) × (source ≡ front ++ right_bracket ∷ back) × (k.place ≡ passed + length front)
+    → (front : List ℕ) × (back : List ℕ) × (source ≡ front ++ right_bracket ∷ back) × (k.offset ≡ passed + length front)
 
 -- all of them do
 abbrev AllClose : ℕ → List ℕ → List KeptByte → Type 0
@@ -96,9 +96,9 @@ kept_closes passed source (skip ∷ skips) =
     both_close passed source (kept_line passed source) (kept_from (passed + n) (drop n source) skips) (line_closes passed source)
     (all_further passed n source (kept_from (passed + n) (drop n source) skips) (kept_closes (passed + n) (drop n source) skips))
 
--- the byte that closes the brackets of a label stands at this place
+-- the byte that closes the brackets of a label stands at this offset
 abbrev ClosesAt : List ℕ → ℕ → Type 0
-ClosesAt source place = (front : List ℕ) × (back : List ℕ) × (source ≡ front ++ right_bracket ∷ back) × (place ≡ length front)
+ClosesAt source offset = (front : List ℕ) × (back : List ℕ) × (source ≡ front ++ right_bracket ∷ back) × (offset ≡ length front)
 
 close_of : Option Bracketed → ℕ
 close_of None = 0
@@ -109,13 +109,13 @@ len_of None = 0
 len_of (Some label) = label.len
 
 module _ (source : List ℕ) where
-  behind : (ps : List KeptByte) (found : Option Bracketed) (b : Bracketed)
+  after : (ps : List KeptByte) (found : Option Bracketed) (b : Bracketed)
       → ((c : Bracketed) → found ≡ Some c → ClosesAt source c.close) → preceded ps found ≡ Some b → ClosesAt source b.close
   unfolding close_of
-  behind ps None b closes is = cc
-  behind ps (Some c) b closes is =
+  after ps None b closes is = cc
+  after ps (Some c) b closes is =
       let same : c.close ≡ b.close = ap close_of is in
-      subst (λ place. ClosesAt source place) same (closes c refl)
+      subst (λ offset. ClosesAt source offset) same (closes c refl)
 
   one_unit : (k : KeptByte) (units : List (List KeptByte)) (b : Bracketed) → Closes 0 source k
       → ((c : Bracketed) → bracketed units ≡ Some c → ClosesAt source c.close)
@@ -124,12 +124,12 @@ module _ (source : List ℕ) where
   one_unit k units b here later is = elim (cases_Bool (k.byte == right_bracket)) [
     | inl closes ↦ (
         let there = here (eqb-true k.byte right_bracket closes) in
-        let same : k.place ≡ b.close = ap close_of (rw closes at is) in
+        let same : k.offset ≡ b.close = ap close_of (rw closes at is) in
         (there.0, there.1, there.2, omega (arith, same, there.3))
         )
     | inr unclosed ↦ elim (cases_Bool (k.byte == left_bracket)) [
       | inl opens ↦ let given : ◌≡◌ {A = Option Bracketed} None (Some b) = rw (unclosed, opens) at is in cc
-      | inr plain ↦ behind (k ∷ []) (bracketed units) b later (rw (unclosed, plain) at is)
+      | inr plain ↦ after (k ∷ []) (bracketed units) b later (rw (unclosed, plain) at is)
     ]
   ]
 
@@ -138,7 +138,7 @@ module _ (source : List ℕ) where
   bracket_there [] b all is = cc
   bracket_there (k ∷ []) b all is = one_unit k [] b all.0 (λ c none. cc) is
   bracket_there (k ∷ l ∷ ks) b all is = elim (cases_Bool (k.byte == backslash && is_punctuation l.byte)) [
-    | inl escapes ↦ behind (k ∷ l ∷ []) (bracketed (kept_units ks)) b (λ c. bracket_there ks c all.1.1) (rw escapes at is)
+    | inl escapes ↦ after (k ∷ l ∷ []) (bracketed (kept_units ks)) b (λ c. bracket_there ks c all.1.1) (rw escapes at is)
     | inr single ↦ one_unit k (kept_units (l ∷ ks)) b all.0 (λ c. bracket_there (l ∷ ks) c all.1) (rw single at is)
   ]
 
@@ -224,7 +224,7 @@ later bytes k inside none =
     let cut = drop_more bytes k 0 inside in
     ap has_label_end cut ∙ one_passed (get_or bytes k 0) (drop (k + 1) bytes) (ap is_label_end (sym cut) ∙ none)
 
--- the three answers of a search for that byte, from a place on
+-- the three answers of a search for that byte, from an offset on
 module _ (bytes : List ℕ) (from : ℕ) where
   abbrev rest : List ℕ
   rest = take (length bytes - from) (drop from bytes)
@@ -232,30 +232,30 @@ module _ (bytes : List ℕ) (from : ℕ) where
   none_up_to : (k : ℕ) → k ≤ length rest → Nowhere (Passes (is_byte right_bracket) rest) 0 k
       → has_label_end (drop from bytes) ≡ has_label_end (drop (from + k) bytes)
   none_up_to k inside none =
-      ap has_label_end (sym (from_place bytes from))
+      ap has_label_end (sym (from_offset bytes from))
       ∙ all_passed rest k inside none
-      ∙ ap (λ z. has_label_end (drop k z)) (from_place bytes from)
+      ∙ ap (λ z. has_label_end (drop k z)) (from_offset bytes from)
       ∙ ap has_label_end (drop-drop k from bytes)
 
   pub search_none : Nowhere (Passes (is_byte right_bracket) rest) 0 (length rest) → has_label_end (drop from bytes) ≡ false
   search_none none =
-      ap has_label_end (sym (from_place bytes from))
+      ap has_label_end (sym (from_offset bytes from))
       ∙ all_passed rest (length rest) (omega arith) none
       ∙ ap has_label_end (drop_all (length rest) rest (omega arith))
 
   module _ (k : ℕ) (found : NoneBefore (Passes (is_byte right_bracket) rest) 0 (length rest) k × Passes (is_byte right_bracket) rest k) where
     within : from + k < length bytes
-    within = let size : length rest ≡ length bytes - from = ap length (from_place bytes from) ∙ length-drop from bytes in
+    within = let size : length rest ≡ length bytes - from = ap length (from_offset bytes from) ∙ length-drop from bytes in
         let high = found.0.high in omega arith
 
     pub search_found : is_label_end (take (length bytes - (from + k)) (drop (from + k) bytes)) ≡ true
         → has_label_end (drop from bytes) ≡ true
     search_found ends =
         none_up_to k (omega (arith, found.0.high)) found.0.before
-        ∙ there bytes (from + k) within (sym (ap is_label_end (from_place bytes (from + k))) ∙ ends)
+        ∙ there bytes (from + k) within (sym (ap is_label_end (from_offset bytes (from + k))) ∙ ends)
 
     pub search_later : is_label_end (take (length bytes - (from + k)) (drop (from + k) bytes)) ≡ false
         → has_label_end (drop from bytes) ≡ has_label_end (drop (from + k + 1) bytes)
     search_later gone =
         none_up_to k (omega (arith, found.0.high)) found.0.before
-        ∙ later bytes (from + k) within (sym (ap is_label_end (from_place bytes (from + k))) ∙ gone)
+        ∙ later bytes (from + k) within (sym (ap is_label_end (from_offset bytes (from + k))) ∙ gone)

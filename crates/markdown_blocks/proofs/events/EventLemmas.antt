@@ -1,5 +1,5 @@
 -- Each event that is given goes before those that the page gives from there.
-use Rattle.std.proofs.Common.{ℕ, suc, Bool, List, [], ◌∷◌, ◌++◌, ◌+◌, ◌-◌, ◌<◌, ◌≤◌, ◌≡◌, ◌⊎◌, inl, inr, Option, Some, None, length, take, drop}
+use Rattle.std.proofs.Common.{ℕ, suc, Bool, true, false, List, [], ◌∷◌, ◌++◌, ◌+◌, ◌-◌, ◌<◌, ◌≤◌, ◌≡◌, ◌⊎◌, inl, inr, Option, Some, None, length, take, drop}
 use Rattle.std.proofs.Common.{refl, sym, ap, ◌∙◌, subst, arith, length-append}
 use Rattle.std.specs.Prelude.{map, replicate}
 use Rattle.std.specs.List.{concat}
@@ -12,13 +12,13 @@ use Rattle.markdown_blocks.proofs.block_events.GivenLemmas.{none_given}
 use Rattle.markdown_blocks.proofs.events.OneEvents.{one_list_of_blocks}
 use Rattle.markdown_blocks.proofs.definitions.DefinitionLemmas.{no_text}
 use Rattle.markdown_blocks.proofs.taken.TakenLemmas.{lines_bytes}
-use Rattle.markdown_blocks.specs.containers.Containers.{Between, Rest, behind, settled_last}
+use Rattle.markdown_blocks.specs.containers.Containers.{Between, Rest, match_line, last_past_first_line}
 use Rattle.markdown_blocks.specs.declared.blocks.BlockKind.{BlockKind}
 use Rattle.markdown_values.specs.declared.values.extensions.Extensions.{Extensions}
 use Rattle.markdown_blocks.specs.declared.containers.Container.{Container}
 use Rattle.markdown_blocks.specs.declared.step.Step.{Step}
-use Rattle.markdown_blocks.specs.declared.taken.Taken.{Taken}
-use Rattle.markdown_blocks.specs.blocks.Pages.{Piece, IsPiece, AreBlocks, lines_in, root}
+use Rattle.markdown_blocks.specs.declared.taken.Extent.{Extent}
+use Rattle.markdown_blocks.specs.blocks.Pages.{Piece, IsPiece, AreBlocks, kept_by, lines_in, root}
 use Rattle.markdown_blocks.specs.events.Events.{Event, leaf, ends, LeafBlock, Part, AreLeaves, AreLeavesOf, part_of, piece_content}
 use Rattle.markdown_blocks.specs.events.Events.{started, piece_events, AreEvents, open_after, IsEventsOf}
 use Rattle.markdown_blocks.specs.events.Given.{BlockLeft, GivesBlock, block_left, block_events_left, Pending, Left, Gives}
@@ -32,10 +32,17 @@ no_piece [] none = refl
 no_piece (piece ∷ pieces) none = cc
 
 -- settling takes no container away
-pub kept_fewer : (outer : List Container) → length (settled_last outer) ≡ length outer
+pub kept_fewer : (outer : List Container) → length (last_past_first_line outer) ≡ length outer
 kept_fewer [] = refl
 kept_fewer (c ∷ []) = refl
 kept_fewer (c ∷ d ∷ outer) = ap suc (kept_fewer (d ∷ outer))
+
+-- a line goes on with no more containers than are open
+pub kept_few_by : (header : Bool) (before : Between) (line : List ℕ) → length (kept_by header before line) ≤ length before.containers
+kept_few_by true before line = omega arith
+kept_few_by false before line =
+    let count = (match_line before.containers line).kept in
+    omega (arith, kept_fewer (take count before.containers), length-take count before.containers)
 
 -- what is gathered of a content shows its leaf blocks
 gathered_leaves : (outer : List Container) (kind : BlockKind) (part : Part) (content gathered : List ℕ) (leaves : List LeafBlock)
@@ -46,13 +53,14 @@ gathered_leaves outer kind part content gathered (block ∷ more) (inr plain) (s
     absurd (no_text found.0 (subst (λ t. IsDefinition t found.0) plain.0 found.1))
 gathered_leaves outer kind part content gathered (block ∷ more) (inr plain) (some, inr own) = (some, inr (plain.1, own.1, own.2))
 
-module _ (text : List ℕ) (asked : Extensions) (containers : List Container) (term : Bool) (line start : ℕ) where
+module _ (text : List ℕ) (asked : Extensions) (containers : List Container) (term paragraph : Bool) (line start : ℕ) where
   abbrev at : ℕ → Option Pending → Left
   at begun next = record {
     text = text;
     extensions = asked;
     containers = containers;
     term = term;
+    paragraph = paragraph;
     begun = begun;
     line = line;
     start = start;
@@ -139,7 +147,7 @@ module _ (old new : Between) (lines : List ℕ) (more : List (List ℕ)) (step :
       (subst (λ (o : Between). IsGathered (content_in step.block.kind o.containers step.text.now s.piece.later) content) s.open_now
       (c s.piece.first s.piece.later s.all)))
 
-  module _ (before : Taken) (content : List ℕ) (c : IsContentOf step new.containers content) where
+  module _ (before : Extent) (content : List ℕ) (c : IsContentOf step new.containers content) where
     -- the leaf blocks of the step are those of its piece
     piece_leaves : (leaves : List LeafBlock) → AreLeaves new.containers step.block.kind (block_left step before (length old.containers)).part content leaves
         → AreLeavesOf before.lines before.bytes s.piece leaves
@@ -162,7 +170,7 @@ module _ (old new : Between) (lines : List ℕ) (more : List (List ℕ)) (step :
         g.given
         ∙ ap (λ n. replicate (length old.containers - n) ends ++ started before.bytes step.start (drop step.kept new.containers) ++ map leaf g.leaves) s.counted
         ∙ ap (λ cs. replicate (length old.containers - length s.piece.kept) ends ++ started before.bytes step.start cs ++ map leaf g.leaves) begun_is
-        ∙ ap (λ p. replicate (length old.containers - length s.piece.kept) ends ++ started before.bytes p s.piece.begun ++ map leaf g.leaves) s.place
+        ∙ ap (λ p. replicate (length old.containers - length s.piece.kept) ends ++ started before.bytes p s.piece.begun ++ map leaf g.leaves) s.offset
 
     pub step_events : (events : List Event) → GivesBlock new.containers content (block_left step before (length old.containers)) events
         → (leaves : List LeafBlock) × AreLeavesOf before.lines before.bytes s.piece leaves
@@ -174,14 +182,13 @@ module _ (old new : Between) (lines : List ℕ) (step : Step) (s : IsStep old li
   pub step_kept : (step.kept ≤ length old.containers) × (step.kept ≤ length new.containers)
   step_kept =
       let counted = s.counted in
-      let here : length s.piece.kept ≡ length (take (behind old.containers s.piece.first).kept old.containers) =
-      ap length s.is_piece.opened.goes_on ∙ kept_fewer (take (behind old.containers s.piece.first).kept old.containers) in
-      let few = length-take (behind old.containers s.piece.first).kept old.containers in
+      let here = ap length s.is_piece.opened.goes_on in
+      let few = kept_few_by s.piece.header old s.piece.first in
       let longer : length new.containers ≡ length s.piece.kept + length s.piece.begun = ap (λ (o : Between). length o.containers) s.open_now
       ∙ length-append s.piece.kept s.piece.begun in
       (omega (arith, counted, here, few), omega (arith, counted, longer))
 
-  module _ (before : Taken) (content : List ℕ) (c : IsContentOf step new.containers content) where
+  module _ (before : Extent) (content : List ℕ) (c : IsContentOf step new.containers content) where
     -- the block that is read
     pub block_read : (begun : ℕ) (text : List ℕ) → begun ≡ length old.containers → text ≡ drop step.block.taken.bytes lines → (events : List Event)
         → Gives (record {
@@ -189,6 +196,7 @@ module _ (old new : Between) (lines : List ℕ) (step : Step) (s : IsStep old li
           extensions = new.extensions;
           containers = new.containers;
           term = new.term;
+          paragraph = new.paragraph;
           begun = begun;
           line = before.lines + step.block.taken.lines;
           start = before.bytes + step.block.taken.bytes;
@@ -199,13 +207,14 @@ module _ (old new : Between) (lines : List ℕ) (step : Step) (s : IsStep old li
           extensions = old.extensions;
           containers = old.containers;
           term = old.term;
+          paragraph = old.paragraph;
           begun = begun;
           line = before.lines;
           start =
               before.bytes;
           next = None;
         }) events
-    block_read begun text open_before behind_is events given_then =
+    block_read begun text open_before after_is events given_then =
         let line_now = before.lines + step.block.taken.lines in
         let start_now = before.bytes + step.block.taken.bytes in
         let g = subst (λ n. Gives (record {
@@ -213,12 +222,13 @@ module _ (old new : Between) (lines : List ℕ) (step : Step) (s : IsStep old li
           extensions = new.extensions;
           containers = new.containers;
           term = new.term;
+          paragraph = new.paragraph;
           begun = begun;
           line = line_now;
           start = start_now;
           next = Some (record { block = block_left step before n; content = content });
         }) events) open_before given_then in
-        let later : lines_in g.pieces ≡ lines_of (drop step.block.taken.bytes lines) = g.joined ∙ ap lines_of behind_is in
+        let later : lines_in g.pieces ≡ lines_of (drop step.block.taken.bytes lines) = g.joined ∙ ap lines_of after_is in
         let block = g.is_pending in
         let bytes = lines_bytes lines step.block.taken.bytes (s.piece.first ∷ s.piece.later) s.taken.within s.taken.parts in
         let line_then : line_now ≡ before.lines + length (s.piece.first ∷ s.piece.later) = ap (λ n. before.lines + n) s.taken.counted in

@@ -18,12 +18,12 @@ use Rattle.markdown_scanners_tree.specs.scanners.list_items.ListMarker.{Marker, 
 use Rattle.markdown_scanners_tree.proofs.ForCallers.{lines_joined}
 use Rattle.markdown_blocks.specs.byte_order_mark.ByteOrderMark.{text_of, text_start}
 use Rattle.markdown_blocks.specs.blank_lines.BlankLines.{is_blank}
-use Rattle.markdown_blocks.specs.blocks.Pages.{Piece, AreBlocks, lines_in, open_behind, root}
+use Rattle.markdown_blocks.specs.blocks.Pages.{OpensAfter, Piece, AreBlocks, lines_in, opened_by, root}
 use Rattle.markdown_blocks.specs.containers.Containers.{Between, after_marker, all_containers, asked_between, begun_at}
-use Rattle.markdown_blocks.specs.containers.Containers.{behind, behind_quote, either_begun, extension_of, footnote_by, footnote_of, term_definition_by}
+use Rattle.markdown_blocks.specs.containers.Containers.{match_line, past_quote, either_begun, extension_of, footnote_by, footnote_of, term_definition_by}
 use Rattle.markdown_blocks.specs.containers.Containers.{term_definition_of}
-use Rattle.markdown_blocks.specs.containers.Containers.{go_on, item_of, marker_place, within, within_quote, within_width, without_terms, Opens}
-use Rattle.markdown_blocks.specs.containers.Footnotes.{behind_footnote, circumflex, closes_label, footnote_label, is_label_byte}
+use Rattle.markdown_blocks.specs.containers.Containers.{go_on, item_of, marker_start, within, within_quote, within_width, without_terms, Opens}
+use Rattle.markdown_blocks.specs.containers.Footnotes.{past_footnote, circumflex, closes_label, footnote_label, is_label_byte}
 use Rattle.markdown_blocks.specs.containers.ItemMarkers.{item_outcome, item_outcome_after, item_outcome_by}
 use Rattle.markdown_values.specs.declared.values.extensions.Extensions.{Extensions}
 use Rattle.markdown_blocks.specs.declared.containers.Container.{Container}
@@ -86,7 +86,7 @@ colon_more : (bytes more : List ℕ) → begins_with (λ b. b == colon) bytes �
 colon_more [] more h = cc
 colon_more (b ∷ bytes) more h = h
 
--- a place stays in its line
+-- an offset stays in its line
 either_bytes : (b : Bool) (s t u : LineState) → s.bytes ≡ u.bytes → t.bytes ≡ u.bytes → (if b then s else t).bytes ≡ u.bytes
 either_bytes true s t u first second = first
 either_bytes false s t u first second = second
@@ -102,7 +102,7 @@ item_bytes indent s (Some m) = by (space_or_end_follows (bytes_further m.width s
     by true = refl
     by false = refl
 
--- what begins there is marked, and the place after it stands in the line
+-- what begins there is marked, and the offset after it stands in the line
 module _ (P : Container × LineState → Type 0) where
   pub one_is : (found r : Container × LineState) → Some found ≡ Some r → P found → P r
   one_is found r is h = let one : found ≡ r = cc in subst P one h
@@ -136,7 +136,7 @@ module _ (t : LineState) where
   footnote_stands : (label : Option (List ℕ)) → footnote_label (unscanned t) ≡ label → (r : Container × LineState) → footnote_by t label ≡ Some r
       → Stands r
   footnote_stands None found r is = cc
-  footnote_stands (Some l) found r is = one_is Stands (Footnote, behind_footnote l t) r is (refl, ap is_some found)
+  footnote_stands (Some l) found r is = one_is Stands (Footnote, past_footnote l t) r is (refl, ap is_some found)
 
   definition_stands : (n : ℕ) (r : Container × LineState) → term_definition_by (definition_outcome n t) ≡ Some r → Stands r
   definition_stands n r is =
@@ -144,7 +144,7 @@ module _ (t : LineState) where
       let after = bytes_further 1 t in
       let columns = definition_spaces (leading_spaces (rest_of after)) in
       let next = after_space columns after in
-      one_is Stands (TermDefinition (record { begun = is_blank (unscanned next); width = n + 1 + columns }), next) r (rw marked at is) (refl, marked)
+      one_is Stands (TermDefinition (record { starts_blank = is_blank (unscanned next); width = n + 1 + columns }), next) r (rw marked at is) (refl, marked)
 
 begun_there : (asked : Extensions) (s : LineState) (r : Container × LineState) → begun_at asked s ≡ Some r → Stands (after_space 4 s) r
 begun_there asked s =
@@ -165,11 +165,11 @@ quote_on None s r same is = cc
 quote_on (Some t) s r same is =
     let pair : ◌≡◌ {A = Bool × LineState} (is_blank (unscanned t), t) r = cc in subst (λ (z : Bool × LineState). z.1.bytes ≡ s.bytes) pair (same t refl)
 
-quote_place : (far here : Bool) (q t : LineState) (s : LineState) → q.bytes ≡ s.bytes → (if far then None else if here then Some q else None) ≡ Some t
+quote_offset : (far here : Bool) (q t : LineState) (s : LineState) → q.bytes ≡ s.bytes → (if far then None else if here then Some q else None) ≡ Some t
     → t.bytes ≡ s.bytes
-quote_place true here q t s same is = cc
-quote_place false true q t s same is = let one : q ≡ t = cc in subst (λ (z : LineState). z.bytes ≡ s.bytes) one same
-quote_place false false q t s same is = cc
+quote_offset true here q t s same is = cc
+quote_offset false true q t s same is = let one : q ≡ t = cc in subst (λ (z : LineState). z.bytes ≡ s.bytes) one same
+quote_offset false false q t s same is = cc
 
 either_on : (b : Bool) (p r : Bool × LineState) (s : LineState) → p.1.bytes ≡ s.bytes → (if b then Some p else None) ≡ Some r → r.1.bytes ≡ s.bytes
 either_on true p r s same is = let one : p ≡ r = cc in subst (λ (z : Bool × LineState). z.1.bytes ≡ s.bytes) one same
@@ -187,11 +187,11 @@ width_bytes begun width false s r is = either_on (space_within width s == width)
 within_bytes : (c : Container) (blank : Bool) (s : LineState) (r : Bool × LineState) → within c blank s ≡ Some r → r.1.bytes ≡ s.bytes
 within_bytes Quote blank s r is =
     let t = after_space 4 s in
-    quote_on (behind_quote (space_within 4 s) t) s r (λ q found. quote_place (space_within 4 s == 4)
+    quote_on (past_quote (space_within 4 s) t) s r (λ q found. quote_offset (space_within 4 s == 4)
     (begins_with (λ b. b == greater_than_sign) (unscanned t)) (after_quote t) q s (quote_bytes t) found) is
-within_bytes (Item item) blank s r is = width_bytes item.begun item.width blank s r is
+within_bytes (Item item) blank s r is = width_bytes item.starts_blank item.width blank s r is
 within_bytes Footnote blank s r is = width_bytes false 4 blank s r is
-within_bytes (TermDefinition definition) blank s r is = width_bytes definition.begun definition.width blank s r is
+within_bytes (TermDefinition definition) blank s r is = width_bytes definition.starts_blank definition.width blank s r is
 
 on_bytes : (blank : Bool) (cs : List Container) (s : LineState) → (go_on blank cs s).state.bytes ≡ s.bytes
 on_bytes blank [] s = refl
@@ -206,7 +206,7 @@ on_bytes blank (c ∷ cs) s = by (within c blank s) (within_bytes c blank s) (λ
 -- events one after the other
 both_have : (page : List ℕ) (events others : List Event) → AreMarked page events → AreMarked page others → AreMarked page (events ++ others)
 both_have page [] others h h' = h'
-both_have page (starts c place ∷ events) others h h' = (h.0, both_have page events others h.1 h')
+both_have page (starts c offset ∷ events) others h h' = (h.0, both_have page events others h.1 h')
 both_have page (leaf block ∷ events) others h h' = both_have page events others h h'
 both_have page (ends ∷ events) others h h' = both_have page events others h h'
 
@@ -220,25 +220,25 @@ leaves_have page (block ∷ leaves) = leaves_have page leaves
 
 -- the markers in a line that stands in the page
 module _ (page first more : List ℕ) (start : ℕ) (stands : drop start page ≡ first ++ more) where
-  test_stands : (test : List ℕ → Bool) → test [] ≡ false → ((bytes : List ℕ) → test bytes ≡ true → test (bytes ++ more) ≡ true) → (place : ℕ)
-      → test (drop place first) ≡ true → test (drop (start + place) page) ≡ true
-  test_stands test empty on place holds = elim (cases_lt (length first) place) [
+  test_stands : (test : List ℕ → Bool) → test [] ≡ false → ((bytes : List ℕ) → test bytes ≡ true → test (bytes ++ more) ≡ true) → (offset : ℕ)
+      → test (drop offset first) ≡ true → test (drop (start + offset) page) ≡ true
+  test_stands test empty on offset holds = elim (cases_lt (length first) offset) [
     | inl past ↦ (
-        let none : drop place first ≡ [] = drop_all place first (omega (arith, past)) in
+        let none : drop offset first ≡ [] = drop_all offset first (omega (arith, past)) in
         let both : true ≡ false = sym holds ∙ ap test none ∙ empty in cc
         )
     | inr within ↦ (
-        let there : drop (start + place) page ≡ drop place first ++ more =
-        sym (drop-drop place start page) ∙ ap (drop place) stands ∙ drop-append-le place first more (omega (arith, within)) in
-        ap test there ∙ on (drop place first) holds
+        let there : drop (start + offset) page ≡ drop offset first ++ more =
+        sym (drop-drop offset start page) ∙ ap (drop offset) stands ∙ drop-append-le offset first more (omega (arith, within)) in
+        ap test there ∙ on (drop offset first) holds
         )
   ]
 
-  marked : (c : Container) (place : ℕ) → IsMarked c (drop place first) → IsMarked c (drop (start + place) page)
-  marked Quote place h = tt
-  marked (Item item) place h = tt
-  marked Footnote place h = test_stands (λ bytes. is_some (footnote_label bytes)) refl (λ bytes. label_more bytes more) place h
-  marked (TermDefinition definition) place h = test_stands (begins_with (λ b. b == colon)) refl (λ bytes. colon_more bytes more) place h
+  marked : (c : Container) (offset : ℕ) → IsMarked c (drop offset first) → IsMarked c (drop (start + offset) page)
+  marked Quote offset h = tt
+  marked (Item item) offset h = tt
+  marked Footnote offset h = test_stands (λ bytes. is_some (footnote_label bytes)) refl (λ bytes. label_more bytes more) offset h
+  marked (TermDefinition definition) offset h = test_stands (begins_with (λ b. b == colon)) refl (λ bytes. colon_more bytes more) offset h
 
   started_have : (asked : Extensions) (cs : List Container) (s last : LineState) → s.bytes ≡ first → Opens asked s cs last
       → AreMarked page (started start s cs)
@@ -247,9 +247,15 @@ module _ (page first more : List ℕ) (start : ℕ) (stands : drop start page �
       let there = begun_there asked s (c, o.0) o.1 in
       let all : begun_at all_containers s ≡ Some (c, o.0) = begun_by_all asked s (c, o.0) o.1 in
       let next : o.0 ≡ after_marker s = rw (after_marker, all) refl in (
-        marked c (marker_place s) (subst (λ bytes. IsMarked c (drop (marker_place s) bytes)) at there.1),
+        marked c (marker_start s) (subst (λ bytes. IsMarked c (drop (marker_start s) bytes)) at there.1),
         subst (λ z. AreMarked page (started start z cs)) next (started_have (without_terms asked) cs o.0 last (there.0 ∙ at) o.2),
       )
+
+  -- also where the line goes on with the paragraph before it, and so begins no container
+  started_after_have : (header : Bool) (asked : Extensions) (cs : List Container) (s last : LineState) → s.bytes ≡ first
+      → OpensAfter header asked s cs last → AreMarked page (started start s cs)
+  started_after_have true asked cs s last at o = subst (λ ds. AreMarked page (started start s ds)) (sym o.0) tt
+  started_after_have false asked cs s last at o = started_have asked cs s last at o
 
 -- the pieces of a page
 pieces_have : (page : List ℕ) (pieces : List Piece) (before : Between) (line start : ℕ) (events : List Event) → AreBlocks before pieces []
@@ -261,19 +267,20 @@ pieces_have page (piece ∷ later) before line start events each are stands =
     let opened = each.0.opened in
     let first : drop start page ≡ piece.first ++ (concat piece.later ++ concat (lines_in later)) =
     stands ∙ parts ∙ append_assoc piece.first (concat piece.later) (concat (lines_in later)) in
-    let behind_front : drop (start + length (concat front)) page ≡ concat (lines_in later) =
+    let after_front : drop (start + length (concat front)) page ≡ concat (lines_in later) =
     sym (drop-drop (length (concat front)) start page) ∙ ap (drop (length (concat front))) (stands ∙ parts)
     ∙ drop-append_seam (concat front) (concat (lines_in later)) in
-    let place = (behind before.containers piece.first).state in
-    let begins = started_have page piece.first (concat piece.later ++ concat (lines_in later)) start first (asked_between before piece.first) piece.begun place
-    opened.place
+    let offset = (match_line before.containers piece.first).state in
+    let begins = started_after_have page piece.first (concat piece.later ++ concat (lines_in later)) start first piece.header
+    (asked_between before piece.first) piece.begun offset
+    opened.position
     (on_bytes (is_blank piece.first) before.containers (start_of piece.first)) opened.begins in
     let gone = replicate (length before.containers - length piece.kept) ends in
     let own : AreMarked page (piece_events before.containers start piece are.0) =
-    both_have page (gone ++ started start place piece.begun) (map leaf are.0)
-    (both_have page gone (started start place piece.begun) (ends_have page (length before.containers - length piece.kept)) begins) (leaves_have page are.0) in
+    both_have page (gone ++ started start offset piece.begun) (map leaf are.0)
+    (both_have page gone (started start offset piece.begun) (ends_have page (length before.containers - length piece.kept)) begins) (leaves_have page are.0) in
     subst (AreMarked page) (sym are.3) (both_have page (piece_events before.containers start piece are.0) are.1 own
-    (pieces_have page later (open_behind before piece) (line + length front) (start + length (concat front)) are.1 each.1 are.4 behind_front))
+    (pieces_have page later (opened_by before piece) (line + length front) (start + length (concat front)) are.1 each.1 are.4 after_front))
 
 -- On each page a label stands where a footnote definition begins, and a colon where the definition of a term does.
 pub extensions_are_marked : (asked : Extensions) (page : List ℕ) (events : List Event) → IsEventsOf asked page events → AreMarked page events

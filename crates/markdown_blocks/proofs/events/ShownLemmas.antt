@@ -57,7 +57,7 @@ page_shown asked page shown (pieces, blocks, is, are, all) = (
 -- what is written in the next event, where so much of the content is used
 pub shown_next : (content : List ℕ) (old new : ℕ) (event : Event) → IsUsedBy content old event new
     → (written : Option Written) × IsWrittenIn (drop old content) event written (drop new content)
-shown_next content old new (starts container place) used = (None, (refl, ap (λ n. drop n content) used))
+shown_next content old new (starts container offset) used = (None, (refl, ap (λ n. drop n content) used))
 shown_next content old new ends used = (None, (refl, ap (λ n. drop n content) used))
 shown_next content old new (leaf block) (inl (definition, is, used)) = (
   Some (written_of (drop old content) definition),
@@ -69,7 +69,7 @@ shown_next content old new (leaf block) (inr (none, used)) = (None, (none, ap (�
 nothing_shown : (content : List ℕ) → ((definition : ReferenceDefinition) → ¬ IsDefinition content definition) → (events : List Event) (shown : List Shown)
     → AreShown [] events shown → AreShown content events shown
 nothing_shown content plain [] shown none = none
-nothing_shown content plain (starts container place ∷ events) shown (written, rest, later, is, all, more) =
+nothing_shown content plain (starts container offset ∷ events) shown (written, rest, later, is, all, more) =
     (written, content, later, (is.0, refl), all, nothing_shown content plain events later (subst (λ r. AreShown r events later) is.1 more))
 nothing_shown content plain (ends ∷ events) shown (written, rest, later, is, all, more) =
     (written, content, later, (is.0, refl), all, nothing_shown content plain events later (subst (λ r. AreShown r events later) is.1 more))
@@ -93,7 +93,7 @@ step_shown old new lines more step s content gathered events shown are =
 -- one text is written in an event, and one content is left
 pub one_written : (content : List ℕ) (event : Event) (written other : Option Written) (rest left : List ℕ) → IsWrittenIn content event written rest
     → IsWrittenIn content event other left → (written ≡ other) × (rest ≡ left)
-one_written content (starts container place) written other rest left is is' = (is.0 ∙ sym is'.0, is.1 ∙ sym is'.1)
+one_written content (starts container offset) written other rest left is is' = (is.0 ∙ sym is'.0, is.1 ∙ sym is'.1)
 one_written content ends written other rest left is is' = (is.0 ∙ sym is'.0, is.1 ∙ sym is'.1)
 one_written content (leaf block) None None rest left is is' = (refl, is.1 ∙ sym is'.1)
 one_written content (leaf block) None (Some other) rest left is is' = absurd (is.0 is'.0 is'.1)

@@ -18,14 +18,14 @@ module _ (block : LeafBlock) (s : LineState) (here : s ≡ start_of block.text) 
   abbrev start : LineState
   start = start_of block.text
 
-  pub alert_some : (kind : BlockQuoteKind) (len : ℕ) → Some kind ≡ (alert_outcome s).answer → len ≡ (alert_outcome s).state.place
+  pub alert_some : (kind : BlockQuoteKind) (len : ℕ) → Some kind ≡ (alert_outcome s).answer → len ≡ (alert_outcome s).state.offset
       → Some (alert_with block (kind, len)) ≡ option_map (alert_with block) (alert_line block.text)
-  alert_some kind len found place =
-      by_line (alert_line block.text) (found ∙ ap (λ s. (alert_outcome s).answer) here) (place ∙ ap (λ s. (alert_outcome s).state.place) here)
+  alert_some kind len found offset =
+      by_line (alert_line block.text) (found ∙ ap (λ s. (alert_outcome s).answer) here) (offset ∙ ap (λ s. (alert_outcome s).state.offset) here)
     where
-      by_line : (line : Option (BlockQuoteKind × ℕ)) → Some kind ≡ (outcome_by start line).answer → len ≡ (outcome_by start line).state.place
+      by_line : (line : Option (BlockQuoteKind × ℕ)) → Some kind ≡ (outcome_by start line).answer → len ≡ (outcome_by start line).state.offset
           → Some (alert_with block (kind, len)) ≡ option_map (alert_with block) line
-      by_line None found place = cc
-      by_line (Some line) found place =
-          let same : len ≡ line.1 = omega (arith, place) in
+      by_line None found offset = cc
+      by_line (Some line) found offset =
+          let same : len ≡ line.1 = omega (arith, offset) in
           ap (λ n. Some (alert_with block (kind, n))) same ∙ ap (option_map (λ k. alert_with block (k, line.1))) found

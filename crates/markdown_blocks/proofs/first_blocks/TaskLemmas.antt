@@ -15,17 +15,17 @@ use Rattle.markdown_blocks.specs.first_blocks.Tasks.{is_task_text, scanned_task,
 
 module _ (block : LeafBlock) (s : LineState) (here : s ≡ start_of block.text) (goes_on : is_task_text block.text ≡ true) where
   abbrev task_with : ℕ → Bool → Task
-  task_with len checked = record { is_checked = checked; place = block.place; len = len }
+  task_with len checked = record { is_checked = checked; offset = block.offset; len = len }
 
   pub task_none : None ≡ (task_outcome s).answer → None ≡ task_of block
   task_none none = rw goes_on
-      (ap (option_map (task_with (task_outcome (start_of block.text)).state.place)) (none ∙ ap (λ s. (task_outcome s).answer) here))
+      (ap (option_map (task_with (task_outcome (start_of block.text)).state.offset)) (none ∙ ap (λ s. (task_outcome s).answer) here))
 
-  pub task_some : (checked : Bool) (len : ℕ) → Some checked ≡ (task_outcome s).answer → len ≡ (task_outcome s).state.place
-      → Some (record { is_checked = checked; place = block.place; len = len }) ≡ task_of block
-  task_some checked len found place = rw goes_on
-      (ap (λ l. Some (task_with l checked)) (place ∙ ap (λ s. (task_outcome s).state.place) here)
-      ∙ ap (option_map (task_with (task_outcome (start_of block.text)).state.place)) (found ∙ ap (λ s. (task_outcome s).answer) here))
+  pub task_some : (checked : Bool) (len : ℕ) → Some checked ≡ (task_outcome s).answer → len ≡ (task_outcome s).state.offset
+      → Some (record { is_checked = checked; offset = block.offset; len = len }) ≡ task_of block
+  task_some checked len found offset = rw goes_on
+      (ap (λ l. Some (task_with l checked)) (offset ∙ ap (λ s. (task_outcome s).state.offset) here)
+      ∙ ap (option_map (task_with (task_outcome (start_of block.text)).state.offset)) (found ∙ ap (λ s. (task_outcome s).answer) here))
 
 -- where its line does not go on after it, there is none
 pub task_alone : (block : LeafBlock) → is_task_text block.text ≡ false → None ≡ task_of block
@@ -61,46 +61,46 @@ box_bracket (a ∷ b ∷ c ∷ d ∷ more) checked is = by (a == left_bracket &&
     by false none = absurd (let lost = rw none at is in cc)
 
 module _ (block : LeafBlock) where
-  abbrev behind_space : LineState
-  behind_space = after_space 3 (start_of block.text)
+  abbrev past_space : LineState
+  past_space = after_space 3 (start_of block.text)
 
   abbrev outcome_of : Option Bool → Outcome Bool
   outcome_of box =
       elim box [
-        | Some checked ↦ record { answer = Some checked; state = bytes_further 3 behind_space }
+        | Some checked ↦ record { answer = Some checked; state = bytes_further 3 past_space }
         | None ↦ not_found (start_of block.text)
       ]
 
   abbrev task_by : Option Bool → Option Task
   task_by box =
-      option_map (λ checked. record { is_checked = checked; place = block.place; len = (outcome_of box).state.place }) (outcome_of box).answer
+      option_map (λ checked. record { is_checked = checked; offset = block.offset; len = (outcome_of box).state.offset }) (outcome_of box).answer
 
-  bracket_by : (task : Task) (box : Option Bool) → box ≡ task_box (unscanned behind_space) → task_by box ≡ Some task
+  bracket_by : (task : Task) (box : Option Bool) → box ≡ task_box (unscanned past_space) → task_by box ≡ Some task
       → (1 ≤ task.len) × (get_or block.text (task.len - 1) 0 ≡ right_bracket)
   bracket_by task None found is = absurd (cc)
   bracket_by task (Some checked) found is =
-      let it : record { is_checked = checked; place = block.place; len = behind_space.place + 3 } ≡ task = cc in
+      let it : record { is_checked = checked; offset = block.offset; len = past_space.offset + 3 } ≡ task = cc in
       let len = ap (λ (t : Task). t.len) it in
-      let last : task.len - 1 ≡ behind_space.place + 2 = omega (arith, len) in (
+      let last : task.len - 1 ≡ past_space.offset + 2 = omega (arith, len) in (
         omega (arith, len),
-        ap (λ n. get_or block.text n 0) last ∙ sym (get_or-drop behind_space.place block.text 2 0)
-            ∙ box_bracket (unscanned behind_space) checked (sym found),
+        ap (λ n. get_or block.text n 0) last ∙ sym (get_or-drop past_space.offset block.text 2 0)
+            ∙ box_bracket (unscanned past_space) checked (sym found),
       )
 
   -- The task list marker of a block ends with a right bracket.
   pub task_bracket : (task : Task) → task_of block ≡ Some task → (1 ≤ task.len) × (get_or block.text (task.len - 1) 0 ≡ right_bracket)
-  task_bracket task is = bracket_by task (task_box (unscanned behind_space)) refl (task_scanned block task is)
+  task_bracket task is = bracket_by task (task_box (unscanned past_space)) refl (task_scanned block task is)
 
-  by_box : (task : Task) (box : Option Bool) → box ≡ task_box (unscanned behind_space) → task_by box ≡ Some task
-      → (task.place ≡ block.place) × (task.len ≤ length block.text)
+  by_box : (task : Task) (box : Option Bool) → box ≡ task_box (unscanned past_space) → task_by box ≡ Some task
+      → (task.offset ≡ block.offset) × (task.len ≤ length block.text)
   by_box task None found is = absurd (cc)
   by_box task (Some checked) found is =
-      let it : record { is_checked = checked; place = block.place; len = behind_space.place + 3 } ≡ task = cc in
-      let some = box_some (unscanned behind_space) checked (sym found) in (
-        sym (ap (λ (t : Task). t.place) it),
-        omega (arith, ap (λ (t : Task). t.len) it, some, length-drop behind_space.place behind_space.bytes),
+      let it : record { is_checked = checked; offset = block.offset; len = past_space.offset + 3 } ≡ task = cc in
+      let some = box_some (unscanned past_space) checked (sym found) in (
+        sym (ap (λ (t : Task). t.offset) it),
+        omega (arith, ap (λ (t : Task). t.len) it, some, length-drop past_space.offset past_space.bytes),
       )
 
   -- The task list marker of a block stands at the front of its text.
-  pub task_within : (task : Task) → task_of block ≡ Some task → (task.place ≡ block.place) × (task.len ≤ length block.text)
-  task_within task is = by_box task (task_box (unscanned behind_space)) refl (task_scanned block task is)
+  pub task_within : (task : Task) → task_of block ≡ Some task → (task.offset ≡ block.offset) × (task.len ≤ length block.text)
+  task_within task is = by_box task (task_box (unscanned past_space)) refl (task_scanned block task is)

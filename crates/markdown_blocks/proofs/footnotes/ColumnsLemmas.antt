@@ -21,7 +21,7 @@ leading_drop (suc n) (b ∷ r) few = by (b == space) refl (leading_drop n r)
     by false is later = let none = rw is at few in absurd (omega (arith, none))
 
 module _ (s t : LineState) (is : t ≡ after_space 4 s) where
-  -- four columns stand there, and what is left behind them
+  -- four columns stand there, and what is left after them
   pub columns_left : s.phase < 4 → space_within 4 s ≡ 4 → rest_of t ≡ drop 4 (rest_of s)
       → (after_columns t ≡ after_columns s) × (leading_spaces (rest_of t) + 4 ≡ leading_spaces (rest_of s))
   columns_left small four rest =

@@ -22,17 +22,17 @@ pub not_given : {P : Type 0} {t : Bool} → t ≡ false → (P → IsTrue t) →
 not_given {P} {t} fails tells p = let passes = tells p in cc
 
 -- what begins after the indent begins with the rest of the line
-pub begins_behind : (kind : BlockKind) (rest : Rest) → ¬ IsBlank rest → ¬ HasIndent rest → BeginsAt kind rest.text → Begins kind rest
-begins_behind Blank rest text near h = absurd h
-begins_behind Indented rest text near h = absurd h
-begins_behind (Setext level) rest text near h = absurd h
-begins_behind (Table columns) rest text near h = absurd h
-begins_behind Definition rest text near h = absurd h
-begins_behind Break rest text near h = (text, near, h)
-begins_behind (Heading level) rest text near h = (text, near, h)
-begins_behind (Fenced count byte) rest text near h = (text, near, h)
-begins_behind (Html kind) rest text near h = (text, near, h)
-begins_behind Paragraph rest text near h = (text, near, h)
+pub begins_after : (kind : BlockKind) (rest : Rest) → ¬ IsBlank rest → ¬ HasIndent rest → BeginsAt kind rest.text → Begins kind rest
+begins_after Blank rest text near h = absurd h
+begins_after Indented rest text near h = absurd h
+begins_after (Setext level) rest text near h = absurd h
+begins_after (Table columns) rest text near h = absurd h
+begins_after Definition rest text near h = absurd h
+begins_after Break rest text near h = (text, near, h)
+begins_after (Heading level) rest text near h = (text, near, h)
+begins_after (Fenced count byte) rest text near h = (text, near, h)
+begins_after (Html kind) rest text near h = (text, near, h)
+begins_after Paragraph rest text near h = (text, near, h)
 
 -- a block of another kind is no paragraph
 pub other_kind : (kind : BlockKind) (rest : Rest) → ¬ (kind ≡ Paragraph) → Begins kind rest → ¬ Begins Paragraph rest

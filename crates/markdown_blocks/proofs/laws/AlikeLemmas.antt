@@ -1,4 +1,4 @@
--- Two places with the same text after them, each in its line: what is read there is the same.
+-- Two offsets with the same text after them, each in its line: what is read there is the same.
 use Rattle.std.proofs.Common.{ℕ, suc, zero, Bool, true, false, not, ◌||◌, ◌==◌, ◌+◌, ◌-◌, ◌%◌, ◌≡◌, ◌⊎◌, List, [], ◌∷◌, ◌++◌, length}
 use Rattle.std.proofs.Common.{take, drop, replicate, min, refl, sym, ap, ◌∙◌, subst, arith, inl, inr}
 use Rattle.std.specs.Prelude.{if◌then◌else◌, nat_lt}
@@ -94,8 +94,8 @@ no_tab_taken (suc n) (b ∷ bs) h =
     let first : not (b == 9) ≡ true = both.0 in
     rw first (no_tab_taken n bs both.1)
 
-no_tab_behind : (n : ℕ) (t : LineState) → has_no_tab (unscanned t) ≡ true → has_no_tab (drop (t.place + n) t.bytes) ≡ true
-no_tab_behind n t h = ap has_no_tab (sym (drop-drop n t.place t.bytes)) ∙ list_all-drop (λ b. not (b == 9)) n (unscanned t) h
+no_tab_after : (n : ℕ) (t : LineState) → has_no_tab (unscanned t) ≡ true → has_no_tab (drop (t.offset + n) t.bytes) ≡ true
+no_tab_after n t h = ap has_no_tab (sym (drop-drop n t.offset t.bytes)) ∙ list_all-drop (λ b. not (b == 9)) n (unscanned t) h
 
 abbrev rest_of_parts : ℕ → List ℕ → Rest
 rest_of_parts n bs = record { indent = n; text = bs }
@@ -127,8 +127,8 @@ module _ (s t : LineState) (a : Alike s t) where
       ∙ ap (λ p. bytes_below s.phase (unscanned t) (s.phase + n - p)) a.pending
       ∙ passed_plain (unscanned t) s.phase t.phase n t.pending none
 
-  further_text : (m n : ℕ) → m ≡ n → drop (s.place + m) s.bytes ≡ drop (t.place + n) t.bytes
-  further_text m n same = sym (drop-drop m s.place s.bytes) ∙ ap (drop m) a.text ∙ ap (λ k. drop k (unscanned t)) same ∙ drop-drop n t.place t.bytes
+  further_text : (m n : ℕ) → m ≡ n → drop (s.offset + m) s.bytes ≡ drop (t.offset + n) t.bytes
+  further_text m n same = sym (drop-drop m s.offset s.bytes) ∙ ap (drop m) a.text ∙ ap (λ k. drop k (unscanned t)) same ∙ drop-drop n t.offset t.bytes
 
   abbrev column_at : LineState → ℕ → ℕ
   column_at z m = column_past z.phase (take m (unscanned z))
@@ -148,11 +148,11 @@ module _ (s t : LineState) (a : Alike s t) where
       ∙ omega (arith, here, there, a.pending)
 
   further_columns : (m n : ℕ) → m ≡ n → (s.phase ≡ t.phase) ⊎ (has_no_tab (unscanned t) ≡ true)
-      → (column_at s m % 4 ≡ column_at t n % 4) ⊎ (has_no_tab (drop (t.place + n) t.bytes) ≡ true)
+      → (column_at s m % 4 ≡ column_at t n % 4) ⊎ (has_no_tab (drop (t.offset + n) t.bytes) ≡ true)
   further_columns m n same (inl phase) = inl (ap (λ j. column_at s j % 4) same
       ∙ ap (λ bs. column_past s.phase (take n bs) % 4) a.text
       ∙ ap (λ c. column_past c (take n (unscanned t)) % 4) phase)
-  further_columns m n same (inr none) = inr (no_tab_behind n t none)
+  further_columns m n same (inr none) = inr (no_tab_after n t none)
 
   -- so many columns further, and up to so many of space
   pub further_alike : (n : ℕ) → Alike (columns_further n s) (columns_further n t)
@@ -171,9 +171,9 @@ module _ (s t : LineState) (a : Alike s t) where
   bytes_alike n = record { text = further_text n n refl; pending = a.pending; columns = by a.columns }
     where
       by : (s.phase ≡ t.phase) ⊎ (has_no_tab (unscanned t) ≡ true)
-          → ((s.phase + n) % 4 ≡ (t.phase + n) % 4) ⊎ (has_no_tab (drop (t.place + n) t.bytes) ≡ true)
+          → ((s.phase + n) % 4 ≡ (t.phase + n) % 4) ⊎ (has_no_tab (drop (t.offset + n) t.bytes) ≡ true)
       by (inl phase) = inl (ap (λ c. (c + n) % 4) phase)
-      by (inr none) = inr (no_tab_behind n t none)
+      by (inr none) = inr (no_tab_after n t none)
 
   -- what the line has there
   pub same_rest : rest_at s ≡ rest_at t

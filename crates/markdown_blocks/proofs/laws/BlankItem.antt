@@ -11,21 +11,22 @@ use Rattle.markdown_scanners_tree.specs.scanners.Breaks.{is_thematic_break}
 use Rattle.markdown_scanners_tree.proofs.PrefixLemmas.{both_true, list_all-implies}
 use Rattle.markdown_scanners_tree.proofs.line.ItemSpaces.{or_true}
 use Rattle.markdown_blocks.specs.blank_lines.BlankLines.{is_blank}
-use Rattle.markdown_blocks.specs.containers.Containers.{Rest, asked_first, behind, Opens, rest_at, rest_in, settled_last, without_terms}
+use Rattle.markdown_blocks.specs.containers.Containers.{Between, Rest, asked_first, match_line, Opens, rest_at, rest_in, last_past_first_line, without_terms}
 use Rattle.markdown_blocks.specs.containers.ItemMarkers.{further_spaces}
 use Rattle.markdown_blocks.specs.declared.blocks.BlockKind.{BlockKind}
 use Rattle.markdown_blocks.specs.declared.blocks.BlockKind.TheVariants.{Blank, Paragraph}
 use Rattle.markdown_values.specs.declared.values.extensions.Extensions.{Extensions}
 use Rattle.markdown_blocks.specs.declared.containers.Container.{Container}
-use Rattle.markdown_blocks.specs.blocks.Leaves.{IsBlank, OutOr, OnFirst, IsLeaf}
-use Rattle.markdown_blocks.specs.blocks.Pages.{Piece, lines_in, root, containers_of, open_behind, AreOpened, AreBlocks, IsTerm}
+use Rattle.markdown_blocks.specs.blocks.Leaves.{IsBlank, OutOr, OnFirst, IsLeaf, IsLeafAfter}
+use Rattle.markdown_blocks.specs.blocks.Pages.{Piece, lines_in, root, containers_of, opened_by, AreOpened, AreBlocks, IsTerm, is_paragraph_kind}
 use Rattle.markdown_blocks.specs.laws.Held.{has_no_tab, IsHeldIn}
 use Rattle.markdown_blocks.specs.laws.Items.{Lead, IsLead, width_of, item_by, begun_by, IsItemLine, IsMarkerAlone, IsIndentedLine, IsLessIndented}
 use Rattle.markdown_blocks.specs.laws.Items.{AreInBlankItem}
+use Rattle.markdown_blocks.proofs.blocks.AfterLemmas.{blank_kind}
 use Rattle.markdown_blocks.proofs.laws.AlikeLemmas.{same_rest}
-use Rattle.markdown_blocks.proofs.laws.HeldLaw.{Begins, between, first_opened, next_blocks, opened}
+use Rattle.markdown_blocks.proofs.laws.HeldLaw.{Begins, between, first_opened, never, next_blocks, no_header, opened}
 use Rattle.markdown_blocks.proofs.laws.ItemPlaces.{item_begins, item_goes_on, item_stays_out, begun_same, still_text}
-use Rattle.markdown_blocks.proofs.laws.MarkerPlaces.{behind_marker, at_tail, begun_there}
+use Rattle.markdown_blocks.proofs.laws.MarkerPlaces.{after_marker, at_tail, begun_there}
 use Rattle.markdown_blocks.proofs.laws.Places.{IsAt, at_space, alike_at, not_true}
 
 -- nothing but a line ending
@@ -53,7 +54,7 @@ empty_line (b ∷ bs) all =
 -- the first line
 module _ (lead : Lead) (is : IsLead lead) (one : lead.gap ≡ 1) (line changed : List ℕ) (i : IsMarkerAlone lead line changed) where
   abbrev marked : LineState
-  marked = behind_marker lead is changed line i.parts
+  marked = after_marker lead is changed line i.parts
 
   abbrev after : LineState
   after = after_space 1 marked
@@ -103,7 +104,7 @@ module _ (asked : Extensions) (lead : Lead) where
   Text line = IsTrue (not (is_blank line))
 
   -- after the first line
-  same_settled : (n : ℕ) → settled_last (take n (item_by lead ∷ [])) ≡ settled_last (take n (begun_by lead ∷ []))
+  same_settled : (n : ℕ) → last_past_first_line (take n (item_by lead ∷ [])) ≡ last_past_first_line (take n (begun_by lead ∷ []))
   same_settled zero = refl
   same_settled (suc zero) = refl
   same_settled (suc (suc n)) = refl
@@ -114,26 +115,39 @@ module _ (asked : Extensions) (lead : Lead) where
   same_asked term (suc (suc n)) = refl
 
   begun_opened : (term : Bool) (line : List ℕ) (kept begun : List Container) (rest : Rest) → is_blank line ≡ false
-      → AreOpened (between asked (item_by lead ∷ []) term) line kept begun rest → AreOpened (between asked (begun_by lead ∷ []) term) line kept begun rest
+      → AreOpened (between asked (item_by lead ∷ []) term false) false line kept begun rest
+      → AreOpened (between asked (begun_by lead ∷ []) term false) false line kept begun rest
   begun_opened term line kept begun rest text o =
       let same = begun_same lead [] line text in
       record {
-        goes_on = o.goes_on ∙ ap (λ b. settled_last (take b.kept (item_by lead ∷ []))) (sym same)
-            ∙ same_settled (behind (begun_by lead ∷ []) line).kept;
-        place = o.place;
-        begins = subst (λ x. Opens x (behind (begun_by lead ∷ []) line).state begun o.place) (same_asked term (behind (begun_by lead ∷ []) line).kept)
-            (subst (λ b. Opens (asked_first asked term (drop b.kept (item_by lead ∷ []))) b.state begun o.place) (sym same) o.begins);
+        goes_on = o.goes_on ∙ ap (λ b. last_past_first_line (take b.kept (item_by lead ∷ []))) (sym same)
+            ∙ same_settled (match_line (begun_by lead ∷ []) line).kept;
+        position = o.position;
+        begins = subst (λ x. Opens x (match_line (begun_by lead ∷ []) line).state begun o.position) (same_asked term (match_line (begun_by lead ∷ []) line).kept)
+            (subst (λ b. Opens (asked_first asked term (drop b.kept (item_by lead ∷ []))) b.state begun o.position) (sym same) o.begins);
         is_rest = o.is_rest;
       }
 
   begun_blocks : (term : Bool) (pieces others : List Piece) → AllZip IsNext pieces others → OnFirst Text (lines_in pieces)
-      → AreBlocks (between asked (item_by lead ∷ []) term) others [] → AreBlocks (between asked (begun_by lead ∷ []) term) others []
+      → AreBlocks (between asked (item_by lead ∷ []) term false) others [] → AreBlocks (between asked (begun_by lead ∷ []) term false) others []
   begun_blocks term [] [] z text h = tt
   begun_blocks term [] (q ∷ others) z text h = absurd z
   begun_blocks term (p ∷ pieces) [] z text h = absurd z
   begun_blocks term (p ∷ pieces) (q ∷ others) z text h =
       let full = still_text lead p.first q.first (not_true (is_blank p.first) text) z.0.first in
-      (record { opened = begun_opened term q.first q.kept q.begun q.words full h.0.opened; leaf = h.0.leaf; is_term = h.0.is_term }, h.1)
+      let here : Between = between asked (item_by lead ∷ []) term false in
+      let there : Between = between asked (begun_by lead ∷ []) term false in
+      let plain = no_header here q (lines_in others ++ []) refl h.0 in
+      let opened = begun_opened term q.first q.kept q.begun q.words full
+      (subst (λ header. AreOpened here header q.first q.kept q.begun q.words) plain h.0.opened) in (
+        record {
+          is_header = never there q (lines_in others ++ []) refl plain;
+          opened = subst (λ header. AreOpened there header q.first q.kept q.begun q.words) (sym plain) opened;
+          leaf = h.0.leaf;
+          is_term = h.0.is_term;
+        },
+        h.1,
+      )
 
   -- the blank line ends before text
   abbrev Ends : List Container → List ℕ → Type 0
@@ -145,7 +159,7 @@ module _ (asked : Extensions) (lead : Lead) where
   ends_there line changed text i (inr here) =
       let on = item_goes_on lead line changed i [] in
       let same = begun_same lead [] changed (still_text lead line changed text i) in
-      let kept : (behind (begun_by lead ∷ []) changed).kept ≡ 1 = ap (λ b. b.kept) same ∙ on.0 in
+      let kept : (match_line (begun_by lead ∷ []) changed).kept ≡ 1 = ap (λ b. b.kept) same ∙ on.0 in
       let rest : rest_in [] line ≡ rest_in (item_by lead ∷ []) changed = same_rest _ _ on.1 in
       let rest' : rest_in [] line ≡ rest_in (begun_by lead ∷ []) changed = rest ∙ ap (λ b. rest_at b.state) (sym same) in
       inr (kept, subst (λ (r : Rest). ¬ IsBlank r) rest' here.1)
@@ -176,10 +190,12 @@ blank_item_blocks asked lead is [] others z h = absurd z
 blank_item_blocks asked lead is (p ∷ pieces) [] z h = absurd z
 blank_item_blocks asked lead is (p ∷ pieces) (q ∷ others) (one, single, i, z) h =
     let w = width_of lead in
-    let outside : containers_of p ≡ [] = ap (λ cs. cs ++ p.begun) h.0.opened.goes_on ∙ single.outside in
+    let plain = no_header (root asked) p (lines_in pieces ++ []) refl h.0 in
+    let opened_p = subst (λ header. AreOpened (root asked) header p.first p.kept p.begun p.words) plain h.0.opened in
+    let outside : containers_of p ≡ [] = ap (λ cs. cs ++ p.begun) opened_p.goes_on ∙ single.outside in
     let leaf : IsLeaf (opened asked []) Blank p.words p.later (lines_in pieces ++ []) =
-    subst (λ k. IsLeaf (opened asked []) k p.words p.later (lines_in pieces ++ [])) single.kind
-    (subst (λ cs. IsLeaf (opened asked cs) p.kind p.words p.later (lines_in pieces ++ [])) outside h.0.leaf) in
+    subst (λ cs. IsLeaf (opened asked cs) Blank p.words p.later (lines_in pieces ++ [])) outside
+    (blank_kind p.header (opened asked (containers_of p)) p.kind p.words p.later (lines_in pieces ++ []) single.kind h.0.leaf).1 in
     let there : begun_by lead ∷ [] ≡ containers_of q =
     ap (λ cs. begun_by lead ∷ cs) (sym single.outside) ∙ ap (λ cs. cs ++ begun_by lead ∷ p.begun) (sym i.kept_are)
     ∙ ap (λ cs. q.kept ++ cs) (sym i.begun_are) in
@@ -188,19 +204,26 @@ blank_item_blocks asked lead is (p ∷ pieces) (q ∷ others) (one, single, i, z
     let held : IsLeaf (opened asked (begun_by lead ∷ [])) Blank p.words [] (lines_in others ++ []) =
     blank_leaf asked lead pieces others p.words p.later z single.text_follows leaf single.alone in
     let term = p.term || false in
-    let next : AreBlocks (between asked (item_by lead ∷ []) term) others [] =
+    let here : AreBlocks (between asked [] term false) pieces [] =
+    subst (λ k. AreBlocks (between asked [] term (is_paragraph_kind k)) pieces []) single.kind
+    (subst (λ cs. AreBlocks (between asked cs term (is_paragraph_kind p.kind)) pieces []) outside h.1) in
+    let next : AreBlocks (between asked (item_by lead ∷ []) term false) others [] =
     next_blocks asked (item_by lead) (IsItemLine lead) (IsIndentedLine w) (IsLessIndented asked w) refl
-    (λ line changed i. item_begins lead is line changed i (without_terms asked)) (item_goes_on lead) (item_stays_out lead asked) [] term pieces others z
-    (subst (λ cs. AreBlocks (between asked cs term) pieces []) outside h.1) in
-    let between_is : between asked (begun_by lead ∷ []) term ≡ open_behind (root asked) q =
-    ap (λ cs. between asked cs term) there ∙ ap (λ t. between asked (containers_of q) (t || false)) (sym i.term) in (
+    (λ line changed i. item_begins lead is line changed i (without_terms asked)) (item_goes_on lead) (item_stays_out lead asked) [] term false pieces others z
+    here in
+    let between_is : between asked (begun_by lead ∷ []) term false ≡ opened_by (root asked) q =
+    ap (λ cs. between asked cs term false) there ∙ ap (λ t. between asked (containers_of q) (t || false) false) (sym i.term)
+    ∙ ap (λ k. between asked (containers_of q) (q.term || false) (is_paragraph_kind k)) kind in (
       record {
-        opened = first_opened asked (begun_by lead) (IsMarkerAlone lead) (IsIndentedLine w) (IsLessIndented asked w) p q
-            (blank_begins lead is one p.first q.first i.first (without_terms asked)) i h.0.opened;
-        leaf = subst (λ cs. IsLeaf (opened asked cs) q.kind q.words q.later (lines_in others ++ [])) there
+        is_header = never (root asked) q (lines_in others ++ []) refl (i.header ∙ plain);
+        opened = subst (λ header. AreOpened (root asked) header q.first q.kept q.begun q.words) (sym (i.header ∙ plain))
+            (first_opened asked (begun_by lead) (IsMarkerAlone lead) (IsIndentedLine w) (IsLessIndented asked w) p q
+            (blank_begins lead is one p.first q.first i.first (without_terms asked)) i opened_p);
+        leaf = subst (λ header. IsLeafAfter header (opened asked (containers_of q)) q.kind q.words q.later (lines_in others ++ [])) (sym (i.header ∙ plain))
+            (subst (λ cs. IsLeaf (opened asked cs) q.kind q.words q.later (lines_in others ++ [])) there
             (subst (λ k. IsLeaf (opened asked (begun_by lead ∷ [])) k q.words q.later (lines_in others ++ [])) kind
             (subst (λ ls. IsLeaf (opened asked (begun_by lead ∷ [])) Blank q.words ls (lines_in others ++ [])) none
-            (subst (λ r. IsLeaf (opened asked (begun_by lead ∷ [])) Blank r [] (lines_in others ++ [])) (sym i.words) held)));
+            (subst (λ r. IsLeaf (opened asked (begun_by lead ∷ [])) Blank r [] (lines_in others ++ [])) (sym i.words) held))));
         is_term = (
           λ t. no_term p.kind _ single.kind (h.0.is_term.0 (sym i.term ∙ t)),
           λ given. no_term q.kind _ (sym kind) given,

@@ -5,7 +5,7 @@ use Rattle.std.specs.Prelude.{◌≢◌, ⊤}
 use Rattle.markdown_scanners_tree.specs.line.State.{LineState}
 use Rattle.markdown_blocks.specs.byte_order_mark.ByteOrderMark.{text_start}
 use Rattle.markdown_blocks.specs.blocks.Pages.{Piece}
-use Rattle.markdown_blocks.specs.containers.Containers.{after_marker, behind}
+use Rattle.markdown_blocks.specs.containers.Containers.{after_marker, match_line}
 use Rattle.markdown_blocks.specs.declared.blocks.BlockKind.{BlockKind}
 use Rattle.markdown_values.specs.declared.values.extensions.Extensions.{Extensions}
 use Rattle.markdown_blocks.specs.declared.containers.Container.{Container}
@@ -18,7 +18,7 @@ use Rattle.markdown_blocks.proofs.lists.PageLemmas.{regroup}
 -- no container ends directly after it has begun, nor at the front where one has just begun
 abbrev AreFilled : Bool → List Event → Type 0
 AreFilled fresh [] = ⊤
-AreFilled fresh (starts container place ∷ later) = AreFilled true later
+AreFilled fresh (starts container offset ∷ later) = AreFilled true later
 AreFilled fresh (leaf block ∷ later) = AreFilled false later
 AreFilled fresh (ends ∷ later) = (fresh ≡ false) × AreFilled false later
 
@@ -45,7 +45,7 @@ pieces_filled : (pieces : List Piece) (outer : List Container) (line start : ℕ
 pieces_filled [] outer line start events rest are filled = subst (λ (es : List Event). AreFilled false (es ++ rest)) (sym are) filled
 pieces_filled (piece ∷ later) outer line start events rest (leaves, more, are, is, after) filled =
     let gone = replicate (length outer - length piece.kept) ends in
-    let s = (behind outer piece.first).state in
+    let s = (match_line outer piece.first).state in
     let next = pieces_filled later (piece.kept ++ piece.begun) _ _ more rest after filled in
     subst (λ (es : List Event). AreFilled false (es ++ rest)) (sym is)
     (subst (AreFilled false) (sym (regroup gone (started start s piece.begun) (map leaf leaves) more rest))
@@ -57,7 +57,7 @@ nodes_filled : (nodes : Nodes) (fresh : Bool) (rest : List Event) → AreFilled 
     → HoldSome nodes × ((then : Bool) × AreFilled then rest)
 nodes_filled nothing fresh rest filled = (tt, (fresh, filled))
 nodes_filled (leaf_then block later) fresh rest filled = nodes_filled later false rest filled
-nodes_filled (container_then container place inner later) fresh rest filled =
+nodes_filled (container_then container offset inner later) fresh rest filled =
     let inside = subst (AreFilled true) (append_assoc (flatten inner) (ends ∷ flatten later) rest) filled in
     let held = nodes_filled inner true (ends ∷ (flatten later ++ rest)) inside in
     let more = nodes_filled later false rest held.1.1.1 in

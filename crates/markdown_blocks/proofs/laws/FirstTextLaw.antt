@@ -5,17 +5,17 @@ use Rattle.std.specs.List.{concat, prefix_len}
 use Rattle.markdown_scanners_tree.specs.Bytes.{is_space_or_tab}
 use Rattle.markdown_scanners_tree.specs.line.State.{LineState, space_within}
 use Rattle.markdown_blocks.specs.byte_order_mark.ByteOrderMark.{text_start}
-use Rattle.markdown_blocks.specs.blocks.Leaves.{IsLeaf}
-use Rattle.markdown_blocks.specs.blocks.Pages.{AreBlocks, IsPiece, Piece, is_blank_kind, open_behind, outer_of, root}
-use Rattle.markdown_blocks.specs.containers.Containers.{Between, Rest, after_marker, behind}
+use Rattle.markdown_blocks.specs.blocks.Pages.{AreBlocks, IsPiece, Piece, is_blank_kind, opened_by, outer_of, root}
+use Rattle.markdown_blocks.specs.containers.Containers.{Between, Rest, after_marker, match_line}
 use Rattle.markdown_blocks.specs.declared.blocks.BlockKind.{BlockKind}
 use Rattle.markdown_blocks.specs.declared.blocks.BlockKind.TheVariants.{Paragraph}
 use Rattle.markdown_values.specs.declared.values.extensions.Extensions.{Extensions}
 use Rattle.markdown_blocks.specs.declared.containers.Container.{Container}
 use Rattle.markdown_blocks.specs.events.Events.{AreEvents, AreLeaves, Event, IsEventsOf, LeafBlock, Part, ends, leaf, leaf_of, open_after, part_of}
 use Rattle.markdown_blocks.specs.events.Events.{piece_content, started}
-use Rattle.markdown_blocks.specs.first_blocks.Waiting.{waiting_behind}
+use Rattle.markdown_blocks.specs.first_blocks.Waiting.{waiting_next}
 use Rattle.markdown_blocks.specs.laws.FirstTexts.{BeginsPlain, FirstsBeginPlain}
+use Rattle.markdown_blocks.proofs.blocks.AfterLemmas.{paragraph_leaf}
 use Rattle.markdown_blocks.proofs.content.PlainFront.{plain_front}
 use Rattle.markdown_blocks.proofs.lists.PageLemmas.{regroup}
 
@@ -36,7 +36,7 @@ started_plain : (start : ℕ) (s : LineState) (containers : List Container) (res
 started_plain start s [] rest plain waiting = plain waiting
 started_plain start s (c ∷ inner) rest plain waiting = started_plain start (after_marker s) inner rest plain (Some c)
 
-none_waits : (block : LeafBlock) → waiting_behind None (leaf block) ≡ None
+none_waits : (block : LeafBlock) → waiting_next None (leaf block) ≡ None
 none_waits block = by (is_blank_kind block.kind)
   where
     by : (k : Bool) → ◌≡◌ {A = Option Container} (if k then None else None) None
@@ -64,20 +64,20 @@ leaves_plain outer kind (block ∷ more) part content rest (some, inl (definitio
 leaves_plain outer kind (block ∷ more) part content rest (some, inr (none, only, last)) own plain waiting =
     subst (λ b. FirstsBeginPlain waiting (leaf b ∷ map leaf more ++ rest)) (sym only) (
       begins_so waiting (leaf_of kind part) own,
-      subst (λ (m : List LeafBlock). FirstsBeginPlain (waiting_behind waiting (leaf (leaf_of kind part))) (map leaf m ++ rest)) (sym last)
-          (plain (waiting_behind waiting (leaf (leaf_of kind part)))),
+      subst (λ (m : List LeafBlock). FirstsBeginPlain (waiting_next waiting (leaf (leaf_of kind part))) (map leaf m ++ rest)) (sym last)
+          (plain (waiting_next waiting (leaf (leaf_of kind part)))),
     )
 
 -- the text of a paragraph
 paragraph_plain : (before : Between) (piece : Piece) (rest : List (List ℕ)) → IsPiece before piece rest → piece.kind ≡ Paragraph
     → prefix_len is_space_or_tab piece.words.text ≡ 0
 paragraph_plain before piece rest is paragraph =
-    let leaf_is = subst (λ k. IsLeaf (outer_of before piece) k piece.words piece.later rest) paragraph is.leaf in
+    let leaf_is = (paragraph_leaf piece.header (outer_of before piece) piece.kind piece.words piece.later rest paragraph is.leaf).1 in
     let words = is.opened.is_rest in
-    let few : space_within 4 is.opened.place < 4 = fewer (ap (λ (w : Rest). w.indent) words) leaf_is.0.1 in
-    ap (λ (w : Rest). prefix_len is_space_or_tab w.text) words ∙ plain_front 4 is.opened.place few
+    let few : space_within 4 is.opened.position < 4 = fewer (ap (λ (w : Rest). w.indent) words) leaf_is.0.1 in
+    ap (λ (w : Rest). prefix_len is_space_or_tab w.text) words ∙ plain_front 4 is.opened.position few
   where
-    fewer : piece.words.indent ≡ space_within 4 is.opened.place → ¬ (piece.words.indent ≡ 4) → space_within 4 is.opened.place < 4
+    fewer : piece.words.indent ≡ space_within 4 is.opened.position → ¬ (piece.words.indent ≡ 4) → space_within 4 is.opened.position < 4
     fewer same other = omega (arith, same, other)
 
 pieces_plain : (pieces : List Piece) (before : Between) (line start : ℕ) (events rest : List Event) → AreBlocks before pieces []
@@ -85,9 +85,9 @@ pieces_plain : (pieces : List Piece) (before : Between) (line start : ℕ) (even
 pieces_plain [] before line start events rest each are plain waiting =
     subst (λ (es : List Event). FirstsBeginPlain waiting (es ++ rest)) (sym are) (plain waiting)
 pieces_plain (piece ∷ later) before line start events rest each (leaves, more, are, is, after) plain waiting =
-    let s = (behind before.containers piece.first).state in
+    let s = (match_line before.containers piece.first).state in
     let gone = replicate (length before.containers - length piece.kept) ends in
-    let next = pieces_plain later (open_behind before piece) _ (start + length (concat (piece.first ∷ piece.later))) more rest each.1 after plain in
+    let next = pieces_plain later (opened_by before piece) _ (start + length (concat (piece.first ∷ piece.later))) more rest each.1 after plain in
     subst (λ (es : List Event). FirstsBeginPlain waiting (es ++ rest)) (sym is)
     (subst (FirstsBeginPlain waiting) (sym (regroup gone (started start s piece.begun) (map leaf leaves) more rest))
     (ends_plain (length before.containers - length piece.kept) _

@@ -19,15 +19,15 @@ use Rattle.markdown_blocks.specs.declared.containers.Container.TheVariants.{Quot
 use Rattle.markdown_blocks.proofs.containers.ContainerLemmas.{definition_marked}
 use Rattle.markdown_blocks.proofs.content.ReachedPlaces.{marker_low, near}
 
--- The place stands at so many bytes or further; and further, if a column of a tab before it is pending.
+-- The offset stands at so many bytes or further; and further, if a column of a tab before it is pending.
 abbrev pub IsFurther : ℕ → LineState → Type 0
-IsFurther low s = (low ≤ s.place) × (0 < s.pending → low < s.place)
+IsFurther low s = (low ≤ s.offset) × (0 < s.pending → low < s.offset)
 
 module _ (low : ℕ) (s : LineState) (f : IsFurther low s) where
   pub further_space : (n : ℕ) → IsFurther low (after_space n s)
   further_space n = (omega (arith, f.0), by (bytes_for (space_within n s) s) refl)
     where
-      by : (m : ℕ) → m ≡ bytes_for (space_within n s) s → 0 < (after_space n s).pending → low < (after_space n s).place
+      by : (m : ℕ) → m ≡ bytes_for (space_within n s) s → 0 < (after_space n s).pending → low < (after_space n s).offset
       by zero none some =
           let left : (after_space n s).pending ≡ s.pending + s.phase - (s.phase + space_within n s) =
           rw (← none) refl in
@@ -38,47 +38,47 @@ module _ (low : ℕ) (s : LineState) (f : IsFurther low s) where
   further_text = (omega (arith, f.0), λ some. absurd (omega (arith, some)))
 
 -- a marker of a byte or more is passed
-marker_further : (n : ℕ) (t : LineState) → t.pending ≡ 0 → 1 ≤ n → IsFurther (suc t.place) (bytes_further n t)
+marker_further : (n : ℕ) (t : LineState) → t.pending ≡ 0 → 1 ≤ n → IsFurther (suc t.offset) (bytes_further n t)
 marker_further n t spent some = (omega (arith, some), λ pending. absurd (omega (arith, spent, pending)))
 
 -- ---- the markers of containers
 
-abbrev place_in : {A : Type 0} → LineState → Option (A × LineState) → LineState
-place_in s None = s
-place_in s (Some r) = r.1
+abbrev offset_in : {A : Type 0} → LineState → Option (A × LineState) → LineState
+offset_in s None = s
+offset_in s (Some r) = r.1
 
 module _ (t : LineState) (spent : t.pending ≡ 0) (next : LineState) (c : Container) where
   abbrev After : LineState → Type 0
-  After s = IsFurther (suc t.place) s
+  After s = IsFurther (suc t.offset) s
 
   quote_further : ◌≡◌ {A = Option (Container × LineState)} (Some (Quote, after_space 1 (bytes_further 1 t))) (Some (c, next)) → After next
   quote_further is =
-      subst After (ap (place_in t) is) (further_space (suc t.place) (bytes_further 1 t) (marker_further 1 t spent (omega arith)) 1)
+      subst After (ap (offset_in t) is) (further_space (suc t.offset) (bytes_further 1 t) (marker_further 1 t spent (omega arith)) 1)
 
   item_further : (indent : ℕ) (o : Option Marker) → list_marker (unscanned t) ≡ o → item_of (item_outcome_by indent t o) ≡ Some (c, next)
       → After next
   item_further indent None none is = cc
   item_further indent (Some m) some is =
       let marked = bytes_further m.width t in
-      let one = further_space (suc t.place) marked (marker_further m.width t spent (marker_low (unscanned t) m some).0) 1 in
-      let all = further_space (suc t.place) (after_space 1 marked) one (further_spaces (after_space 1 marked)) in
+      let one = further_space (suc t.offset) marked (marker_further m.width t spent (marker_low (unscanned t) m some).0) 1 in
+      let all = further_space (suc t.offset) (after_space 1 marked) one (further_spaces (after_space 1 marked)) in
       bool_cases (space_or_end_follows marked)
-      (λ follows. subst After (ap (place_in t) (rw follows at is)) all)
+      (λ follows. subst After (ap (offset_in t) (rw follows at is)) all)
       (λ bare. let none : ◌≡◌ {A = Option (Container × LineState)} None (Some (c, next)) = rw bare at is in cc)
 
   footnote_further : (label : Option (List ℕ)) → footnote_by t label ≡ Some (c, next) → After next
   footnote_further None is = cc
   footnote_further (Some label) is =
       let after = bytes_further (length label + 4) t in
-      subst After (ap (place_in t) is)
-      (further_space (suc t.place) after (marker_further (length label + 4) t spent (omega arith)) (leading_spaces (rest_of after)))
+      subst After (ap (offset_in t) is)
+      (further_space (suc t.offset) after (marker_further (length label + 4) t spent (omega arith)) (leading_spaces (rest_of after)))
 
   definition_further : (indent : ℕ) → term_definition_by (definition_outcome indent t) ≡ Some (c, next) → After next
   definition_further indent is =
       let marked = definition_marked indent t (c, next) is in
       let after = bytes_further 1 t in
-      subst After (ap (place_in t) (rw marked at is))
-      (further_space (suc t.place) after (marker_further 1 t spent (omega arith)) (definition_spaces (leading_spaces (rest_of after))))
+      subst After (ap (offset_in t) (rw marked at is))
+      (further_space (suc t.offset) after (marker_further 1 t spent (omega arith)) (definition_spaces (leading_spaces (rest_of after))))
 
   extension_further : (indent : ℕ) (footnote : Option (Container × LineState)) → footnote_of all_containers t ≡ footnote
       → either_begun footnote (term_definition_of all_containers indent t) ≡ Some (c, next) → After next
@@ -92,7 +92,7 @@ module _ (t : LineState) (spent : t.pending ≡ 0) (next : LineState) (c : Conta
 
 -- what stands after a container's marker stands after its first byte
 pub begun_further : (s next : LineState) (c : Container) → begun_at all_containers s ≡ Some (c, next)
-    → IsFurther (suc (after_space 4 s).place) next
+    → IsFurther (suc (after_space 4 s).offset) next
 begun_further s next c is =
     let t = after_space 4 s in
     let n = space_within 4 s in

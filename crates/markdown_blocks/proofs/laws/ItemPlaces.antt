@@ -1,4 +1,4 @@
--- The places of a line after a list marker and spaces, and of one that is indented as its text.
+-- The offsets of a line after a list marker and spaces, and of one that is indented as its text.
 use Rattle.std.proofs.Common.{ℕ, suc, true, false, not, ◌==◌, ◌+◌, ◌-◌, ◌≡◌, ◌≤◌, ◌<◌, ◌⊎◌, List, ◌∷◌, ◌++◌, length}
 use Rattle.std.proofs.Common.{Some, None, refl, sym, ap, ◌∙◌, subst, arith, inl, inr, eq-eqb}
 use Rattle.std.specs.Prelude.{nat_lt}
@@ -12,7 +12,7 @@ use Rattle.markdown_scanners_tree.specs.line.State.{LineState, unscanned, rest_o
 use Rattle.markdown_scanners_tree.specs.scanners.Breaks.{is_thematic_break}
 use Rattle.markdown_scanners_tree.proofs.line.SpaceLemmas.{none_at_front}
 use Rattle.markdown_blocks.specs.blank_lines.BlankLines.{is_blank}
-use Rattle.markdown_blocks.specs.containers.Containers.{within, behind, rest_at}
+use Rattle.markdown_blocks.specs.containers.Containers.{within, match_line, rest_at}
 use Rattle.markdown_blocks.specs.containers.ItemMarkers.{further_spaces}
 use Rattle.markdown_values.specs.declared.values.extensions.Extensions.{Extensions}
 use Rattle.markdown_blocks.specs.declared.containers.Container.{Container}
@@ -23,7 +23,7 @@ use Rattle.markdown_blocks.proofs.containers.ContainerLemmas.{step_on}
 use Rattle.markdown_blocks.proofs.laws.AlikeLemmas.{Alike, same_left}
 use Rattle.markdown_blocks.proofs.laws.SameContainers.{same_on}
 use Rattle.markdown_blocks.proofs.laws.HeldLaw.{Begins, GoesOn, StaysOut}
-use Rattle.markdown_blocks.proofs.laws.MarkerPlaces.{behind_marker, at_tail, begun_there}
+use Rattle.markdown_blocks.proofs.laws.MarkerPlaces.{after_marker, at_tail, begun_there}
 use Rattle.markdown_blocks.proofs.laws.Places.{spaces, IsAt, at_start, at_space, alike_at, blank_spaces}
 use Rattle.markdown_blocks.proofs.laws.Places.{found_there, leading_more, left_there, not_true}
 
@@ -38,7 +38,7 @@ module _ (lead : Lead) (is : IsLead lead) (line changed : List ℕ) (i : IsItemL
   g = lead.gap - 1
 
   abbrev marked : LineState
-  marked = behind_marker lead is changed (spaces lead.gap ++ line) i.parts
+  marked = after_marker lead is changed (spaces lead.gap ++ line) i.parts
 
   abbrev after : LineState
   after = after_space 1 marked
@@ -93,7 +93,7 @@ module _ (lead : Lead) (is : IsLead lead) (line changed : List ℕ) (i : IsItemL
       many_spaces (leading_spaces (rest_of after)) many ∙ sym none
 
   spaces_are : marker_spaces (leading_spaces (rest_of after)) ≡ g
-  spaces_are = spaces_by i.behind
+  spaces_are = spaces_by i.after
 
   further_are : further_spaces after ≡ g
   further_are =
@@ -126,20 +126,20 @@ module _ (lead : Lead) where
       let test : (space_within width (start_of changed) == width) ≡ true = eq-eqb (space_within width (start_of changed)) width found in
       let inside : within (item_by lead) (is_blank changed) (start_of changed) ≡ Some (is_blank line, next) =
       ap (λ b. within (item_by lead) b (start_of changed)) blank ∙ rw (test, text) refl in
-      let there : behind (item_by lead ∷ outer) changed ≡ step_on outer (start_of changed) (Some (is_blank line, next)) =
+      let there : match_line (item_by lead ∷ outer) changed ≡ step_on outer (start_of changed) (Some (is_blank line, next)) =
       ap (step_on outer (start_of changed)) inside in
       let same = same_on outer (is_blank line) (start_of line) next alike in
-      (ap (λ b. b.kept) there ∙ ap suc (sym same.0), subst (λ b. Alike (behind outer line).state b.state) (sym there) same.1)
+      (ap (λ b. b.kept) there ∙ ap suc (sym same.0), subst (λ b. Alike (match_line outer line).state b.state) (sym there) same.1)
 
   blank_on : (line : List ℕ) → is_blank line ≡ true → GoesOn (item_by lead) line line
   blank_on line blank outer =
       let inside : within (item_by lead) (is_blank line) (start_of line) ≡ Some (is_blank line, start_of line) =
       ap (λ b. within (item_by lead) b (start_of line)) blank ∙ rw blank refl in
-      let there : behind (item_by lead ∷ outer) line ≡ step_on outer (start_of line) (Some (is_blank line, start_of line)) =
+      let there : match_line (item_by lead ∷ outer) line ≡ step_on outer (start_of line) (Some (is_blank line, start_of line)) =
       ap (step_on outer (start_of line)) inside in
       let alike : Alike (start_of line) (start_of line) = record { text = refl; pending = refl; columns = inl refl } in
       let same = same_on outer (is_blank line) (start_of line) (start_of line) alike in
-      (ap (λ b. b.kept) there ∙ ap suc (sym same.0), subst (λ b. Alike (behind outer line).state b.state) (sym there) same.1)
+      (ap (λ b. b.kept) there ∙ ap suc (sym same.0), subst (λ b. Alike (match_line outer line).state b.state) (sym there) same.1)
 
   pub item_goes_on : (line changed : List ℕ) → IsIndentedLine (width_of lead) line changed → GoesOn (item_by lead) line changed
   item_goes_on line changed (inl h) = indented_on line changed (not_true (is_blank line) h.0) h.1 h.2
@@ -156,12 +156,12 @@ module _ (lead : Lead) where
       let less : (space_within width (start_of bare) == width) ≡ false = (let fewer = q.fewer in grind (arith, nat_tests)) in
       let none : within (item_by lead) (is_blank bare) (start_of bare) ≡ None =
       ap (λ b. within (item_by lead) b (start_of bare)) blank ∙ rw less refl in
-      let there : behind (item_by lead ∷ outer) bare ≡ record { kept = 0; state = start_of bare } = ap (step_on outer (start_of bare)) none in
+      let there : match_line (item_by lead ∷ outer) bare ≡ record { kept = 0; state = start_of bare } = ap (step_on outer (start_of bare)) none in
       (there, q.goes_on)
 
   -- a line with text stands in the item as in one of which the first line alone is read
   pub begun_same : (outer : List Container) (line : List ℕ) → is_blank line ≡ false
-      → behind (begun_by lead ∷ outer) line ≡ behind (item_by lead ∷ outer) line
+      → match_line (begun_by lead ∷ outer) line ≡ match_line (item_by lead ∷ outer) line
   begun_same outer line text = ap (λ b. step_on outer (start_of line) (within (begun_by lead) b (start_of line))) text
       ∙ sym (ap (λ b. step_on outer (start_of line) (within (item_by lead) b (start_of line))) text)
 

@@ -7,7 +7,7 @@ use Rattle.std.proofs.lemmas.List.Concat.{flat_map-append}
 use Rattle.markdown_values.specs.declared.values.HeadingLevel.{HeadingLevel}
 use Rattle.markdown_scanners_tree.specs.declared.scanners.html_kinds.HtmlBlockKind.{HtmlBlockKind}
 use Rattle.markdown_scanners_tree.specs.scanners.html_kinds.HtmlKinds.{ends_before_blank}
-use Rattle.markdown_blocks.specs.containers.Containers.{Outer, Rest, rest_in, asked_in, begun_at, behind, IsInside, without_terms}
+use Rattle.markdown_blocks.specs.containers.Containers.{OpenContainers, Rest, rest_in, asked_in, begun_at, match_line, IsInside, without_terms}
 use Rattle.markdown_blocks.specs.declared.blocks.BlockKind.{BlockKind}
 use Rattle.markdown_blocks.specs.declared.blocks.BlockKind.TheVariants.{Blank, Break, Heading, Setext, Indented}
 use Rattle.markdown_blocks.specs.declared.blocks.BlockKind.TheVariants.{Fenced, Html, Table, Definition, Paragraph}
@@ -17,33 +17,33 @@ use Rattle.markdown_blocks.specs.blocks.Pages.{IsTerm}
 use Rattle.markdown_blocks.specs.delimiter_rows.DelimiterRows.{IsDelimiter}
 use Rattle.markdown_blocks.specs.blocks.Leaves.{IsBlank, HasIndent, Begins, EndsParagraph, ClosesFence, EndsHtml}
 use Rattle.markdown_blocks.specs.blocks.Leaves.{IsUnderline, Interrupts, IsLazy, In, OutOr, Leaves}
-use Rattle.markdown_blocks.specs.blocks.Leaves.{DefinesTerm, EndsContent, LeavesParagraph, Underlines, IsHead, IsRow}
+use Rattle.markdown_blocks.specs.blocks.Leaves.{EndsContent, LeavesParagraph, Underlines, IsHead, IsRow}
 use Rattle.markdown_blocks.specs.info.Info.{without_front}
 use Rattle.markdown_blocks.specs.definitions.Content.{content_in, content_of, words_in}
 use Rattle.markdown_blocks.specs.definitions.Definitions.{HasText}
-use Rattle.markdown_blocks.specs.blocks.Leaves.{BeginsNoTable, BeginsTable, EndParagraph, IsHeader, NoneBehind, OnFirst, StopsAt, StopsBefore}
-use Rattle.markdown_blocks.specs.blocks.Leaves.{StopsBehind, EndsIndented, NoMoreIndented, LastHasText, EndsAsHtml, IsLeaf}
+use Rattle.markdown_blocks.specs.blocks.Leaves.{BeginsNoTable, BeginTable, EndParagraph, IsLeafAfter, IsTable, LeavesAfter, NoneAfter, OnFirst, StopsAt, StopsBefore}
+use Rattle.markdown_blocks.specs.blocks.Leaves.{StopsAfter, EndsIndented, NoMoreIndented, LastHasText, EndsAsHtml, IsLeaf}
 use Rattle.markdown_blocks.proofs.laws.AlikeLemmas.{Alike, alike_back, same_rest}
 use Rattle.markdown_blocks.proofs.laws.SameContainers.{alike_none, same_begun}
 
 -- what is read of the second line after the other containers is what is read of the first after these
-pub record Moves (outer other : Outer) (line moved : List ℕ) : Type 0 where
+pub record Moves (outer other : OpenContainers) (line moved : List ℕ) : Type 0 where
   pub same : outer.extensions ≡ other.extensions
   pub asked : asked_in outer line ≡ asked_in other moved
   pub inside : IsInside outer.containers line ↔ IsInside other.containers moved
-  pub state : Alike (behind outer.containers line).state (behind other.containers moved).state
+  pub state : Alike (match_line outer.containers line).state (match_line other.containers moved).state
 
-pub moves_back : (outer other : Outer) (line moved : List ℕ) → Moves outer other line moved → Moves other outer moved line
+pub moves_back : (outer other : OpenContainers) (line moved : List ℕ) → Moves outer other line moved → Moves other outer moved line
 moves_back outer other line moved m =
     record { same = sym m.same; asked = sym m.asked; inside = (m.inside.1, m.inside.0); state = alike_back _ _ m.state }
 
 -- what is given of one line
-module _ (outer other : Outer) (line moved : List ℕ) (m : Moves outer other line moved) where
+module _ (outer other : OpenContainers) (line moved : List ℕ) (m : Moves outer other line moved) where
   rest_moves : rest_in outer.containers line ≡ rest_in other.containers moved
   rest_moves = same_rest _ _ m.state
 
-  none_moves_on : (asked : Extensions) → begun_at asked (behind outer.containers line).state ≡ None
-      → begun_at asked (behind other.containers moved).state ≡ None
+  none_moves_on : (asked : Extensions) → begun_at asked (match_line outer.containers line).state ≡ None
+      → begun_at asked (match_line other.containers moved).state ≡ None
   none_moves_on asked = alike_none _ _ (same_begun asked _ _ m.state)
 
   in_moves : (P : Rest → Type 0) → In outer.containers P line → In other.containers P moved
@@ -53,8 +53,8 @@ module _ (outer other : Outer) (line moved : List ℕ) (m : Moves outer other li
   out_moves P (inl out) = inl (λ i. out (m.inside.1 i))
   out_moves P (inr here) = inr (in_moves P here)
 
-  lazy_moves : IsLazy (asked_in outer line) (behind outer.containers line).state → IsLazy (asked_in other moved) (behind other.containers moved).state
-  lazy_moves h = subst (λ x. IsLazy x (behind other.containers moved).state) m.asked (
+  lazy_moves : IsLazy (asked_in outer line) (match_line outer.containers line).state → IsLazy (asked_in other moved) (match_line other.containers moved).state
+  lazy_moves h = subst (λ x. IsLazy x (match_line other.containers moved).state) m.asked (
     none_moves_on (asked_in outer line) h.0,
     subst (λ (r : Rest). ¬ IsBlank r) rest_moves h.1,
     subst (λ (r : Rest). HasIndent r ⊎ (¬ Interrupts (asked_in outer line) r.text)) rest_moves h.2,
@@ -62,52 +62,32 @@ module _ (outer other : Outer) (line moved : List ℕ) (m : Moves outer other li
 
   row_moves : IsRow outer line → IsRow other moved
   row_moves h = (
-    subst (λ x. begun_at (without_terms x) (behind other.containers moved).state ≡ None) m.same (none_moves_on (without_terms outer.extensions) h.0),
+    subst (λ x. begun_at (without_terms x) (match_line other.containers moved).state ≡ None) m.same (none_moves_on (without_terms outer.extensions) h.0),
     in_moves (Begins Paragraph) h.1,
   )
 
-leaves_by : (outer other : Outer) (line moved : List ℕ) → Moves outer other line moved → (P : Rest → Type 0)
+pub leaves_by : (outer other : OpenContainers) (line moved : List ℕ) → Moves outer other line moved → (P : Rest → Type 0)
     → Leaves outer P line → Leaves other P moved
 leaves_by outer other line moved m P (inl h) =
     inl (λ i. h.0 (m.inside.1 i), λ lazy. h.1 (lazy_moves other outer moved line (moves_back outer other line moved m) lazy))
 leaves_by outer other line moved m P (inr h) = inr (in_moves outer other line moved m P h)
 
-leaves_moves : (outer other : Outer) (line moved : List ℕ) → Moves outer other line moved → LeavesParagraph outer line → LeavesParagraph other moved
+leaves_moves : (outer other : OpenContainers) (line moved : List ℕ) → Moves outer other line moved → LeavesParagraph outer line → LeavesParagraph other moved
 leaves_moves outer other line moved m h =
     subst (λ x. Leaves other (EndsParagraph x) moved) m.same (leaves_by outer other line moved m (EndsParagraph outer.extensions) h)
 
-content_leaves : (outer other : Outer) (line moved : List ℕ) → Moves outer other line moved → (content : List ℕ)
+content_leaves : (outer other : OpenContainers) (line moved : List ℕ) → Moves outer other line moved → (content : List ℕ)
     → Leaves outer (EndsContent outer.extensions content) line → Leaves other (EndsContent other.extensions content) moved
 content_leaves outer other line moved m content h =
     subst (λ x. Leaves other (EndsContent x content) moved) m.same (leaves_by outer other line moved m (EndsContent outer.extensions content) h)
 
-head_moves : (outer other : Outer) (line moved : List ℕ) → Moves outer other line moved → (text : List ℕ) (columns : ℕ)
+head_moves : (outer other : OpenContainers) (line moved : List ℕ) → Moves outer other line moved → (text : List ℕ) (columns : ℕ)
     → IsHead outer text columns line → IsHead other text columns moved
 head_moves outer other line moved m text columns h = (
   subst (λ x. x.tables ≡ true) m.same h.0,
   λ leaves. h.1 (leaves_moves other outer moved line (moves_back outer other line moved m) leaves),
   in_moves outer other line moved m (IsDelimiter columns) h.2,
   h.3,
-)
-
--- a table that begins with a line, and with the line that is read as it
-defines_moves : (outer other : Outer) (line moved : List ℕ) → Moves outer other line moved → DefinesTerm other.extensions (rest_in other.containers moved)
-    → DefinesTerm outer.extensions (rest_in outer.containers line)
-defines_moves outer other line moved m h =
-    subst (λ x. DefinesTerm x (rest_in outer.containers line)) (sym m.same)
-    (subst (DefinesTerm other.extensions) (sym (rest_moves outer other line moved m)) h)
-
-header_moves : (outer other : Outer) (line moved : List ℕ) → Moves outer other line moved → IsHeader outer line → IsHeader other moved
-header_moves outer other line moved m (row, defines) =
-    (row_moves outer other line moved m row, λ h. defines (defines_moves outer other line moved m h))
-
-table_begins : (outer other : Outer) (line moved next next' : List ℕ) (lines others : List (List ℕ)) → Moves outer other line moved
-    → Moves outer other next next' → BeginsTable outer (line ∷ next ∷ lines) → BeginsTable other (moved ∷ next' ∷ others)
-table_begins outer other line moved next next' lines others m n (header, columns, head) = (
-  header_moves outer other line moved m header,
-  columns,
-  subst (λ (r : Rest). IsHead other r.text columns next') (rest_moves outer other line moved m)
-      (head_moves outer other next next' n (rest_in outer.containers line).text columns head),
 )
 
 -- the first two of two lists of lines, if either has one
@@ -165,7 +145,7 @@ stops_moves R S P Q from to lines others rest after z two stops = record {
   stopped = first_moves S P Q to rest after two stops.stopped;
 }
 
-module _ (outer other : Outer) where
+module _ (outer other : OpenContainers) where
   -- the lines after a block: none but the first needs to be read as before, where it stands outside
   pub record Follows (rest after : List (List ℕ)) : Type 0 where
     pub first : FirstTwo (Moves outer other) rest after
@@ -175,8 +155,22 @@ module _ (outer other : Outer) where
   abbrev pub LaterMoves : BlockKind → List ℕ → List ℕ → Type 0
   LaterMoves kind line moved =
       Moves outer other line moved
-      ⊎ ((kind ≡ Paragraph) × (¬ IsInside other.containers moved) × IsLazy (asked_in other moved) (behind other.containers moved).state
+      ⊎ ((kind ≡ Paragraph) × (¬ IsInside other.containers moved) × IsLazy (asked_in other moved) (match_line other.containers moved).state
       × (words_in outer.containers line ≡ words_in other.containers moved))
+
+  -- such a line, or one that is read as the other, or not in the containers
+  abbrev pub MovesOrOut : List ℕ → List ℕ → Type 0
+  MovesOrOut line moved = Moves outer other line moved ⊎ (¬ IsInside other.containers moved)
+
+  all_either : (kind : BlockKind) (lines others : List (List ℕ)) → AllZip (LaterMoves kind) lines others → AllZip MovesOrOut lines others
+  all_either kind [] [] z = tt
+  all_either kind [] (moved ∷ others) z = absurd z
+  all_either kind (line ∷ lines) [] z = absurd z
+  all_either kind (line ∷ lines) (moved ∷ others) z = (by z.0, all_either kind lines others z.1)
+    where
+      by : LaterMoves kind line moved → MovesOrOut line moved
+      by (inl m) = inl m
+      by (inr lazy) = inr lazy.1
 
   all_move : (kind : BlockKind) → ¬ (kind ≡ Paragraph) → (lines others : List (List ℕ)) → AllZip (LaterMoves kind) lines others
       → AllZip (Moves outer other) lines others
@@ -206,7 +200,7 @@ module _ (outer other : Outer) where
     out_stops = stops_moves (Moves outer other) (Moves outer other) (OutOr outer.containers P) (OutOr other.containers P) (λ l k m h. out_back l k m P h)
         (λ l k m h. out_moves outer other l k m P h) lines others rest after z two
 
-    out_through : StopsBehind outer.containers (OutOr outer.containers P) lines rest → StopsBehind other.containers (OutOr other.containers P) others after
+    out_through : StopsAfter outer.containers (OutOr outer.containers P) lines rest → StopsAfter other.containers (OutOr other.containers P) others after
     out_through (inl h) =
         let zipped : AllZip (Moves outer other) (h.0 ++ h.1 ∷ []) others = subst (λ ls. AllZip (Moves outer other) ls others) h.2 z in
         let cut = zip_last (Moves outer other) h.0 h.1 others zipped in
@@ -260,8 +254,8 @@ module _ (outer other : Outer) where
     html_moves : EndsAsHtml outer.containers kind first lines rest → EndsAsHtml other.containers kind first others after
     html_moves = match_moves (ends_before_blank kind) (out_stops (EndsHtml kind) lines others rest after z two) by
       where
-        by : (EndsHtml kind first × (lines ≡ [])) ⊎ ((¬ EndsHtml kind first) × StopsBehind outer.containers (OutOr outer.containers (EndsHtml kind)) lines rest)
-            → (EndsHtml kind first × (others ≡ [])) ⊎ ((¬ EndsHtml kind first) × StopsBehind other.containers
+        by : (EndsHtml kind first × (lines ≡ [])) ⊎ ((¬ EndsHtml kind first) × StopsAfter outer.containers (OutOr outer.containers (EndsHtml kind)) lines rest)
+            → (EndsHtml kind first × (others ≡ [])) ⊎ ((¬ EndsHtml kind first) × StopsAfter other.containers
             (OutOr other.containers (EndsHtml kind)) others after)
         by (inl h) = inl (h.0, none_moves (Moves outer other) lines others h.1 z)
         by (inr h) = inr (h.0, out_through (EndsHtml kind) lines others rest after z two h.1)
@@ -314,26 +308,32 @@ module _ (outer other : Outer) where
   back_after kind line moved content (inr lazy) (inl h) = absurd (h.1 lazy.2)
   back_after kind line moved content (inr lazy) (inr h) = absurd (lazy.1 h.0)
 
-  -- a table that begins with a line of either
+  -- a header row of either
   pub table_on : (line moved : List ℕ) (rest after : List (List ℕ)) → Moves outer other line moved → FirstTwo (Moves outer other) rest after
-      → BeginsTable outer (line ∷ rest) → BeginsTable other (moved ∷ after)
+      → BeginTable outer (line ∷ rest) → BeginTable other (moved ∷ after)
   table_on line moved [] after m two table = absurd table
   table_on line moved (next ∷ rest) [] m two table = absurd two
-  table_on line moved (next ∷ rest) (next' ∷ after) m two table = table_begins outer other line moved next next' rest after m two table
+  table_on line moved (next ∷ rest) (next' ∷ after) m two (columns, head) = (
+    columns,
+    subst (λ t. IsHead other t columns next') (words_move Paragraph line moved (inl m))
+        (head_moves outer other next next' two (words_in outer.containers line) columns head),
+  )
 
-  table_back : (kind : BlockKind) (line moved : List ℕ) (rest after : List (List ℕ)) → LaterMoves kind line moved
-      → FirstTwo (LaterMoves kind) rest after → BeginsTable other (moved ∷ after) → BeginsTable outer (line ∷ rest)
+  pub table_back : (kind : BlockKind) (line moved : List ℕ) (rest after : List (List ℕ)) → LaterMoves kind line moved
+      → FirstTwo MovesOrOut rest after → BeginTable other (moved ∷ after) → BeginTable outer (line ∷ rest)
   table_back kind line moved rest [] m two table = absurd table
   table_back kind line moved [] (next' ∷ after) m two table = absurd two
-  table_back kind line moved (next ∷ rest) (next' ∷ after) (inr lazy) two ((row, defines), columns, head) = absurd (lazy.1 row.1.0)
-  table_back kind line moved (next ∷ rest) (next' ∷ after) (inl m) (inr lazy) (header, columns, head) = absurd (lazy.1 head.2.0)
-  table_back kind line moved (next ∷ rest) (next' ∷ after) (inl m) (inl n) table =
-      table_begins other outer moved line next' next after rest (moves_back outer other line moved m) (moves_back outer other next next' n) table
+  table_back kind line moved (next ∷ rest) (next' ∷ after) m (inr out) (columns, head) = absurd (out head.2.0)
+  table_back kind line moved (next ∷ rest) (next' ∷ after) m (inl n) (columns, head) = (
+    columns,
+    subst (λ t. IsHead outer t columns next) (sym (words_move kind line moved m))
+        (head_moves other outer next' next (moves_back outer other next next' n) (words_in other.containers moved) columns head),
+  )
 
   none_after : (kind : BlockKind) (text : List ℕ) (before before' lines others rest after : List (List ℕ))
       → content_of outer.containers text before ≡ content_of other.containers text before' → AllZip (LaterMoves kind) lines others
       → FirstTwo (Moves outer other) rest after
-      → NoneBehind (EndParagraph outer text) before lines rest → NoneBehind (EndParagraph other text) before' others after
+      → NoneAfter (EndParagraph outer text) before lines rest → NoneAfter (EndParagraph other text) before' others after
   none_after kind text before before' [] [] rest after same z two h = tt
   none_after kind text before before' [] (moved ∷ others) rest after same z two h = absurd z
   none_after kind text before before' (line ∷ lines) [] rest after same z two h = absurd z
@@ -348,18 +348,23 @@ module _ (outer other : Outer) where
       stays : ¬ EndParagraph other text before' (moved ∷ (others ++ after))
       stays (inl leaves) = h.0 (inl (subst (λ content. Leaves outer (EndsContent outer.extensions content) line) (sym same)
           (back_after kind line moved (content_of other.containers text before') z.0 leaves)))
-      stays (inr table) = h.0 (inr (table_back kind line moved (lines ++ rest) (others ++ after) z.0
-          (two_moves (Moves outer other) (LaterMoves kind) (λ l k m. inl m) lines others rest after z.1 two) table))
+      stays (inr table) = h.0 (inr (
+        λ leaves. h.0 (inl leaves),
+        table_back kind line moved (lines ++ rest) (others ++ after) z.0
+            (two_moves (Moves outer other) MovesOrOut (λ l k m. inl m) lines others rest after (all_either kind lines others z.1) two) table.1,
+      ))
 
   stops_at : (kind : BlockKind) (text : List ℕ) (lines others rest after : List (List ℕ)) → AllZip (LaterMoves kind) lines others
-      → FirstTwo (Moves outer other) rest after → (BeginsTable outer rest → BeginsTable other after)
+      → FirstTwo (Moves outer other) rest after
+      → (OnFirst (λ line. ¬ LeavesAfter outer text lines line) rest → BeginTable outer rest → BeginTable other after)
       → StopsAt (EndParagraph outer text) lines rest → StopsAt (EndParagraph other text) others after
   stops_at kind text lines others rest after z two table h = record {
     none = none_after kind text [] [] lines others rest after refl z two h.none;
     stopped = by rest after two table h.stopped;
   }
     where
-      by : (rest after : List (List ℕ)) → FirstTwo (Moves outer other) rest after → (BeginsTable outer rest → BeginsTable other after)
+      by : (rest after : List (List ℕ)) → FirstTwo (Moves outer other) rest after
+          → (OnFirst (λ line. ¬ LeavesAfter outer text lines line) rest → BeginTable outer rest → BeginTable other after)
           → (rest ≡ []) ⊎ EndParagraph outer text lines rest → (after ≡ []) ⊎ EndParagraph other text others after
       by [] [] two table stops = inl refl
       by [] (moved ∷ after) two table stops = absurd two
@@ -368,7 +373,12 @@ module _ (outer other : Outer) where
       by (line ∷ rest) (moved ∷ after) two table (inr (inl leaves)) =
           inr (inl (subst (λ content. Leaves other (EndsContent other.extensions content) moved) (content_moves kind text lines others z)
           (content_leaves outer other line moved two (content_of outer.containers text lines) leaves)))
-      by (line ∷ rest) (moved ∷ after) two table (inr (inr begins)) = inr (inr (table begins))
+      by (line ∷ rest) (moved ∷ after) two table (inr (inr begins)) =
+          inr (inr (
+            λ leaves. begins.0 (subst (λ content. Leaves outer (EndsContent outer.extensions content) line) (sym (content_moves kind text lines others z))
+                (content_leaves other outer moved line (moves_back outer other line moved two) (content_of other.containers text others) leaves)),
+            table begins.0 begins.1,
+          ))
 
   none_under : (kind : BlockKind) (text : List ℕ) (lines others : List (List ℕ)) → AllZip (LaterMoves kind) lines others
       → (line moved : List ℕ) → Moves outer other line moved → ((level : HeadingLevel) → ¬ Underlines outer.containers text lines level line)
@@ -396,7 +406,7 @@ module _ (outer other : Outer) where
         cut.2,
         no_table first (Setext level) lines others rest after (as_later (Setext level) lines others z) two leaf.4,
         stops_at (Setext level) first.text middle cut.0 (last ∷ rest) (cut.1 ∷ after) (as_later (Setext level) middle cut.0 cut.3) cut.4
-            (table_on last cut.1 rest after cut.4 two) leaf.5,
+            (λ goes. table_on last cut.1 rest after cut.4 two) leaf.5,
         (
           in_moves outer other last cut.1 cut.4 (IsUnderline level) leaf.6.0,
           subst HasText (content_moves (Setext level) first.text middle cut.0 (as_later (Setext level) middle cut.0 cut.3)) leaf.6.1,
@@ -404,23 +414,22 @@ module _ (outer other : Outer) where
       )
 
   -- a table: its delimiter row, and the rows after that
-  table_moves : (columns : ℕ) (first : Rest) (lines others rest after : List (List ℕ)) → AllZip (Moves outer other) lines others
-      → FirstTwo (Moves outer other) rest after → IsLeaf outer (Table columns) first lines rest → IsLeaf other (Table columns) first others after
-  table_moves columns first [] others rest after z two leaf = let none = leaf.3 in cc
-  table_moves columns first (line ∷ lines) [] rest after z two leaf = absurd z
-  table_moves columns first (line ∷ lines) (moved ∷ others) rest after z two leaf =
-      let parts = leaf.3 in
-      let is_head : leaf.1 ≡ line = cc in
-      let are_rows : leaf.2 ≡ lines = cc in (
-        leaf.0,
+  table_moves : (columns : ℕ) (text : List ℕ) (lines others rest after : List (List ℕ)) → AllZip (Moves outer other) lines others
+      → FirstTwo (Moves outer other) rest after → IsTable outer text columns lines rest → IsTable other text columns others after
+  table_moves columns text [] others rest after z two leaf = let none = leaf.2 in cc
+  table_moves columns text (line ∷ lines) [] rest after z two leaf = absurd z
+  table_moves columns text (line ∷ lines) (moved ∷ others) rest after z two leaf =
+      let parts = leaf.2 in
+      let is_head : leaf.0 ≡ line = cc in
+      let are_rows : leaf.1 ≡ lines = cc in (
         moved,
         others,
         refl,
-        head_moves outer other line moved z.0 first.text columns (subst (IsHead outer first.text columns) is_head leaf.4),
+        head_moves outer other line moved z.0 text columns (subst (IsHead outer text columns) is_head leaf.3),
         stops_moves (Moves outer other) (Moves outer other) (λ l. ¬ IsRow outer l) (λ l. ¬ IsRow other l)
             (λ l k m none row. none (row_moves outer other l k m row))
             (λ l k m none row. none (row_moves other outer k l (moves_back outer other l k m) row)) lines others rest after z.1 two
-            (subst (λ ls. StopsBefore (λ l. ¬ IsRow outer l) ls rest) are_rows leaf.5),
+            (subst (λ ls. StopsBefore (λ l. ¬ IsRow outer l) ls rest) are_rows leaf.4),
       )
 
   -- a term
@@ -446,7 +455,8 @@ module _ (outer other : Outer) where
 
   -- the block
   module _ (first : Rest) (lines others rest after : List (List ℕ)) (f : Follows rest after) where
-    pub leaf_moves : (kind : BlockKind) → (kind ≡ Paragraph → BeginsTable outer rest → BeginsTable other after)
+    pub leaf_moves : (kind : BlockKind)
+        → (kind ≡ Paragraph → OnFirst (λ line. ¬ LeavesAfter outer first.text lines line) rest → BeginTable outer rest → BeginTable other after)
         → AllZip (LaterMoves kind) lines others → IsLeaf outer kind first lines rest → IsLeaf other kind first others after
     leaf_moves Blank table z leaf =
         (leaf.0, out_stops (λ r. ¬ IsBlank r) lines others rest after (all_move Blank (λ e. cc) lines others z) f.first leaf.1)
@@ -468,7 +478,7 @@ module _ (outer other : Outer) where
         (leaf.0, out_through (ClosesFence count byte) lines others rest after (all_move (Fenced count byte) (λ e. cc) lines others z) f.first leaf.1)
     leaf_moves (Html kind) table z leaf = (leaf.0, html_moves kind first lines others rest after (all_move (Html kind) (λ e. cc) lines others z) f.first leaf.1)
     leaf_moves (Table columns) table z leaf =
-        table_moves columns first lines others rest after (all_move (Table columns) (λ e. cc) lines others z) f.first leaf
+        (leaf.0, table_moves columns first.text lines others rest after (all_move (Table columns) (λ e. cc) lines others z) f.first leaf.1)
     leaf_moves Paragraph table z leaf = (
       leaf.0,
       no_table first Paragraph lines others rest after z f.first leaf.1,
@@ -477,3 +487,20 @@ module _ (outer other : Outer) where
           (λ l. (level : HeadingLevel) → ¬ Underlines other.containers first.text others level l)
           (none_under Paragraph first.text lines others z) rest after f.first leaf.3,
     )
+
+    -- and where its first line goes on with the paragraph before it
+    pub leaf_after_moves : (header : Bool) (kind : BlockKind)
+        → (kind ≡ Paragraph → OnFirst (λ line. ¬ LeavesAfter outer first.text lines line) rest → BeginTable outer rest → BeginTable other after)
+        → AllZip (LaterMoves kind) lines others → IsLeafAfter header outer kind first lines rest → IsLeafAfter header other kind first others after
+    leaf_after_moves false kind table z leaf = leaf_moves kind table z leaf
+    leaf_after_moves true (Table columns) table z leaf =
+        table_moves columns (without_front first.text) lines others rest after (all_move (Table columns) (λ e. cc) lines others z) f.first leaf
+    leaf_after_moves true Blank table z leaf = absurd leaf
+    leaf_after_moves true Break table z leaf = absurd leaf
+    leaf_after_moves true (Heading level) table z leaf = absurd leaf
+    leaf_after_moves true (Setext level) table z leaf = absurd leaf
+    leaf_after_moves true Indented table z leaf = absurd leaf
+    leaf_after_moves true (Fenced count byte) table z leaf = absurd leaf
+    leaf_after_moves true (Html html) table z leaf = absurd leaf
+    leaf_after_moves true Definition table z leaf = absurd leaf
+    leaf_after_moves true Paragraph table z leaf = absurd leaf

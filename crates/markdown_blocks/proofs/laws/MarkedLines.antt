@@ -14,7 +14,7 @@ abbrev pub ends_none : List ℕ → Bool
 ends_none bytes = list_all (λ b. not (is_line_ending b)) bytes
 
 -- the line after such bytes
-pub record IsBehind (line moved : List ℕ) : Type 0 where
+pub record IsAfter (line moved : List ℕ) : Type 0 where
   pub front : List ℕ
   pub parts : moved ≡ front ++ line
   pub plain : ends_none front ≡ true
@@ -31,7 +31,7 @@ pub record IsCut (line moved : List ℕ) : Type 0 where
   pub other : (byte == 10) ≡ false
 
 abbrev pub IsMarked : List ℕ → List ℕ → Type 0
-IsMarked line moved = IsBehind line moved ⊎ IsCut line moved
+IsMarked line moved = IsAfter line moved ⊎ IsCut line moved
 
 abbrev begins_feed : List ℕ → Bool
 begins_feed bytes = begins_with (λ c. c == 10) bytes
@@ -125,7 +125,7 @@ keeps_feed (c ∷ cs) l ls rest is feed =
 abbrev Holds : List ℕ → Type 0
 Holds bs = (others : List (List ℕ)) → AllZip IsMarked (lines_of bs) others → lines_of (concat others) ≡ others
 
-by_front : (b : ℕ) (l m : List ℕ) (others : List (List ℕ)) → IsBehind (b ∷ l) m → lines_of (b ∷ (l ++ concat others)) ≡ (b ∷ l) ∷ others
+by_front : (b : ℕ) (l m : List ℕ) (others : List (List ℕ)) → IsAfter (b ∷ l) m → lines_of (b ∷ (l ++ concat others)) ≡ (b ∷ l) ∷ others
     → lines_of (m ++ concat others) ≡ m ∷ others
 by_front b l m others i is =
     let parts : m ++ concat others ≡ i.front ++ (b ∷ (l ++ concat others)) =
@@ -142,7 +142,7 @@ no_rest : (cut : List ℕ) (byte : ℕ) (rest : List ℕ) → [] ≡ cut ++ byte
 no_rest [] byte rest is = cc
 no_rest (x ∷ cut) byte rest is = cc
 
-first_marked : (b : ℕ) (l m : List ℕ) → IsMarked (b ∷ l) m → IsBehind (b ∷ l) m ⊎ IsCut l m
+first_marked : (b : ℕ) (l m : List ℕ) → IsMarked (b ∷ l) m → IsAfter (b ∷ l) m ⊎ IsCut l m
 first_marked b l m (inl i) = inl i
 first_marked b l m (inr i) = elim (cut_first i.cut i.byte i.rest b l i.parts) [
   | inl whole ↦ inl (record { front = i.front; parts = i.moved_parts ∙ ap (λ bytes. i.front ++ bytes) (sym whole); plain = i.plain })
@@ -161,9 +161,9 @@ first_marked b l m (inr i) = elim (cut_first i.cut i.byte i.rest b l i.parts) [
       )
 ]
 
-alone_marked : (b : ℕ) (m : List ℕ) → IsMarked (b ∷ []) m → IsBehind (b ∷ []) m
+alone_marked : (b : ℕ) (m : List ℕ) → IsMarked (b ∷ []) m → IsAfter (b ∷ []) m
 alone_marked b m i = elim (first_marked b [] m i) [
-  | inl behind ↦ behind
+  | inl after ↦ after
   | inr cut ↦ absurd (no_rest cut.cut cut.byte cut.rest cut.parts)
 ]
 
@@ -175,7 +175,7 @@ ended b bs (m ∷ others) ends z more =
     by_front b [] m others (alone_marked b m z.0) (lines_ended b (concat others) still ∙ ap (λ ls. (b ∷ []) ∷ ls) (more others z.1))
 
 going_on : (b : ℕ) (bs l m : List ℕ) (lines others : List (List ℕ)) → ends_line (b ∷ bs) ≡ false → lines_of bs ≡ l ∷ lines
-    → IsBehind (b ∷ l) m → AllZip IsMarked lines others → Holds bs → lines_of (m ++ concat others) ≡ m ∷ others
+    → IsAfter (b ∷ l) m → AllZip IsMarked lines others → Holds bs → lines_of (m ++ concat others) ≡ m ∷ others
 going_on b bs l m lines others goes is i z more =
     let zipped : AllZip IsMarked (lines_of bs) (l ∷ others) =
     subst (λ ls. AllZip IsMarked ls (l ∷ others)) (sym is) (inl (record { front = []; parts = refl; plain = refl }), z) in

@@ -1,4 +1,4 @@
--- The place after a list marker.
+-- The offset after a list marker.
 use Rattle.std.proofs.Common.{ℕ, Bool, true, false, ◌==◌, ◌+◌, ◌≡◌, ◌≤◌, List, [], ◌∷◌, ◌++◌, length}
 use Rattle.std.proofs.Common.{Some, refl, ap, ◌∙◌, subst, arith, inr}
 use Rattle.std.specs.List.{list_all}
@@ -14,7 +14,7 @@ use Rattle.markdown_scanners_tree.specs.scanners.list_items.ListMarker.{Marker, 
 use Rattle.markdown_scanners_tree.proofs.PrefixLemmas.{both_true}
 use Rattle.markdown_scanners_tree.proofs.line.ItemLemmas.{marker-is}
 use Rattle.markdown_blocks.specs.blank_lines.BlankLines.{is_blank}
-use Rattle.markdown_blocks.specs.containers.Containers.{begun_at, begun_behind, either_begun, extension_of, item_of}
+use Rattle.markdown_blocks.specs.containers.Containers.{begun_at, begun_after, either_begun, extension_of, item_of}
 use Rattle.markdown_blocks.specs.containers.ItemMarkers.{further_spaces, item_outcome, item_outcome_by}
 use Rattle.markdown_values.specs.declared.values.extensions.Extensions.{Extensions}
 use Rattle.markdown_blocks.specs.declared.containers.Container.TheVariants.{Item}
@@ -47,8 +47,8 @@ module _ (lead : Lead) (is : IsLead lead) (changed tail : List ℕ) (parts : cha
   abbrev pub before_marker : LineState
   before_marker = after_space 4 (start_of changed)
 
-  abbrev pub behind_marker : LineState
-  behind_marker = bytes_further (length lead.marker) before_marker
+  abbrev pub after_marker : LineState
+  after_marker = bytes_further (length lead.marker) before_marker
 
   plain : begins_plainly (lead.marker ++ tail)
   plain = marker_front lead.marker lead.delimiter lead.start tail is.is_marker
@@ -62,13 +62,13 @@ module _ (lead : Lead) (is : IsLead lead) (changed tail : List ℕ) (parts : cha
   at_marker : IsAt before_marker (lead.marker ++ tail) (0 + lead.indent)
   at_marker = at_space (start_of changed) lead.indent (lead.marker ++ tail) 0 at_front 4 (omega (arith, is.few)) (inr plain.0)
 
-  pub at_tail : IsAt behind_marker tail (0 + lead.indent + length lead.marker)
+  pub at_tail : IsAt after_marker tail (0 + lead.indent + length lead.marker)
   at_tail = at_bytes before_marker lead.marker tail (0 + lead.indent) at_marker
 
   -- the item that begins there
   module _ (asked : Extensions) (next : LineState) (further width : ℕ) (begun : Bool) (no_break : is_thematic_break (lead.marker ++ tail) ≡ false)
-      (follows : space_or_end_follows behind_marker ≡ true) (further_are : further_spaces (after_space 1 behind_marker) ≡ further)
-      (is_next : after_space further (after_space 1 behind_marker) ≡ next) (width_is : lead.indent + length lead.marker + 1 + further ≡ width)
+      (follows : space_or_end_follows after_marker ≡ true) (further_are : further_spaces (after_space 1 after_marker) ≡ further)
+      (is_next : after_space further (after_space 1 after_marker) ≡ next) (width_is : lead.indent + length lead.marker + 1 + further ≡ width)
       (blank : is_blank (unscanned next) ≡ begun) where
     found_here : item_outcome lead.indent before_marker ≡ record { answer = Some (lead.delimiter, lead.start, width); state = next }
     found_here =
@@ -77,15 +77,15 @@ module _ (lead : Lead) (is : IsLead lead) (changed tail : List ℕ) (parts : cha
         ap list_marker at_marker.text ∙ marker-is lead.marker tail lead.delimiter lead.start is.is_marker (λ one. no_break) in
         ap (item_outcome_by lead.indent before_marker) here ∙ rw (follows, further_are, is_next, width_is) refl
 
-    begun_here : begun_behind asked lead.indent before_marker
-        ≡ Some (Item (record { delimiter = lead.delimiter; begun = begun; width = width; start = lead.start }), next)
+    begun_here : begun_after asked lead.indent before_marker
+        ≡ Some (Item (record { delimiter = lead.delimiter; starts_blank = begun; width = width; start = lead.start }), next)
     begun_here =
         let far : (lead.indent == 4) ≡ false = near lead.indent (omega (arith, is.few)) in
         let other : begins_with (λ b. b == greater_than_sign) (unscanned before_marker) ≡ false =
         ap (begins_with (λ b. b == greater_than_sign)) at_marker.text ∙ plain.1 in
         rw (far, other) (ap (λ f. either_begun f (extension_of asked lead.indent before_marker)) (ap item_of found_here
-        ∙ ap (λ b. Some (Item (record { delimiter = lead.delimiter; begun = b; width = width; start = lead.start }), next)) blank))
+        ∙ ap (λ b. Some (Item (record { delimiter = lead.delimiter; starts_blank = b; width = width; start = lead.start }), next)) blank))
 
     pub begun_there : begun_at asked (start_of changed)
-        ≡ Some (Item (record { delimiter = lead.delimiter; begun = begun; width = width; start = lead.start }), next)
-    begun_there = ap (λ n. begun_behind asked n before_marker) indent_there ∙ begun_here
+        ≡ Some (Item (record { delimiter = lead.delimiter; starts_blank = begun; width = width; start = lead.start }), next)
+    begun_there = ap (λ n. begun_after asked n before_marker) indent_there ∙ begun_here

@@ -1,6 +1,6 @@
 -- The blocks of a page stand in order.
 use Rattle.std.proofs.Common.{ℕ, zero, suc, ◌+◌, ◌-◌, ◌≤◌, ◌≡◌, ◌≢◌, ◌∙◌, List, [], ◌∷◌, ◌++◌, length, take, drop, inl, inr, refl, ap, arith}
-use Rattle.std.proofs.Common.{subst, sym, append_assoc, append-nil, Option, Some, None}
+use Rattle.std.proofs.Common.{Bool, true, false, subst, sym, append_assoc, append-nil, Option, Some, None}
 use Rattle.std.specs.Prelude.{map, replicate}
 use Rattle.std.specs.List.{concat}
 use Rattle.std.specs.declared.ops.Range.{Range}
@@ -12,9 +12,9 @@ use Rattle.markdown_scanners_tree.specs.scanners.TextLines.{lines_of}
 use Rattle.markdown_scanners_tree.proofs.ForCallers.{lines_joined, space_forward}
 use Rattle.markdown_blocks.specs.byte_order_mark.ByteOrderMark.{text_start}
 use Rattle.markdown_blocks.proofs.byte_order_mark.MarkLemmas.{text_within}
-use Rattle.markdown_blocks.specs.blocks.Pages.{Piece, AreBlocks, lines_in, open_behind, root}
+use Rattle.markdown_blocks.specs.blocks.Pages.{OpensAfter, Piece, AreBlocks, lines_in, opened_by, root}
 use Rattle.markdown_scanners_tree.specs.scanners.reference_definitions.ReferenceDefinition.{IsEnd}
-use Rattle.markdown_blocks.specs.containers.Containers.{Between, Opens, Rest, after_marker, asked_between, behind, marker_place}
+use Rattle.markdown_blocks.specs.containers.Containers.{Between, Opens, Rest, after_marker, asked_between, match_line, marker_start}
 use Rattle.markdown_blocks.specs.containers.Containers.{rest_at, without_terms}
 use Rattle.markdown_blocks.specs.declared.blocks.BlockKind.{BlockKind}
 use Rattle.markdown_blocks.specs.declared.blocks.BlockKind.TheVariants.{Definition}
@@ -28,11 +28,11 @@ use Rattle.markdown_blocks.specs.laws.Order.{BeginsIn, Follow, NodesStand, Stand
 use Rattle.markdown_blocks.specs.lists.Lists.{Nodes, nothing, leaf_then, container_then, flatten}
 use Rattle.markdown_blocks.proofs.containers.ContainerLemmas.{begun_by_all}
 use Rattle.markdown_blocks.proofs.content.ReachedLemmas.{Reached, after_some}
-use Rattle.markdown_blocks.proofs.content.ReachedPlaces.{begun_reached, behind_reached}
+use Rattle.markdown_blocks.proofs.content.ReachedPlaces.{begun_reached, after_reached}
 use Rattle.markdown_blocks.proofs.definitions.DefinitionLemmas.{no_text}
 use Rattle.markdown_blocks.proofs.laws.FurtherPlaces.{begun_further}
 use Rattle.markdown_blocks.proofs.lists.PageLemmas.{regroup}
-use Rattle.markdown_blocks.proofs.taken.LineCuts.{page_behind}
+use Rattle.markdown_blocks.proofs.taken.LineCuts.{page_after}
 use Rattle.markdown_blocks.proofs.whole.WholeLemmas.{some_lines}
 
 -- ---- lines
@@ -65,9 +65,9 @@ parted n lines =
     ∙ length-append (concat (take n lines)) (concat (drop n lines))
 
 -- a definition has a line
-some_len : (text : List ℕ) (place len : ℕ) (title : Option (Range ℕ)) → 1 ≤ place → IsEnd text place title len → 1 ≤ len
-some_len text place len None some is = omega (arith, some, is.len_is)
-some_len text place len (Some title) some is = omega (arith, is.len_is)
+some_len : (text : List ℕ) (offset len : ℕ) (title : Option (Range ℕ)) → 1 ≤ offset → IsEnd text offset title len → 1 ≤ len
+some_len text offset len None some is = omega (arith, some, is.len_is)
+some_len text offset len (Some title) some is = omega (arith, is.len_is)
 
 some_line : (b : ℕ) (text : List ℕ) (n : ℕ) → 1 ≤ n → 1 ≤ length (lines_of (take n (b ∷ text)))
 some_line b text zero some = absurd (omega (arith, some))
@@ -81,7 +81,7 @@ pub some_taken : (content : List ℕ) (definition : ReferenceDefinition) → IsD
 some_taken [] definition is = absurd (no_text definition is)
 some_taken (b ∷ content) definition is =
     some_line b content definition.len
-    (some_len (b ∷ content) is.place definition.len definition.title (omega (arith, is.target.some, is.target.place_is)) is.ends)
+    (some_len (b ∷ content) is.offset definition.len definition.title (omega (arith, is.target.some, is.target.offset_is)) is.ends)
 
 -- ---- the leaf blocks of a block
 
@@ -89,11 +89,11 @@ module _ (page : List ℕ) where
   -- a leaf block begins with its first line
   begins_in : (kind : BlockKind) (part : Part) (passed : ℕ) → first_of (lines_of (drop part.start page)) ≡ first_of part.lines
       → passed ≤ part.start + (length (first_of part.lines) - length part.words.text) → BeginsIn page part.start passed (leaf_of kind part)
-  begins_in kind part passed first behind =
+  begins_in kind part passed first passed_low =
       let same = ap length first in
       record {
         start = refl;
-        after = behind;
+        after = passed_low;
         in_line = omega (arith, same);
         whole = omega (arith, same, first_shorter part.lines);
       }
@@ -103,19 +103,19 @@ module _ (page : List ℕ) where
       → passed ≤ part.start + (length (first_of part.lines) - length part.words.text) → (part.lines ≡ [] → passed ≡ part.start)
       → Follow page (part.start + length (concat part.lines)) (part.start + length (concat part.lines)) rest
       → Follow page part.start passed (map leaf leaves ++ rest)
-  leaves_follow outer kind [] part content others passed rest none stands behind at follow =
+  leaves_follow outer kind [] part content others passed rest none stands passed_low at follow =
       let end : part.start + length (concat part.lines) ≡ part.start = omega (arith, ap (λ (ls : List (List ℕ)). length (concat ls)) none) in
       subst (λ n. Follow page part.start n rest) (sym (at none)) (subst (λ n. Follow page n n rest) end follow)
-  leaves_follow outer kind (block ∷ more) part content others passed rest (some, inl (definition, is, first, later)) stands behind at follow =
+  leaves_follow outer kind (block ∷ more) part content others passed rest (some, inl (definition, is, first, later)) stands passed_low at follow =
       let n = lines_taken content definition in
       let front = record part { lines = take n part.lines } in
       let taken = first_kept n part.lines (some_taken content definition is) in
       let start = part.start + length (concat (take n part.lines)) in
       let begins : BeginsIn page part.start passed (leaf_of Definition front) =
       begins_in Definition front passed (ap first_of stands ∙ first_append part.lines others some ∙ sym taken)
-      (omega (arith, behind, ap length taken)) in
+      (omega (arith, passed_low, ap length taken)) in
       let left : lines_of (drop start page) ≡ drop n part.lines ++ others =
-      page_behind page part.start (take n part.lines) (drop n part.lines ++ others)
+      page_after page part.start (take n part.lines) (drop n part.lines ++ others)
       (stands ∙ ap (λ ls. ls ++ others) (sym (take-append-drop n part.lines)) ∙ append_assoc (take n part.lines) (drop n part.lines) others) in
       let end : part.start + length (concat part.lines) ≡ start + length (concat (drop n part.lines)) = omega (arith, parted n part.lines) in
       subst (λ b. Follow page part.start passed (leaf b ∷ map leaf more ++ rest)) (sym first) (
@@ -123,9 +123,9 @@ module _ (page : List ℕ) where
         leaves_follow outer kind more (later_lines outer n part) (drop definition.len content) others start rest later left (omega arith)
             (λ none. refl) (subst (λ e. Follow page e e rest) end follow),
       )
-  leaves_follow outer kind (block ∷ more) part content others passed rest (some, inr (none, only, last)) stands behind at follow =
+  leaves_follow outer kind (block ∷ more) part content others passed rest (some, inr (none, only, last)) stands passed_low at follow =
       subst (λ b. Follow page part.start passed (leaf b ∷ map leaf more ++ rest)) (sym only) (
-        begins_in kind part passed (ap first_of stands ∙ first_append part.lines others some) behind,
+        begins_in kind part passed (ap first_of stands ∙ first_append part.lines others some) passed_low,
         subst (λ (m : List LeafBlock). Follow page (part.start + length (concat part.lines)) (part.start + length (concat part.lines)) (map leaf m ++ rest))
             (sym last) follow,
       )
@@ -138,12 +138,12 @@ module _ (page : List ℕ) where
     ends_follow (suc count) passed rest follow = ends_follow count passed rest follow
 
     module _ (first : List ℕ) (end : line_end page line ≡ line + length first) (last : LineState) (rest : List Event) where
-      started_follow : (asked : Extensions) (containers : List Container) (s : LineState) (passed : ℕ) → Reached first s → passed ≤ line + s.place
+      started_follow : (asked : Extensions) (containers : List Container) (s : LineState) (passed : ℕ) → Reached first s → passed ≤ line + s.offset
           → Opens asked s containers last
-          → ((from : ℕ) → from ≤ line + last.place → Reached first last → Follow page line from rest)
+          → ((from : ℕ) → from ≤ line + last.offset → Reached first last → Follow page line from rest)
           → Follow page line passed (started line s containers ++ rest)
       started_follow asked [] s passed r low opens follow =
-          follow passed (subst (λ (z : LineState). passed ≤ line + z.place) (sym opens.1) low) (subst (Reached first) (sym opens.1) r)
+          follow passed (subst (λ (z : LineState). passed ≤ line + z.offset) (sym opens.1) low) (subst (Reached first) (sym opens.1) r)
       started_follow asked (c ∷ inner) s passed r low (next, begun, opens) follow =
           let all = begun_by_all asked s (c, next) begun in
           let after : next ≡ after_marker s = rw (after_marker, all) refl in
@@ -152,18 +152,27 @@ module _ (page : List ℕ) where
           let inside = there.within in (
             omega (arith, low, space_forward 4 s),
             omega (arith, end, further.0, inside),
-            subst (λ z. Follow page line (suc (line + marker_place s)) (started line z inner ++ rest)) after
-                (started_follow (without_terms asked) inner next (suc (line + marker_place s)) there (omega (arith, further.0)) opens follow),
+            subst (λ z. Follow page line (suc (line + marker_start s)) (started line z inner ++ rest)) after
+                (started_follow (without_terms asked) inner next (suc (line + marker_start s)) there (omega (arith, further.0)) opens follow),
           )
 
+      started_after_follow : (header : Bool) (asked : Extensions) (containers : List Container) (s : LineState) (passed : ℕ) → Reached first s
+          → passed ≤ line + s.offset → OpensAfter header asked s containers last
+          → ((from : ℕ) → from ≤ line + last.offset → Reached first last → Follow page line from rest)
+          → Follow page line passed (started line s containers ++ rest)
+      started_after_follow false asked containers s passed r low opens follow = started_follow asked containers s passed r low opens follow
+      started_after_follow true asked containers s passed r low opens follow =
+          subst (λ cs. Follow page line passed (started line s cs ++ rest)) (sym opens.0)
+          (follow passed (subst (λ (z : LineState). passed ≤ line + z.offset) (sym opens.1) low) (subst (Reached first) (sym opens.1) r))
+
   -- where the text of a block begins
-  text_behind : (first : List ℕ) (s : LineState) (line from : ℕ) → Reached first s → from ≤ line + s.place
+  text_after : (first : List ℕ) (s : LineState) (line from : ℕ) → Reached first s → from ≤ line + s.offset
       → from ≤ line + (length first - length (rest_at s).text)
-  text_behind first s line from r low =
+  text_after first s line from r low =
       let there = after_some first s r 4 in
       let inside = there.within in
-      let size : length (rest_at s).text ≡ length first - (after_space 4 s).place =
-      length-drop (after_space 4 s).place (after_space 4 s).bytes ∙ ap (λ (l : List ℕ). length l - (after_space 4 s).place) there.of_line in
+      let size : length (rest_at s).text ≡ length first - (after_space 4 s).offset =
+      length-drop (after_space 4 s).offset (after_space 4 s).bytes ∙ ap (λ (l : List ℕ). length l - (after_space 4 s).offset) there.of_line in
       omega (arith, size, inside, low, space_forward 4 s)
 
   -- ---- the page
@@ -178,24 +187,24 @@ module _ (page : List ℕ) where
   pieces_follow (piece ∷ later) before line start events rest each (leaves, more, are, is, after) stands within follow =
       let lines = piece.first ∷ piece.later in
       let opened = each.0.opened in
-      let s = (behind before.containers piece.first).state in
-      let behind_lines = page_behind page start lines (lines_in later) stands in
+      let s = (match_line before.containers piece.first).state in
+      let after_lines = page_after page start lines (lines_in later) stands in
       let sizes : length page - start ≡ length (concat lines) + length (concat (lines_in later)) =
       sym (length-drop start page) ∙ ap length (sym (lines_joined (drop start page)) ∙ ap concat stands ∙ concat-append lines (lines_in later))
       ∙ length-append (concat lines) (concat (lines_in later)) in
       let end : line_end page start ≡ start + length piece.first = ap (λ (ls : List (List ℕ)). start + length (first_of ls)) stands in
-      let next = pieces_follow later (open_behind before piece) _ (start + length (concat lines)) more rest each.1 after behind_lines
+      let next = pieces_follow later (opened_by before piece) _ (start + length (concat lines)) more rest each.1 after after_lines
       (omega (arith, sizes, within)) follow in
       let gone = replicate (length before.containers - length piece.kept) ends in
       subst (λ (es : List Event). Follow page start start (es ++ rest)) (sym is)
       (subst (Follow page start start) (sym (regroup gone (started start s piece.begun) (map leaf leaves) more rest))
       (ends_follow start (length before.containers - length piece.kept) start _
-      (started_follow start piece.first end opened.place _ (asked_between before piece.first) piece.begun s start
-      (behind_reached piece.first before.containers) (omega arith) opened.begins
+      (started_after_follow start piece.first end opened.position _ piece.header (asked_between before piece.first) piece.begun s start
+      (after_reached piece.first before.containers) (omega arith) opened.begins
       (λ from low reached. leaves_follow (piece.kept ++ piece.begun) piece.kind leaves (part_of line start piece) (piece_content piece)
       (lines_in later) from (more ++ rest) are stands
       (subst (λ (w : Rest). from ≤ start + (length piece.first - length w.text)) (sym opened.is_rest)
-      (text_behind piece.first opened.place start from reached low)) (λ none. cc) next))))
+      (text_after piece.first opened.position start from reached low)) (λ none. cc) next))))
 
   all_passed : (count : ℕ) → Follow page (length page) (length page) (replicate count ends)
   all_passed zero = (refl, refl)
@@ -217,10 +226,10 @@ nodes_follow page nothing line passed rest follow = (tt, (line, follow))
 nodes_follow page (leaf_then block later) line passed rest (begins, follow) =
     let more = nodes_follow page later (block_end block) (block_end block) rest follow in
     ((begins.after, omega (arith, begins.in_line, begins.whole), more.0), more.1)
-nodes_follow page (container_then container place inner later) line passed rest (before, within, follow) =
-    let held = nodes_follow page inner line (suc place) (ends ∷ (flatten later ++ rest))
-    (subst (Follow page line (suc place)) (append_assoc (flatten inner) (ends ∷ flatten later) rest) follow) in
-    let more = nodes_follow page later held.1.0 (passed_after (suc place) inner) rest held.1.1 in
+nodes_follow page (container_then container offset inner later) line passed rest (before, within, follow) =
+    let held = nodes_follow page inner line (suc offset) (ends ∷ (flatten later ++ rest))
+    (subst (Follow page line (suc offset)) (append_assoc (flatten inner) (ends ∷ flatten later) rest) follow) in
+    let more = nodes_follow page later held.1.0 (passed_after (suc offset) inner) rest held.1.1 in
     ((before, held.0, more.0), more.1)
 
 -- What stands in a page stands there in order, from the start of its text to its end.

@@ -1,4 +1,4 @@
--- The place of a line after spaces and plain bytes.
+-- The offset of a line after spaces and plain bytes.
 use Rattle.std.proofs.Common.{ℕ, suc, zero, Bool, true, false, not, ◌+◌, ◌-◌, ◌%◌, ◌≡◌, ◌≤◌, ◌⊎◌, List, ◌∷◌, ◌++◌, length}
 use Rattle.std.proofs.Common.{take, drop, replicate, refl, sym, ap, ◌∙◌, subst, arith, inl, inr}
 use Rattle.std.specs.Prelude.{nat_lt}
@@ -50,7 +50,7 @@ take_spaces n bs = ap (λ k. take k (spaces n ++ bs)) (sym (length-replicate {A 
 drop_spaces : (n : ℕ) (bs : List ℕ) → drop n (spaces n ++ bs) ≡ bs
 drop_spaces n bs = ap (λ k. drop k (spaces n ++ bs)) (sym (length-replicate {A = ℕ} n 32)) ∙ drop-append_seam (spaces n) bs
 
--- the place where these bytes are left, at this column
+-- the offset where these bytes are left, at this column
 pub record IsAt (s : LineState) (bs : List ℕ) (column : ℕ) : Type 0 where
   pub text : unscanned s ≡ bs
   pub pending : s.pending ≡ 0
@@ -61,7 +61,7 @@ at_start line = record { text = refl; pending = refl; phase = refl }
 
 pub at_byte : (s : LineState) (b : ℕ) (bs : List ℕ) (c : ℕ) → IsAt s (b ∷ bs) c → IsAt (bytes_further 1 s) bs (c + 1)
 at_byte s b bs c at = record {
-  text = sym (drop-drop 1 s.place s.bytes) ∙ ap (drop 1) at.text;
+  text = sym (drop-drop 1 s.offset s.bytes) ∙ ap (drop 1) at.text;
   pending = at.pending;
   phase = omega (arith, at.phase);
 }
@@ -90,7 +90,7 @@ module _ (s : LineState) (m : ℕ) (bs : List ℕ) (c : ℕ) (at : IsAt s (space
 
   at_further : IsAt (columns_further m s) bs (c + m)
   at_further = record {
-    text = ap (λ k. drop (s.place + k) s.bytes) passed_there ∙ sym (drop-drop m s.place s.bytes) ∙ ap (drop m) at.text ∙ drop_spaces m bs;
+    text = ap (λ k. drop (s.offset + k) s.bytes) passed_there ∙ sym (drop-drop m s.offset s.bytes) ∙ ap (drop m) at.text ∙ drop_spaces m bs;
     pending = omega (arith, column_there, at.pending);
     phase = ap (λ k. k % 4) column_there ∙ omega (arith, at.phase);
   }
@@ -101,7 +101,7 @@ module _ (s : LineState) (m : ℕ) (bs : List ℕ) (c : ℕ) (at : IsAt s (space
 -- n plain bytes further
 pub at_bytes : (s : LineState) (front bs : List ℕ) (c : ℕ) → IsAt s (front ++ bs) c → IsAt (bytes_further (length front) s) bs (c + length front)
 at_bytes s front bs c at = record {
-  text = sym (drop-drop (length front) s.place s.bytes) ∙ ap (drop (length front)) at.text ∙ drop-append_seam front bs;
+  text = sym (drop-drop (length front) s.offset s.bytes) ∙ ap (drop (length front)) at.text ∙ drop-append_seam front bs;
   pending = at.pending;
   phase = omega (arith, at.phase);
 }

@@ -12,12 +12,12 @@ use Rattle.markdown_blocks.proofs.blocks.OneText.{one_page}
 use Rattle.markdown_blocks.proofs.laws.HeldLaw.{held_blocks, held_lines}
 use Rattle.markdown_blocks.proofs.laws.MarkedLines.{IsMarked, marked_lines, none_spaces, none_of_spaces}
 use Rattle.markdown_blocks.proofs.laws.Places.{spaces}
-use Rattle.markdown_blocks.proofs.laws.QuotePlaces.{place_in, line_alike, begun_there, kept_there, state_there, bare_outside}
+use Rattle.markdown_blocks.proofs.laws.QuotePlaces.{offset_in, line_alike, begun_there, kept_there, state_there, bare_outside}
 
 quoted_blocks : (asked : Extensions) (pieces others : List Piece) → AreInQuote asked pieces others → AreBlocks (root asked) pieces []
     → AreBlocks (root asked) others []
 quoted_blocks asked = held_blocks asked Quote IsQuoted IsQuoted (IsBare asked) refl
-    (λ line quoted q. (place_in line quoted q, begun_there line quoted q (without_terms asked), line_alike line quoted q))
+    (λ line quoted q. (offset_in line quoted q, begun_there line quoted q (without_terms asked), line_alike line quoted q))
     (λ line quoted q outer. (kept_there line quoted q outer, state_there line quoted q outer))
     (λ line bare b outer. (bare_outside asked line bare b outer, b.goes_on))
 

@@ -13,8 +13,8 @@ quoted = record { indent = 0; gap = 1; few = omega arith; marked = inl refl; par
 quoted_at_once : IsQuoted (codes "# Foo") (codes "># Foo")
 quoted_at_once = record { indent = 0; gap = 0; few = omega arith; marked = inr (refl, refl); parts = refl; tabs = inl refl }
 
-quoted_behind_spaces : IsQuoted (codes "bar") (codes "   > bar")
-quoted_behind_spaces = record { indent = 3; gap = 1; few = omega arith; marked = inl refl; parts = refl; tabs = inl refl }
+quoted_after_spaces : IsQuoted (codes "bar") (codes "   > bar")
+quoted_after_spaces = record { indent = 3; gap = 1; few = omega arith; marked = inl refl; parts = refl; tabs = inl refl }
 
 -- a tab, after a marker of four columns
 quoted_tab : IsQuoted (codes "\tfoo") (codes "  > \tfoo")
@@ -35,7 +35,7 @@ one_is = record {
 
 item_line : IsItemLine one (codes "A paragraph") (codes "1.  A paragraph")
 unfolding one
-item_line = record { parts = refl; text = refl; behind = inl refl; no_break = refl; tabs = inl refl }
+item_line = record { parts = refl; text = refl; after = inl refl; no_break = refl; tabs = inl refl }
 
 indented_line : IsIndentedLine 4 (codes "    indented code") (codes "        indented code")
 indented_line = inl (refl, refl, inl refl)
@@ -49,7 +49,7 @@ code = record { indent = 0; marker = codes "1."; delimiter = full_stop; start = 
 
 code_line : IsItemLine code (codes "    indented code") (codes "1.     indented code")
 unfolding code
-code_line = record { parts = refl; text = refl; behind = inr (refl, refl); no_break = refl; tabs = inl refl }
+code_line = record { parts = refl; text = refl; after = inr (refl, refl); no_break = refl; tabs = inl refl }
 
 -- example 278, rule 3
 dash : Lead

@@ -1,4 +1,4 @@
--- At two places with the same text after them a line goes on with the same containers, and begins the same.
+-- At two offsets with the same text after them a line goes on with the same containers, and begins the same.
 use Rattle.std.proofs.Common.{ℕ, suc, Bool, true, false, ◌==◌, ◌+◌, ◌≡◌, List, [], ◌∷◌, length, Option, Some, None, refl, sym, ap, ◌∙◌, subst}
 use Rattle.std.specs.Prelude.{if◌then◌else◌, ⊤}
 use Rattle.markdown_scanners_tree.specs.Ascii.{colon, greater_than_sign}
@@ -9,7 +9,7 @@ use Rattle.markdown_scanners_tree.specs.line.PlainStep.{definition_spaces}
 use Rattle.markdown_scanners_tree.specs.line.State.{LineState, unscanned, rest_of, leading_spaces, bytes_further, space_within, after_space}
 use Rattle.markdown_scanners_tree.specs.scanners.list_items.ListMarker.{Marker, list_marker}
 use Rattle.markdown_blocks.specs.blank_lines.BlankLines.{is_blank}
-use Rattle.markdown_blocks.specs.containers.Containers.{behind_quote, begun_at, begun_behind, either_begun, extension_of}
+use Rattle.markdown_blocks.specs.containers.Containers.{past_quote, begun_at, begun_after, either_begun, extension_of}
 use Rattle.markdown_blocks.specs.containers.Containers.{footnote_by, footnote_of, term_definition_by, term_definition_of, item_of, without_terms}
 use Rattle.markdown_blocks.specs.containers.Containers.{within, within_quote, within_width, go_on, Opens}
 use Rattle.markdown_blocks.specs.containers.Footnotes.{after_columns, footnote_label}
@@ -30,7 +30,7 @@ quote_alike s t a =
     (after_space 1 (bytes_further 1 s)) (after_space 1 (bytes_further 1 t)) s t (same_quote s t a)
     (space_alike (bytes_further 1 s) (bytes_further 1 t) (bytes_alike s t a 1) 1) a
 
--- what is found with the place after it
+-- what is found with the offset after it
 abbrev pub FoundAlike : {A : Type 0} → Option (A × LineState) → Option (A × LineState) → Type 0
 FoundAlike None None = ⊤
 FoundAlike None (Some q) = ⊥
@@ -93,7 +93,7 @@ item_made : (answer : Option (ℕ × ℕ × ℕ)) (s t : LineState) → Alike s 
     → FoundAlike (item_of (record { answer = answer; state = s })) (item_of (record { answer = answer; state = t }))
 item_made None s t a = tt
 item_made (Some r) s t a =
-    (ap (λ bs. Item (record { delimiter = r.0; start = r.1; width = r.2; begun = is_blank bs })) a.text, a)
+    (ap (λ bs. Item (record { delimiter = r.0; start = r.1; width = r.2; starts_blank = is_blank bs })) a.text, a)
 
 found_item : (found other : Outcome (ℕ × ℕ × ℕ)) → SameOutcome found other → FoundAlike (item_of found) (item_of other)
 found_item found other same =
@@ -140,7 +140,7 @@ same_definition indent s t a =
 definition_made : (answer : Option ℕ) (s t : LineState) → Alike s t
     → FoundAlike (term_definition_by (record { answer = answer; state = s })) (term_definition_by (record { answer = answer; state = t }))
 definition_made None s t a = tt
-definition_made (Some width) s t a = (ap (λ bs. TermDefinition (record { begun = is_blank bs; width = width })) a.text, a)
+definition_made (Some width) s t a = (ap (λ bs. TermDefinition (record { starts_blank = is_blank bs; width = width })) a.text, a)
 
 found_definition : (found other : Outcome ℕ) → SameOutcome found other → FoundAlike (term_definition_by found) (term_definition_by other)
 found_definition found other same =
@@ -160,7 +160,7 @@ first_alike None (Some q) f' g' h h' = absurd h
 first_alike (Some p) None f' g' h h' = absurd h
 first_alike (Some p) (Some q) f' g' h h' = h
 
-begun_alike : (asked : Extensions) (indent : ℕ) (s t : LineState) → Alike s t → FoundAlike (begun_behind asked indent s) (begun_behind asked indent t)
+begun_alike : (asked : Extensions) (indent : ℕ) (s t : LineState) → Alike s t → FoundAlike (begun_after asked indent s) (begun_after asked indent t)
 begun_alike asked indent s t a =
     either_found (indent == 4) (indent == 4) None None _ _ refl tt
     (either_found (begins_with (λ b. b == greater_than_sign) (unscanned s)) (begins_with (λ b. b == greater_than_sign) (unscanned t))
@@ -173,7 +173,7 @@ begun_alike asked indent s t a =
 
 pub same_begun : (asked : Extensions) (s t : LineState) → Alike s t → FoundAlike (begun_at asked s) (begun_at asked t)
 same_begun asked s t a =
-    subst (λ n. FoundAlike (begun_at asked s) (begun_behind asked n (after_space 4 t))) (same_space s t a 4)
+    subst (λ n. FoundAlike (begun_at asked s) (begun_after asked n (after_space 4 t))) (same_space s t a 4)
     (begun_alike asked (space_within 4 s) (after_space 4 s) (after_space 4 t) (space_alike s t a 4))
 
 pub same_opens : (asked : Extensions) (begun : List Container) (s t after : LineState) → Alike s t → Opens asked s begun after
@@ -186,15 +186,15 @@ same_opens asked (c ∷ begun) s t after a o =
     (more.0, (next.0, next.1, more.1), more.2)
 
 -- the containers that the line goes on with there
-either_place : (b c : Bool) (f g f' g' : Option LineState) → b ≡ c → PlaceAlike f g → PlaceAlike f' g'
+either_offset : (b c : Bool) (f g f' g' : Option LineState) → b ≡ c → PlaceAlike f g → PlaceAlike f' g'
     → PlaceAlike (if b then f else f') (if c then g else g')
-either_place true c f g f' g' same h h' = rw (← same) h
-either_place false c f g f' g' same h h' = rw (← same) h'
+either_offset true c f g f' g' same h h' = rw (← same) h
+either_offset false c f g f' g' same h h' = rw (← same) h'
 
-behind_alike : (indent : ℕ) (s t : LineState) → Alike s t → PlaceAlike (behind_quote indent s) (behind_quote indent t)
-behind_alike indent s t a =
-    either_place (indent == 4) (indent == 4) None None _ _ refl tt
-    (either_place (begins_with (λ b. b == greater_than_sign) (unscanned s)) (begins_with (λ b. b == greater_than_sign) (unscanned t))
+after_alike : (indent : ℕ) (s t : LineState) → Alike s t → PlaceAlike (past_quote indent s) (past_quote indent t)
+after_alike indent s t a =
+    either_offset (indent == 4) (indent == 4) None None _ _ refl tt
+    (either_offset (begins_with (λ b. b == greater_than_sign) (unscanned s)) (begins_with (λ b. b == greater_than_sign) (unscanned t))
     (Some (after_quote s)) (Some (after_quote t)) None None (same_quote s t a) (quote_alike s t a) tt)
 
 quoted_alike : (f g : Option LineState) → PlaceAlike f g → FoundAlike (within_quote f) (within_quote g)
@@ -212,11 +212,11 @@ same_width begun width false s t a =
 
 same_within : (c : Container) (blank : Bool) (s t : LineState) → Alike s t → FoundAlike (within c blank s) (within c blank t)
 same_within Quote blank s t a =
-    subst (λ n. FoundAlike (within Quote blank s) (within_quote (behind_quote n (after_space 4 t)))) (same_space s t a 4)
-    (quoted_alike _ _ (behind_alike (space_within 4 s) (after_space 4 s) (after_space 4 t) (space_alike s t a 4)))
-same_within (Item item) blank s t a = same_width item.begun item.width blank s t a
+    subst (λ n. FoundAlike (within Quote blank s) (within_quote (past_quote n (after_space 4 t)))) (same_space s t a 4)
+    (quoted_alike _ _ (after_alike (space_within 4 s) (after_space 4 s) (after_space 4 t) (space_alike s t a 4)))
+same_within (Item item) blank s t a = same_width item.starts_blank item.width blank s t a
 same_within Footnote blank s t a = same_width false 4 blank s t a
-same_within (TermDefinition definition) blank s t a = same_width definition.begun definition.width blank s t a
+same_within (TermDefinition definition) blank s t a = same_width definition.starts_blank definition.width blank s t a
 
 abbrev Go : List Container → Type 0
 Go inner = (blank : Bool) (s t : LineState) → Alike s t → ((go_on blank inner s).kept ≡ (go_on blank inner t).kept)

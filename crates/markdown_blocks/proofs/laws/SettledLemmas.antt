@@ -16,9 +16,9 @@ use Rattle.markdown_scanners_tree.proofs.PrefixLemmas.{both_true}
 use Rattle.markdown_scanners_tree.proofs.line.ColumnLemmas.{below-cons, bool_cases, none_below}
 use Rattle.markdown_blocks.specs.blank_lines.BlankLines.{is_blank}
 use Rattle.markdown_blocks.specs.containers.Containers.{Opens, all_containers, begun_at, extension_of, footnote_by, footnote_of, go_on}
-use Rattle.markdown_blocks.specs.containers.Containers.{item_of, settled, settled_last, term_definition_by, term_definition_of, within}
+use Rattle.markdown_blocks.specs.containers.Containers.{item_of, past_first_line, last_past_first_line, term_definition_by, term_definition_of, within}
 use Rattle.markdown_blocks.specs.containers.Containers.{within_width, without_terms}
-use Rattle.markdown_blocks.specs.containers.Footnotes.{behind_footnote, footnote_label}
+use Rattle.markdown_blocks.specs.containers.Footnotes.{past_footnote, footnote_label}
 use Rattle.markdown_blocks.specs.containers.ItemMarkers.{item_outcome}
 use Rattle.markdown_values.specs.declared.values.extensions.Extensions.{Extensions}
 use Rattle.markdown_blocks.specs.declared.containers.Container.{Container}
@@ -35,49 +35,49 @@ width_settled false width true s r is = is
 width_settled begun width false s r is = is
 
 within_settled : (c : Container) (blank : Bool) (s : LineState) (r : Bool × LineState) → within c blank s ≡ Some r
-    → within (settled c) blank s ≡ Some r
+    → within (past_first_line c) blank s ≡ Some r
 within_settled Quote blank s r is = is
 within_settled Footnote blank s r is = is
-within_settled (Item item) blank s r is = width_settled item.begun item.width blank s r is
-within_settled (TermDefinition definition) blank s r is = width_settled definition.begun definition.width blank s r is
+within_settled (Item item) blank s r is = width_settled item.starts_blank item.width blank s r is
+within_settled (TermDefinition definition) blank s r is = width_settled definition.starts_blank definition.width blank s r is
 
 pub settled_on : (blank : Bool) (outer : List Container) (s : LineState)
-    → (go_on blank (map settled (take (go_on blank outer s).kept outer)) s).state ≡ (go_on blank outer s).state
+    → (go_on blank (map past_first_line (take (go_on blank outer s).kept outer)) s).state ≡ (go_on blank outer s).state
 settled_on blank [] s = refl
 settled_on blank (c ∷ inner) s = by (within c blank s) refl (λ b t. settled_on b inner t)
   where
     by : (found : Option (Bool × LineState)) → within c blank s ≡ found
-        → ((b : Bool) (t : LineState) → (go_on b (map settled (take (go_on b inner t).kept inner)) t).state ≡ (go_on b inner t).state)
-        → (go_on blank (map settled (take (step_on inner s found).kept (c ∷ inner))) s).state ≡ (step_on inner s found).state
+        → ((b : Bool) (t : LineState) → (go_on b (map past_first_line (take (go_on b inner t).kept inner)) t).state ≡ (go_on b inner t).state)
+        → (go_on blank (map past_first_line (take (step_on inner s found).kept (c ∷ inner))) s).state ≡ (step_on inner s found).state
     by None is later = refl
     by (Some r) is later =
-        ap (λ f. (step_on (map settled (take (go_on r.0 inner r.1).kept inner)) s f).state) (within_settled c blank s r is) ∙ later r.0 r.1
+        ap (λ f. (step_on (map past_first_line (take (go_on r.0 inner r.1).kept inner)) s f).state) (within_settled c blank s r is) ∙ later r.0 r.1
 
-settled_twice : (c : Container) → settled (settled c) ≡ settled c
+settled_twice : (c : Container) → past_first_line (past_first_line c) ≡ past_first_line c
 settled_twice Quote = refl
 settled_twice Footnote = refl
 settled_twice (Item item) = refl
 settled_twice (TermDefinition definition) = refl
 
-pub last_settled : (outer : List Container) → map settled (settled_last outer) ≡ map settled outer
+pub last_settled : (outer : List Container) → map past_first_line (last_past_first_line outer) ≡ map past_first_line outer
 last_settled [] = refl
 last_settled (c ∷ []) = ap (λ d. d ∷ []) (settled_twice c)
-last_settled (c ∷ d ∷ outer) = ap (λ cs. settled c ∷ cs) (last_settled (d ∷ outer))
+last_settled (c ∷ d ∷ outer) = ap (λ cs. past_first_line c ∷ cs) (last_settled (d ∷ outer))
 
 -- ---- all are so
 
 abbrev pub AreSettled : List Container → Type 0
-AreSettled outer = AllByRecursion (λ c. settled c ≡ c) outer
+AreSettled outer = AllByRecursion (λ c. past_first_line c ≡ c) outer
 
-pub all_settled : (outer : List Container) → AreSettled outer → map settled outer ≡ outer
+pub all_settled : (outer : List Container) → AreSettled outer → map past_first_line outer ≡ outer
 all_settled [] all = refl
-all_settled (c ∷ outer) all = ap (λ d. d ∷ map settled outer) all.0 ∙ ap (λ cs. c ∷ cs) (all_settled outer all.1)
+all_settled (c ∷ outer) all = ap (λ d. d ∷ map past_first_line outer) all.0 ∙ ap (λ cs. c ∷ cs) (all_settled outer all.1)
 
 -- all but the last
 abbrev pub FrontSettled : List Container → Type 0
 FrontSettled [] = ⊤
 FrontSettled (c ∷ []) = ⊤
-FrontSettled (c ∷ d ∷ outer) = (settled c ≡ c) × FrontSettled (d ∷ outer)
+FrontSettled (c ∷ d ∷ outer) = (past_first_line c ≡ c) × FrontSettled (d ∷ outer)
 
 front_take : (n : ℕ) (outer : List Container) → FrontSettled outer → FrontSettled (take n outer)
 front_take zero outer front = tt
@@ -90,12 +90,12 @@ front_take (suc n) (c ∷ []) front = by n
 front_take (suc zero) (c ∷ d ∷ outer) front = tt
 front_take (suc (suc n)) (c ∷ d ∷ outer) front = (front.0, front_take (suc n) (d ∷ outer) front.1)
 
-last_too : (outer : List Container) → FrontSettled outer → AreSettled (settled_last outer)
+last_too : (outer : List Container) → FrontSettled outer → AreSettled (last_past_first_line outer)
 last_too [] front = tt
 last_too (c ∷ []) front = (settled_twice c, tt)
 last_too (c ∷ d ∷ outer) front = (front.0, last_too (d ∷ outer) front.1)
 
-pub kept_settled : (n : ℕ) (outer : List Container) → FrontSettled outer → AreSettled (settled_last (take n outer))
+pub kept_settled : (n : ℕ) (outer : List Container) → FrontSettled outer → AreSettled (last_past_first_line (take n outer))
 kept_settled n outer front = last_too (take n outer) (front_take n outer front)
 
 pub both_settled : (outer inner : List Container) → AreSettled outer → AreSettled inner → AreSettled (outer ++ inner)
@@ -109,15 +109,15 @@ front_both (c ∷ []) (d ∷ inner) all front = (all.0, front)
 front_both (c ∷ d ∷ outer) inner all front = (all.0, front_both (d ∷ outer) inner all.1 front)
 
 -- the last of such containers, and of those that are left of others with such after them
-settled_end : (outer : List Container) → AreSettled outer → settled_last outer ≡ outer
+settled_end : (outer : List Container) → AreSettled outer → last_past_first_line outer ≡ outer
 settled_end [] all = refl
 settled_end (c ∷ []) all = ap (λ d. d ∷ []) all.0
 settled_end (c ∷ d ∷ outer) all = ap (λ cs. c ∷ cs) (settled_end (d ∷ outer) all.1)
 
-pub settled_again : (outer inner : List Container) → AreSettled inner → settled_last (settled_last outer ++ inner) ≡ settled_last outer ++ inner
+pub settled_again : (outer inner : List Container) → AreSettled inner → last_past_first_line (last_past_first_line outer ++ inner) ≡ last_past_first_line outer ++ inner
 settled_again [] inner all = settled_end inner all
 settled_again (c ∷ []) [] all = ap (λ d. d ∷ []) (settled_twice c)
-settled_again (c ∷ []) (d ∷ inner) all = ap (λ cs. settled c ∷ cs) (settled_end (d ∷ inner) all)
+settled_again (c ∷ []) (d ∷ inner) all = ap (λ cs. past_first_line c ∷ cs) (settled_end (d ∷ inner) all)
 settled_again (c ∷ d ∷ []) inner all = ap (λ cs. c ∷ cs) (settled_again (d ∷ []) inner all)
 settled_again (c ∷ d ∷ e ∷ outer) inner all = ap (λ cs. c ∷ cs) (settled_again (d ∷ e ∷ outer) inner all)
 
@@ -140,10 +140,10 @@ blank_below (b ∷ bs) c k blank =
           subst (λ n. is_blank (drop n (b ∷ bs)) ≡ true) (sym more) (blank_below bs (column_after c b) k (blank_tail b bs goes blank)))
     ])
 
-pub blank_behind : (n : ℕ) (s : LineState) → is_blank (unscanned s) ≡ true → is_blank (unscanned (after_space n s)) ≡ true
-blank_behind n s blank =
+pub blank_after : (n : ℕ) (s : LineState) → is_blank (unscanned s) ≡ true → is_blank (unscanned (after_space n s)) ≡ true
+blank_after n s blank =
     let m = bytes_for (space_within n s) s in
-    subst (λ (t : List ℕ). is_blank t ≡ true) (drop-drop m s.place s.bytes)
+    subst (λ (t : List ℕ). is_blank t ≡ true) (drop-drop m s.offset s.bytes)
     (blank_below (unscanned s) s.phase (s.phase + space_within n s - s.pending) blank)
 
 -- no marker stands in a blank rest
@@ -186,7 +186,7 @@ none_in_blank (b ∷ bs) blank =
 
 pub none_begins : (s : LineState) (r : Container × LineState) → is_blank (unscanned s) ≡ true → ¬ (begun_at all_containers s ≡ Some r)
 none_begins s r blank is =
-    let none = none_in_blank (unscanned (after_space 4 s)) (blank_behind 4 s blank) in
+    let none = none_in_blank (unscanned (after_space 4 s)) (blank_after 4 s blank) in
     bool_cases (space_within 4 s == 4)
     (λ far. let no : ◌≡◌ {A = Option (Container × LineState)} None (Some r) = rw far at is in cc)
     (λ few. let no : ◌≡◌ {A = Option (Container × LineState)} None (Some r) =
@@ -194,25 +194,25 @@ none_begins s r blank is =
 
 -- a container whose rest is not blank
 abbrev IsFilled : Container × LineState → Type 0
-IsFilled r = is_blank (unscanned r.1) ≡ false → settled r.0 ≡ r.0
+IsFilled r = is_blank (unscanned r.1) ≡ false → past_first_line r.0 ≡ r.0
 
 item_filled : (answer : Option (ℕ × ℕ × ℕ)) (after : LineState) (r : Container × LineState)
     → item_of (record { answer = answer; state = after }) ≡ Some r → IsFilled r
 item_filled None after r is = cc
 item_filled (Some a) after r is =
-    one_is IsFilled (Item (record { delimiter = a.0; start = a.1; width = a.2; begun = is_blank (unscanned after) }), after) r is
-    (λ full. ap (λ b. Item (record { delimiter = a.0; start = a.1; width = a.2; begun = b })) (sym full))
+    one_is IsFilled (Item (record { delimiter = a.0; start = a.1; width = a.2; starts_blank = is_blank (unscanned after) }), after) r is
+    (λ full. ap (λ b. Item (record { delimiter = a.0; start = a.1; width = a.2; starts_blank = b })) (sym full))
 
 label_filled : (t : LineState) (label : Option (List ℕ)) (r : Container × LineState) → footnote_by t label ≡ Some r → IsFilled r
 label_filled t None r is = cc
-label_filled t (Some l) r is = one_is IsFilled (Footnote, behind_footnote l t) r is (λ full. refl)
+label_filled t (Some l) r is = one_is IsFilled (Footnote, past_footnote l t) r is (λ full. refl)
 
 definition_filled : (answer : Option ℕ) (after : LineState) (r : Container × LineState)
     → term_definition_by (record { answer = answer; state = after }) ≡ Some r → IsFilled r
 definition_filled None after r is = cc
 definition_filled (Some width) after r is =
-    one_is IsFilled (TermDefinition (record { begun = is_blank (unscanned after); width = width }), after) r is
-    (λ full. ap (λ b. TermDefinition (record { begun = b; width = width })) (sym full))
+    one_is IsFilled (TermDefinition (record { starts_blank = is_blank (unscanned after); width = width }), after) r is
+    (λ full. ap (λ b. TermDefinition (record { starts_blank = b; width = width })) (sym full))
 
 begun_filled : (s : LineState) (r : Container × LineState) → begun_at all_containers s ≡ Some r → IsFilled r
 begun_filled s =

@@ -10,13 +10,13 @@ use Rattle.markdown_scanners_tree.specs.line.ItemRules.{start_of}
 use Rattle.markdown_scanners_tree.specs.line.Outcome.{after_quote, definition_outcome}
 use Rattle.markdown_scanners_tree.specs.line.State.{LineState, unscanned, space_within, after_space}
 use Rattle.markdown_blocks.specs.blank_lines.BlankLines.{is_blank}
-use Rattle.markdown_blocks.specs.blocks.Leaves.{IsBlank, In, OnFirst, OutOr, IsLeaf}
-use Rattle.markdown_blocks.specs.blocks.Pages.{Piece, lines_in, root, containers_of, outer_of, open_behind, is_blank_kind, is_blank_between}
+use Rattle.markdown_blocks.specs.blocks.Leaves.{IsBlank, In, OnFirst, OutOr, IsLeaf, IsLeafAfter}
+use Rattle.markdown_blocks.specs.blocks.Pages.{Piece, lines_in, root, containers_of, outer_of, opened_by, is_blank_kind, is_blank_between}
 use Rattle.markdown_blocks.specs.blocks.Pages.{AreOpened, IsPiece, AreBlocks, IsPage}
-use Rattle.markdown_blocks.specs.containers.Containers.{Between, rest_at, asked_first, asked_between, begun_at, behind, extension_of}
+use Rattle.markdown_blocks.specs.containers.Containers.{Between, rest_at, asked_first, asked_between, begun_at, match_line, extension_of}
 use Rattle.markdown_blocks.specs.containers.Containers.{footnote_by, footnote_of, go_on, item_of, rest_in, term_definition_by, term_definition_of}
 use Rattle.markdown_blocks.specs.containers.Containers.{within, without_terms, Opens}
-use Rattle.markdown_blocks.specs.containers.Footnotes.{behind_footnote, footnote_label}
+use Rattle.markdown_blocks.specs.containers.Footnotes.{past_footnote, footnote_label}
 use Rattle.markdown_blocks.specs.containers.ItemMarkers.{item_outcome}
 use Rattle.markdown_blocks.specs.declared.blocks.BlockKind.{BlockKind}
 use Rattle.markdown_blocks.specs.declared.blocks.BlockKind.TheVariants.{Blank, Break, Heading, Setext, Indented}
@@ -25,7 +25,8 @@ use Rattle.markdown_values.specs.declared.values.extensions.Extensions.{Extensio
 use Rattle.markdown_blocks.specs.declared.containers.Container.{Container}
 use Rattle.markdown_blocks.specs.declared.containers.Container.TheVariants.{Quote, Item, Footnote, TermDefinition}
 use Rattle.markdown_blocks.specs.laws.Terms.{open_after, EndWithTerm, IsOneBlankLine, TermStands, FollowsTerm}
-use Rattle.markdown_blocks.specs.laws.Terms.{AreNoDefinitions, BeginBehindTerm, HaveTerms}
+use Rattle.markdown_blocks.specs.laws.Terms.{AreNoDefinitions, BeginAfterTerm, HaveTerms}
+use Rattle.markdown_blocks.proofs.blocks.AfterLemmas.{blank_kind}
 use Rattle.markdown_blocks.proofs.containers.ContainerLemmas.{step_on}
 use Rattle.markdown_blocks.proofs.events.EventLemmas.{kept_fewer}
 use Rattle.markdown_blocks.proofs.events.LabelLemmas.{one_is, either_is, begun_is}
@@ -52,7 +53,7 @@ module _ (asked : Extensions) where
 
   label_asks : (t : LineState) (label : Option (List ℕ)) (r : Container × LineState) → footnote_by t label ≡ Some r → Asked r
   label_asks t None r is = cc
-  label_asks t (Some l) r is = one_is Asked (Footnote, behind_footnote l t) r is tt
+  label_asks t (Some l) r is = one_is Asked (Footnote, past_footnote l t) r is tt
 
   footnote_asks : (on : Bool) (t : LineState) (label : Option (List ℕ)) (r : Container × LineState)
       → (if on then footnote_by t label else None) ≡ Some r → Asked r
@@ -93,7 +94,7 @@ follows_by asked term before (Item item ∷ ended) stands on = cc
 follows_by asked term before (Footnote ∷ ended) stands on = cc
 
 begin_by : (asked : Extensions) (term : Bool) (before : List Piece) (ended : List Container) → (IsTrue term → TermStands before) → (s : LineState)
-    (cs : List Container) (after : LineState) → Opens (asked_first asked term ended) s cs after → BeginBehindTerm before ended cs
+    (cs : List Container) (after : LineState) → Opens (asked_first asked term ended) s cs after → BeginAfterTerm before ended cs
 begin_by asked term before ended stands s [] after o = tt
 begin_by asked term before ended stands s (Quote ∷ cs) after o = none_inside (asked_first asked term ended) o.0 cs after o.2
 begin_by asked term before ended stands s (Item item ∷ cs) after o = none_inside (asked_first asked term ended) o.0 cs after o.2
@@ -112,9 +113,9 @@ kept_most blank (c ∷ cs) s = by (within c blank s) (λ b t. kept_most b cs t)
     by None more = omega arith
     by (Some r) more = let few = more r.0 r.1 in omega (arith, few)
 
-module _ (before : Between) (piece : Piece) (opened : AreOpened before piece.first piece.kept piece.begun piece.words) where
+module _ (before : Between) (piece : Piece) (opened : AreOpened before false piece.first piece.kept piece.begun piece.words) where
   abbrev count : ℕ
-  count = (behind before.containers piece.first).kept
+  count = (match_line before.containers piece.first).kept
 
   kept_is : length piece.kept ≡ count
   kept_is =
@@ -126,12 +127,26 @@ module _ (before : Between) (piece : Piece) (opened : AreOpened before piece.fir
   blank_in : piece.kind ≡ Blank → (rest : List (List ℕ)) → IsLeaf (outer_of before piece) piece.kind piece.words piece.later rest
       → length piece.kept ≡ length before.containers → piece.begun ≡ [] → In before.containers IsBlank piece.first
   blank_in kind rest leaf all none =
-      let opens : Opens (asked_between before piece.first) (behind before.containers piece.first).state [] opened.place =
-      subst (λ cs. Opens (asked_between before piece.first) (behind before.containers piece.first).state cs opened.place) none opened.begins in
+      let opens : Opens (asked_between before piece.first) (match_line before.containers piece.first).state [] opened.position =
+      subst (λ cs. Opens (asked_between before piece.first) (match_line before.containers piece.first).state cs opened.position) none opened.begins in
       let words : piece.words ≡ rest_in before.containers piece.first = opened.is_rest ∙ ap rest_at opens.1 in
       let blank : IsLeaf (outer_of before piece) Blank piece.words piece.later rest =
       subst (λ k. IsLeaf (outer_of before piece) k piece.words piece.later rest) kind leaf in
       (sym kept_is ∙ all, subst IsBlank words blank.0)
+
+-- the containers that its first line begins
+begin_piece : (header : Bool) (before : Between) (piece : Piece) → AreOpened before header piece.first piece.kept piece.begun piece.words
+    → (done : List Piece) → before.containers ≡ open_after done → (IsTrue before.term → TermStands done)
+    → BeginAfterTerm done (drop (length piece.kept) (open_after done)) piece.begun
+begin_piece true before piece opened done same stands =
+    subst (BeginAfterTerm done (drop (length piece.kept) (open_after done))) (sym opened.begins.0) tt
+begin_piece false before piece opened done same stands =
+    let kept = (match_line before.containers piece.first).kept in
+    let here = begin_by before.extensions before.term done (drop kept before.containers) stands
+    (match_line before.containers piece.first).state piece.begun opened.position opened.begins in
+    let ended : drop kept before.containers ≡ drop (length piece.kept) (open_after done) =
+    ap (λ n. drop n before.containers) (sym (kept_is before piece opened)) ∙ ap (drop (length piece.kept)) same in
+    subst (λ cs. BeginAfterTerm done cs piece.begun) ended here
 
 -- the first of these lines is not blank in the containers of the last block, if that is blank
 abbrev BlankEnds : List Piece → List (List ℕ) → Type 0
@@ -178,17 +193,20 @@ single_of outer piece h =
     (is_blank_of piece.kind p.0, none_of piece.later p.1, eqb-true (length piece.kept) (length outer) p.2, none_of piece.begun p.3)
 
 -- blocks after these ones
-stands_behind : (done : List Piece) (before : Between) (piece : Piece) (rest : List (List ℕ)) → before.containers ≡ open_after done
+stands_after : (done : List Piece) (before : Between) (piece : Piece) (rest : List (List ℕ)) → before.containers ≡ open_after done
     → (IsTrue before.term → TermStands done) → BlankEnds done (piece.first ∷ (piece.later ++ rest)) → IsPiece before piece rest
-    → IsTrue (open_behind before piece).term → TermStands (piece ∷ done)
-stands_behind done before piece rest same stands ends p = by piece.term before.term refl refl
+    → IsTrue (opened_by before piece).term → TermStands (piece ∷ done)
+stands_after done before piece rest same stands ends p = by piece.term before.term refl refl
   where
     by : (term stood : Bool) → piece.term ≡ term → before.term ≡ stood → IsTrue (term || (stood && is_blank_between before.containers piece))
         → TermStands (piece ∷ done)
     by true stood is was t = let given = p.is_term.0 is in inl (given.1, given.2)
     by false true is was t =
         let single = single_of before.containers piece t in
-        let blank = blank_in before piece p.opened single.0 rest p.leaf single.2 single.3 in (
+        let plain = blank_kind piece.header (outer_of before piece) piece.kind piece.words piece.later rest single.0 p.leaf in
+        let opened = subst (λ h. AreOpened before h piece.first piece.kept piece.begun piece.words) plain.0 p.opened in
+        let leaf = subst (λ k. IsLeaf (outer_of before piece) k piece.words piece.later rest) (sym single.0) plain.1 in
+        let blank = blank_in before piece opened single.0 rest leaf single.2 single.3 in (
         inr (
           subst (λ cs. IsOneBlankLine cs piece) same single,
           one_blank done piece.first (piece.later ++ rest) ends (subst (λ cs. In cs IsBlank piece.first) same blank) (stands was),
@@ -202,22 +220,17 @@ have_terms done before [] rest same stands ends each = tt
 have_terms done before (piece ∷ later) rest same stands ends each =
     let p = each.0 in
     let joined : lines_in (piece ∷ later) ++ rest ≡ piece.first ∷ (piece.later ++ (lines_in later ++ rest)) =
-    append_assoc (piece.first ∷ piece.later) (lines_in later) rest in
-    let here = begin_by before.extensions before.term done (drop (behind before.containers piece.first).kept before.containers) stands
-    (behind before.containers piece.first).state piece.begun p.opened.place p.opened.begins in
-    let ended : drop (behind before.containers piece.first).kept before.containers ≡ drop (length piece.kept) (open_after done) =
-    ap (λ n. drop n before.containers) (sym (kept_is before piece p.opened)) ∙ ap (drop (length piece.kept)) same in (
-      subst (λ cs. BeginBehindTerm done cs piece.begun) ended here,
-      have_terms (piece ∷ done) (open_behind before piece) later rest refl
-          (stands_behind done before piece (lines_in later ++ rest) same stands (subst (BlankEnds done) joined ends) p)
+    append_assoc (piece.first ∷ piece.later) (lines_in later) rest in (
+      begin_piece piece.header before piece p.opened done same stands,
+      have_terms (piece ∷ done) (opened_by before piece) later rest refl
+          (stands_after done before piece (lines_in later ++ rest) same stands (subst (BlankEnds done) joined ends) p)
           (blank_ends piece (lines_in later ++ rest) p.leaf) each.1,
     )
   where
-    blank_ends : (piece : Piece) (rest : List (List ℕ)) → IsLeaf (outer_of before piece) piece.kind piece.words piece.later rest → piece.kind ≡ Blank
-        → OnFirst (OutOr (containers_of piece) (λ r. ¬ IsBlank r)) rest
+    blank_ends : (piece : Piece) (rest : List (List ℕ)) → IsLeafAfter piece.header (outer_of before piece) piece.kind piece.words piece.later rest
+        → piece.kind ≡ Blank → OnFirst (OutOr (containers_of piece) (λ r. ¬ IsBlank r)) rest
     blank_ends piece rest leaf kind =
-        let blank : IsLeaf (outer_of before piece) Blank piece.words piece.later rest =
-        subst (λ k. IsLeaf (outer_of before piece) k piece.words piece.later rest) kind leaf in blank.1.stopped
+        let blank = (blank_kind piece.header (outer_of before piece) piece.kind piece.words piece.later rest kind leaf).1 in blank.1.stopped
 
 -- On each page a definition of a term begins after the term, or after another definition of it.
 pub definitions_have_terms : (asked : Extensions) (text : List ℕ) (pieces : List Piece) → IsPage asked text pieces → HaveTerms [] pieces

@@ -19,10 +19,10 @@ all_unmapped P f xs all k d inside =
 -- a definition that is found is among them
 among_found : (known : Known) (key : List ℕ) (target : LentTarget) → lookup (bytes_eq key) known ≡ Some target → IsAmong known (key, target)
 among_found known key target found =
-    let place = place_from_lookup (bytes_eq key) known target found in
-    let same : key ≡ place.1 = (bytes_eq-Decides key place.1).0 place.3 in
-    let there = subst (λ (k : List ℕ). slice_get known place.0 ≡ Some (k, target)) (sym same) place.2 in
-    (place.0, (slice_get_within known place.0 (key, target) there, sym (get_or_from_slice_get known place.0 (key, target) (key, target) there)))
+    let offset = place_from_lookup (bytes_eq key) known target found in
+    let same : key ≡ offset.1 = (bytes_eq-Decides key offset.1).0 offset.3 in
+    let there = subst (λ (k : List ℕ). slice_get known offset.0 ≡ Some (k, target)) (sym same) offset.2 in
+    (offset.0, (slice_get_within known offset.0 (key, target) there, sym (get_or_from_slice_get known offset.0 (key, target) (key, target) there)))
 
 -- and so is one that leads to a target
 pub among_target : (known : Known) (key : List ℕ) (target : Target) → leads known key ≡ Some target

@@ -36,8 +36,8 @@ longer None blank child = None
 longer (Some list) blank child = Some (record list { is_loose = (list.is_loose || blank) || child.is_parted; end = child.end })
 
 -- Items that follow each other, of one bullet or delimiter, are a list: it goes on with the next block or that begins anew.
-abbrev pub list_behind : ℕ → Option ListBlock → Bool → Child → Option ListBlock
-list_behind depth list blank child =
+abbrev pub list_after : ℕ → Option ListBlock → Bool → Child → Option ListBlock
+list_after depth list blank child =
     if is_item_of list child.container then longer list blank child else item_list depth child child.container
 
 -- the list, unless the next block goes on with it
@@ -49,13 +49,13 @@ list_before list child = if is_item_of list child.container then None else list
 abbrev pub lists_followed : ℕ → Option ListBlock → Bool → List Child → List ListBlock
 lists_followed depth list blank [] = option_to_list list
 lists_followed depth list blank (child ∷ later) =
-    option_to_list (list_before list child) ++ child.inside ++ lists_followed depth (list_behind depth list blank child) child.is_blank later
+    option_to_list (list_before list child) ++ child.inside ++ lists_followed depth (list_after depth list blank child) child.is_blank later
 
 -- a blank line stands between two of the blocks, which are in no list together
 abbrev pub parted_followed : ℕ → Option ListBlock → Bool → List Child → Bool
 parted_followed depth list blank [] = false
 parted_followed depth list blank (child ∷ later) =
-    (blank && not (is_item_of list child.container)) || parted_followed depth (list_behind depth list blank child) child.is_blank later
+    (blank && not (is_item_of list child.container)) || parted_followed depth (list_after depth list blank child) child.is_blank later
 
 module _ (depth : ℕ) where
   loose_more : (first : Child) (more : List Child) (child : Child)
@@ -166,9 +166,9 @@ module _ (depth : ℕ) where
   lists_are_followed content = same_lists content [] false refl
 
   -- what goes on with a block's list is alike
-  item_behind : (list : Option ListBlock) (blank : Bool) (child : Child) (c : Option Container)
-      → is_item_of (list_behind depth list blank child) c ≡ are_alike child.container c
-  item_behind list blank child c = by_case (is_item_of list child.container) refl
+  item_after : (list : Option ListBlock) (blank : Bool) (child : Child) (c : Option Container)
+      → is_item_of (list_after depth list blank child) c ≡ are_alike child.container c
+  item_after list blank child c = by_case (is_item_of list child.container) refl
     where
       longer_alike : (list : Option ListBlock) (one other : Option Container) → is_item_of list one ≡ true
           → is_item_of (longer list blank child) other ≡ are_alike one other
@@ -188,15 +188,15 @@ module _ (depth : ℕ) where
       by_case true is = longer_alike list child.container c is
       by_case false is = ap (λ l. is_item_of l c) (list_alone child.container child) ∙ item_of_list child.container c child []
 
-  parted_behind : (later : List Child) (child : Child) (list : Option ListBlock)
+  parted_after : (later : List Child) (child : Child) (list : Option ListBlock)
       → ((c : Option Container) → is_item_of list c ≡ are_alike child.container c)
       → parted_followed depth list child.is_blank later ≡ are_parted (child ∷ later)
-  parted_behind [] child list alike = refl
-  parted_behind (next ∷ later) child list alike =
-      ap (λ b. (child.is_blank && not b) || parted_followed depth (list_behind depth list child.is_blank next) next.is_blank later) (alike next.container)
+  parted_after [] child list alike = refl
+  parted_after (next ∷ later) child list alike =
+      ap (λ b. (child.is_blank && not b) || parted_followed depth (list_after depth list child.is_blank next) next.is_blank later) (alike next.container)
       ∙ ap (λ b. (child.is_blank && not (are_alike child.container next.container)) || b)
-      (parted_behind later next (list_behind depth list child.is_blank next) (item_behind list child.is_blank next))
+      (parted_after later next (list_after depth list child.is_blank next) (item_after list child.is_blank next))
 
   pub parted_is_followed : (content : List Child) → parted_followed depth None false content ≡ are_parted content
   parted_is_followed [] = refl
-  parted_is_followed (child ∷ later) = parted_behind later child (list_behind depth None false child) (item_behind None false child)
+  parted_is_followed (child ∷ later) = parted_after later child (list_after depth None false child) (item_after None false child)

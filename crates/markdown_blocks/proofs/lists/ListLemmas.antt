@@ -10,13 +10,13 @@ use Rattle.markdown_blocks.specs.declared.lists.OpenList.{OpenList}
 use Rattle.markdown_blocks.specs.events.Events.{Event, ends, LeafBlock}
 use Rattle.markdown_blocks.specs.lists.Lists.{Nodes, nothing, leaf_then, container_then}
 use Rattle.markdown_blocks.specs.blocks.Pages.{is_blank_kind}
-use Rattle.markdown_blocks.specs.lists.Lists.{flatten, line_behind, lines_passed, begins_blank}
+use Rattle.markdown_blocks.specs.lists.Lists.{flatten, next_line, lines_passed, begins_blank}
 use Rattle.markdown_blocks.specs.lists.Lists.{Child, ends_blank, last_end}
-use Rattle.markdown_blocks.proofs.lists.Followed.{is_item_of, item_list, longer, list_behind, list_before, lists_followed, parted_followed}
+use Rattle.markdown_blocks.proofs.lists.Followed.{is_item_of, item_list, longer, list_after, list_before, lists_followed, parted_followed}
 use Rattle.markdown_blocks.proofs.lists.Followed.{lists_are_followed, parted_is_followed}
 use Rattle.markdown_blocks.specs.lists.Lists.{end_of, ends_blank_line, leaf_child, container_child, child_unless, children, lists_of}
 use Rattle.markdown_blocks.specs.lists.Tracked.{at_start, Tracked, list_now, joins, loosened}
-use Rattle.markdown_blocks.specs.lists.Tracked.{list_begun, begun, ends_with_block, level_within, leaf_read, lists_behind}
+use Rattle.markdown_blocks.specs.lists.Tracked.{list_begun, begun, ends_with_block, level_within, leaf_read, lists_given}
 
 or_false : (b : Bool) → (b || false) ≡ b
 or_false true = refl
@@ -63,7 +63,7 @@ tail (level ∷ outer) later = ends ∷ later
 abbrev lists_after : List Level → ℕ → ℕ → Bool → Bool → Bool → List Event → List ListBlock
 lists_after [] line end blank item parted later = []
 lists_after (level ∷ outer) line end blank item parted later =
-    lists_behind (at line (if item then end else line) (item && blank) false (record level { list = loosened level.list parted }) outer) later
+    lists_given (at line (if item then end else line) (item && blank) false (record level { list = loosened level.list parted }) outer) later
 
 -- the lists of the children that follow, and those after them
 abbrev given : List Level → Option ListBlock → Bool → List Child → ℕ → ℕ → Bool → Bool → List Event → List ListBlock
@@ -75,18 +75,18 @@ given outer list blank later_ones line end item parted later =
 given_one : (outer : List Level) (list : Option ListBlock) (blank : Bool) (child : Child) (others : List Child) (line end : ℕ) (item parted : Bool)
     → (later : List Event)
     → given outer list blank (child ∷ others) line end item parted later
-    ≡ option_to_list (list_before list child) ++ (child.inside ++ given outer (list_behind (length outer) list blank child) child.is_blank others line
+    ≡ option_to_list (list_before list child) ++ (child.inside ++ given outer (list_after (length outer) list blank child) child.is_blank others line
     child.end item (parted || (blank && not (is_item_of list child.container))) later)
 given_one outer list blank child others line end item parted later =
     let before = option_to_list (list_before list child) in
-    let next = list_behind (length outer) list blank child in
+    let next = list_after (length outer) list blank child in
     let among = lists_followed (length outer) next child.is_blank others in
     let parted_later = parted_followed (length outer) next child.is_blank others in
-    let behind : Bool → List ListBlock = λ p. lists_after outer line (last_end child.end others) (ends_blank child.is_blank others) item p later in
-    let together = behind (parted || ((blank && not (is_item_of list child.container)) || parted_later)) in
+    let after : Bool → List ListBlock = λ p. lists_after outer line (last_end child.end others) (ends_blank child.is_blank others) item p later in
+    let together = after (parted || ((blank && not (is_item_of list child.container)) || parted_later)) in
     append_assoc (before ++ child.inside) among together
     ∙ append_assoc before child.inside (among ++ together)
-    ∙ ap (λ p. before ++ (child.inside ++ (among ++ behind p))) (sym (or_assoc parted (blank && not (is_item_of list child.container)) parted_later))
+    ∙ ap (λ p. before ++ (child.inside ++ (among ++ after p))) (sym (or_assoc parted (blank && not (is_item_of list child.container)) parted_later))
 
 -- a blank line stands after the last block, or these nodes begin with one
 abbrev marked : Bool → Bool → Bool → Bool
@@ -146,7 +146,7 @@ blank_is (Item i) content = refl
 -- the lists of nodes, and those after the end of what they stand in
 abbrev AreFound : Nodes → Type 0
 AreFound nodes = (line end : ℕ) (blank fresh item parted : Bool) (list : Option OpenList) (outer : List Level) (later : List Event)
-    → lists_behind (at line end blank fresh (level_of item parted list) outer) (flatten nodes ++ tail outer later)
+    → lists_given (at line end blank fresh (level_of item parted list) outer) (flatten nodes ++ tail outer later)
     ≡ given outer (now list end outer) (marked fresh blank (begins_blank nodes)) (children fresh (length outer) line nodes) (lines_passed line nodes)
     end item parted later
 
@@ -162,16 +162,16 @@ module _ (block : LeafBlock) (nodes : Nodes) (found : AreFound nodes) where
   -- a block, in place of blank lines
   found_block : (line end : ℕ) (blank marked_now item parted : Bool) (list : Option OpenList) (outer : List Level) (later : List Event) → marked_now ≡ blank
       → option_to_list (now list end outer)
-      ++ lists_behind (at (line_behind block) (line_behind block) false false (level_of item (parted || blank) None) outer) (flatten nodes ++ tail outer later)
-      ≡ given outer (now list end outer) marked_now (leaf_child block line (begins_blank nodes) ∷ children false (length outer) (line_behind block) nodes)
-      (lines_passed (line_behind block) nodes) end item parted later
+      ++ lists_given (at (next_line block) (next_line block) false false (level_of item (parted || blank) None) outer) (flatten nodes ++ tail outer later)
+      ≡ given outer (now list end outer) marked_now (leaf_child block line (begins_blank nodes) ∷ children false (length outer) (next_line block) nodes)
+      (lines_passed (next_line block) nodes) end item parted later
   found_block line end blank marked_now item parted list outer later same =
-      let here = line_behind block in
+      let here = next_line block in
       let others = children false (length outer) here nodes in
-      let behind : Bool → List ListBlock = λ b. option_to_list (now list end outer)
+      let after : Bool → List ListBlock = λ b. option_to_list (now list end outer)
       ++ given outer None (begins_blank nodes) others (lines_passed here nodes) here item (parted || b) later in
       ap (λ ls. option_to_list (now list end outer) ++ ls) (found here here false false item (parted || blank) None outer later)
-      ∙ ap behind (sym same ∙ sym (and_true marked_now))
+      ∙ ap after (sym same ∙ sym (and_true marked_now))
       ∙ sym (given_one outer (now list end outer) marked_now (leaf_child block line (begins_blank nodes)) others (lines_passed here nodes) end item parted later)
 
   found_leaf : AreFound (leaf_then block nodes)
@@ -179,21 +179,21 @@ module _ (block : LeafBlock) (nodes : Nodes) (found : AreFound nodes) where
     where
       by_kind : (k fresh : Bool)
           → option_to_list (leaf_read (k && not fresh) block (at line end blank fresh (level_of item parted list) outer)).list
-          ++ lists_behind (leaf_read (k && not fresh) block (at line end blank fresh (level_of item parted list) outer)).state
+          ++ lists_given (leaf_read (k && not fresh) block (at line end blank fresh (level_of item parted list) outer)).state
           (flatten nodes ++ tail outer later)
           ≡ given outer (now list end outer) (marked fresh blank k)
-          (child_unless (k && not fresh) (leaf_child block line (begins_blank nodes)) (children false (length outer) (line_behind block) nodes))
-          (lines_passed (line_behind block) nodes) end item parted later
+          (child_unless (k && not fresh) (leaf_child block line (begins_blank nodes)) (children false (length outer) (next_line block) nodes))
+          (lines_passed (next_line block) nodes) end item parted later
       by_kind true false =
-          found (line_behind block) end true false item parted list outer later
-          ∙ ap (λ b. given outer (now list end outer) b (children false (length outer) (line_behind block) nodes) (lines_passed (line_behind block) nodes) end
+          found (next_line block) end true false item parted list outer later
+          ∙ ap (λ b. given outer (now list end outer) b (children false (length outer) (next_line block) nodes) (lines_passed (next_line block) nodes) end
           item parted later) (sym (or_true blank))
       by_kind true true = found_block line end blank blank item parted list outer later refl
       by_kind false true = found_block line end blank blank item parted list outer later refl
       by_kind false false = found_block line end blank (blank || false) item parted list outer later (or_false blank)
 
-module _ (c : Container) (place : ℕ) (inner nodes : Nodes) (found_in : AreFound inner) (found : AreFound nodes) where
-  found_container : AreFound (container_then c place inner nodes)
+module _ (c : Container) (offset : ℕ) (inner nodes : Nodes) (found_in : AreFound inner) (found : AreFound nodes) where
+  found_container : AreFound (container_then c offset inner nodes)
   found_container line end blank fresh item parted list outer later =
       let marked_now = marked fresh blank false in
       let content = children true (suc (length outer)) line inner in
@@ -203,43 +203,43 @@ module _ (c : Container) (place : ℕ) (inner nodes : Nodes) (found_in : AreFoun
       let far = lines_passed passed nodes in
       let level = begun (level_of item parted list) c blank line in
       let before = option_to_list (if joins list c then None else now list end outer) in
-      let behind = flatten nodes ++ tail outer later in
+      let after = flatten nodes ++ tail outer later in
       let end_now = if ends_with_block c then last_end line content else passed in
       let blank_now = ends_with_block c && ends_blank false content in
       let list_then_now = loosened level.list child.is_parted in
       let among = child.inside in
       let closing : Bool → List ListBlock = λ p.
-      lists_after (level ∷ outer) passed (last_end line content) (ends_blank false content) (ends_with_block c) p behind in
-      let behind_child : Option ListBlock → Bool → ℕ → Bool → List ListBlock = λ o b e q.
+      lists_after (level ∷ outer) passed (last_end line content) (ends_blank false content) (ends_with_block c) p after in
+      let after_child : Option ListBlock → Bool → ℕ → Bool → List ListBlock = λ o b e q.
       given outer o (b || begins_blank nodes) others far e item (parted || q) later in
-      ap (λ es. before ++ lists_behind (at line line false true (level_within c) (level ∷ outer)) es)
+      ap (λ es. before ++ lists_given (at line line false true (level_within c) (level ∷ outer)) es)
       (append_assoc (flatten inner) (ends ∷ flatten nodes) (tail outer later))
-      ∙ ap (λ ls. before ++ ls) (found_in line line false true (ends_with_block c) false None (level ∷ outer) behind)
+      ∙ ap (λ ls. before ++ ls) (found_in line line false true (ends_with_block c) false None (level ∷ outer) after)
       ∙ ap (λ ls. before ++ (ls ++ closing (parted_followed (suc (length outer)) None false content))) (lists_are_followed (suc (length outer)) content)
       ∙ ap (λ p. before ++ (among ++ closing p)) (parted_is_followed (suc (length outer)) content)
       ∙ ap (λ ls. before ++ (among ++ ls)) (found passed end_now blank_now false item level.is_parted list_then_now outer later)
-      ∙ ap (λ e. before ++ (among ++ behind_child (now list_then_now e outer) blank_now e (blank && not (joins list c)))) (end_is c line passed content)
-      ∙ ap (λ b. before ++ (among ++ behind_child (now list_then_now child.end outer) b child.end (blank && not (joins list c)))) (blank_is c content)
-      ∙ ap (λ o. before ++ (among ++ behind_child o (ends_blank_line c content) child.end (blank && not (joins list c))))
+      ∙ ap (λ e. before ++ (among ++ after_child (now list_then_now e outer) blank_now e (blank && not (joins list c)))) (end_is c line passed content)
+      ∙ ap (λ b. before ++ (among ++ after_child (now list_then_now child.end outer) b child.end (blank && not (joins list c)))) (blank_is c content)
+      ∙ ap (λ o. before ++ (among ++ after_child o (ends_blank_line c content) child.end (blank && not (joins list c))))
       (list_then c list blank outer end child)
-      ∙ ap (λ j. before ++ (among ++ behind_child (list_behind (length outer) (now list end outer) blank child) (ends_blank_line c content) child.end
+      ∙ ap (λ j. before ++ (among ++ after_child (list_after (length outer) (now list end outer) blank child) (ends_blank_line c content) child.end
       (blank && not j)))
       (joined c list end outer)
-      ∙ ap (λ o. option_to_list o ++ (among ++ behind_child (list_behind (length outer) (now list end outer) blank child) (ends_blank_line c content) child.end
+      ∙ ap (λ o. option_to_list o ++ (among ++ after_child (list_after (length outer) (now list end outer) blank child) (ends_blank_line c content) child.end
       (blank && not (is_item_of (now list end outer) (Some c))))) (list_ended c list end outer)
-      ∙ ap (λ m. option_to_list (list_before (now list end outer) child) ++ (among ++ behind_child (list_behind (length outer) (now list end outer) m child)
+      ∙ ap (λ m. option_to_list (list_before (now list end outer) child) ++ (among ++ after_child (list_after (length outer) (now list end outer) m child)
       (ends_blank_line c content) child.end (m && not (is_item_of (now list end outer) (Some c))))) (sym (marked_is fresh blank))
       ∙ sym (given_one outer (now list end outer) marked_now child others far end item parted later)
 
 lists_found : (nodes : Nodes) → AreFound nodes
 lists_found nothing = found_nothing
 lists_found (leaf_then block nodes) = found_leaf block nodes (lists_found nodes)
-lists_found (container_then c place inner nodes) = found_container c place inner nodes (lists_found inner) (lists_found nodes)
+lists_found (container_then c offset inner nodes) = found_container c offset inner nodes (lists_found inner) (lists_found nodes)
 
 -- the lists of a page's nodes
-pub page_lists : (nodes : Nodes) → lists_behind at_start (flatten nodes) ≡ lists_of nodes
+pub page_lists : (nodes : Nodes) → lists_given at_start (flatten nodes) ≡ lists_of nodes
 page_lists nodes =
-    ap (lists_behind at_start) (sym (append_nothing (flatten nodes)))
+    ap (lists_given at_start) (sym (append_nothing (flatten nodes)))
     ∙ lists_found nodes 0 0 false true false false None [] [] ∙ append_nil (lists_followed 0 None false (children true 0 0 nodes))
     ∙ lists_are_followed 0 (children true 0 0 nodes)
   where

@@ -25,8 +25,8 @@ not_closed_by_nothing byte n close =
     let parts = length-append line.run line.rest in
     omega (arith, lengths, parts, line.exactly_three)
 
-pub not_closed_at_end : (page : List ℕ) (byte place : ℕ) → length page ≤ place → ¬ ClosesAt page byte place
-not_closed_at_end page byte place far close =
+pub not_closed_at_end : (page : List ℕ) (byte offset : ℕ) → length page ≤ offset → ¬ ClosesAt page byte offset
+not_closed_at_end page byte offset far close =
     not_closed_by_nothing byte close.1 (subst (λ bs. IsClosingMetadataBlock bs byte close.1) (drop_of_length-le page far) close.2)
 
 is_line_feed : (b : ℕ) → is_no_line_feed b ≡ false → b ≡ line_feed
@@ -41,43 +41,43 @@ is_below a b = elim (cases_Bool (nat_lt a b)) [
   | inr is ↦ inr (grind (arith, nat_tests))
 ]
 
-module _ (page : List ℕ) (byte place next : ℕ) (here : place < length page) (is : next ≡ place + next_line (drop place page)) where
+module _ (page : List ℕ) (byte offset next : ℕ) (here : offset < length page) (is : next ≡ offset + next_line (drop offset page)) where
   -- no line begins before the next
-  pub open_between : (k : ℕ) → place < k → k < next → ¬ ClosesAt page byte k
+  pub open_between : (k : ℕ) → offset < k → k < next → ¬ ClosesAt page byte k
   open_between k after before close =
-      let i = k - suc place in
-      let run = prefix_len is_no_line_feed (drop place page) in
+      let i = k - suc offset in
+      let run = prefix_len is_no_line_feed (drop offset page) in
       let inside : i < run = omega (arith, after, before, is) in
-      let other = prefix_len_passes is_no_line_feed (drop place page) i 0 inside in
-      let index : place + i ≡ k - 1 = omega (arith, after) in
-      let same : get_or (drop place page) i 0 ≡ line_feed =
-      get_or-drop place page i 0 ∙ ap (λ j. get_or page j 0) index ∙ close.0 in
-      not_line_feed (get_or (drop place page) i 0) other same
+      let other = prefix_len_passes is_no_line_feed (drop offset page) i 0 inside in
+      let index : offset + i ≡ k - 1 = omega (arith, after) in
+      let same : get_or (drop offset page) i 0 ≡ line_feed =
+      get_or-drop offset page i 0 ∙ ap (λ j. get_or page j 0) index ∙ close.0 in
+      not_line_feed (get_or (drop offset page) i 0) other same
 
   -- a line that closes the block begins after an LF
   pub closes_next : (n : ℕ) → IsClosingMetadataBlock (drop next page) byte n → ClosesAt page byte next
   closes_next n close =
-      let run = prefix_len is_no_line_feed (drop place page) in
-      elim (is_below run (length (drop place page))) [
+      let run = prefix_len is_no_line_feed (drop offset page) in
+      elim (is_below run (length (drop offset page))) [
         | inl inside ↦ (
-          (let index : place + run ≡ next - 1 = omega (arith, is, inside) in
-              ap (λ j. get_or page j 0) (sym index) ∙ sym (get_or-drop place page run 0)
-              ∙ is_line_feed (get_or (drop place page) run 0) (prefix_len_stops is_no_line_feed (drop place page) 0 inside)),
+          (let index : offset + run ≡ next - 1 = omega (arith, is, inside) in
+              ap (λ j. get_or page j 0) (sym index) ∙ sym (get_or-drop offset page run 0)
+              ∙ is_line_feed (get_or (drop offset page) run 0) (prefix_len_stops is_no_line_feed (drop offset page) 0 inside)),
           n,
           close,
         )
         | inr far ↦ absurd (not_closed_by_nothing byte n
-            (subst (λ bs. IsClosingMetadataBlock bs byte n) (drop_of_length-le page (omega (arith, is, far, length-drop place page, here))) close))
+            (subst (λ bs. IsClosingMetadataBlock bs byte n) (drop_of_length-le page (omega (arith, is, far, length-drop offset page, here))) close))
       ]
 
-  module _ (start : ℕ) (before_here : (k : ℕ) → start < k → k ≤ place → ¬ ClosesAt page byte k) where
+  module _ (start : ℕ) (before_here : (k : ℕ) → start < k → k ≤ offset → ¬ ClosesAt page byte k) where
     pub open_below : (k : ℕ) → start < k → k < next → ¬ ClosesAt page byte k
-    open_below k after before close = elim (is_below place k) [
+    open_below k after before close = elim (is_below offset k) [
       | inl further ↦ open_between k further before close
       | inr near ↦ before_here k after near close
     ]
 
-    -- the line at the next place doesn't close the block
+    -- the line at the next offset doesn't close the block
     pub open_through : ((n : ℕ) → ¬ IsClosingMetadataBlock (drop next page) byte n) → (k : ℕ) → start < k → k ≤ next → ¬ ClosesAt page byte k
     open_through none k after up_to close = elim (is_below k next) [
       | inl before ↦ open_below k after before close
@@ -90,7 +90,7 @@ both_pass a b is is' = cc
 
 -- a block is closed by a line after the one after its first
 pub block_closes : (page : List ℕ) (yaml pluses : Bool) (byte : ℕ) → IsMetadataBlock page yaml pluses byte
-    → (place : ℕ) × (next_line page < place) × ClosesAt page byte place
+    → (offset : ℕ) × (next_line page < offset) × ClosesAt page byte offset
 block_closes page yaml pluses byte is =
     let line = is.block.opening in
     let close = is.block.closed in
@@ -108,7 +108,7 @@ block_closes page yaml pluses byte is =
     opened ∙ ap (λ bs. first ++ line_feed ∷ bs) close.later ∙ sym (append_assoc first (line_feed ∷ close.before) (line_feed ∷ close.after)) in
     let counted : length front ≡ length first + suc (length close.before) = length-append first (line_feed ∷ close.before) in
     let before_it : suc (length front) - 1 ≡ length front = omega (arith) in
-    let rest : drop (suc (length front)) page ≡ close.after = ap (drop (suc (length front))) parts ∙ drop_behind front close.after in (
+    let rest : drop (suc (length front)) page ≡ close.after = ap (drop (suc (length front))) parts ∙ drop_after front close.after in (
       suc (length front),
       omega (arith, counted, ended),
       (
@@ -125,6 +125,6 @@ block_closes page yaml pluses byte is =
     after_opening : (b : ℕ) → is_after_opening b ≡ true → is_no_line_feed b ≡ true
     after_opening b is = grind (arith, nat_tests)
 
-    drop_behind : (front after : List ℕ) → drop (suc (length front)) (front ++ line_feed ∷ after) ≡ after
-    drop_behind [] after = refl
-    drop_behind (b ∷ front) after = drop_behind front after
+    drop_after : (front after : List ℕ) → drop (suc (length front)) (front ++ line_feed ∷ after) ≡ after
+    drop_after [] after = refl
+    drop_after (b ∷ front) after = drop_after front after

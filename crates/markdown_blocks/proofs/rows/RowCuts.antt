@@ -8,8 +8,8 @@ use Rattle.std.proofs.Math.Seq.{drop-append_seam}
 use Rattle.markdown_scanners_tree.specs.line.State.{LineState, after_space}
 use Rattle.markdown_scanners_tree.specs.scanners.TextLines.{lines_of}
 use Rattle.markdown_scanners_tree.proofs.ForCallers.{lines_joined}
-use Rattle.markdown_blocks.specs.containers.Containers.{behind}
-use Rattle.markdown_blocks.specs.content.Parts.{first_place}
+use Rattle.markdown_blocks.specs.containers.Containers.{match_line}
+use Rattle.markdown_blocks.specs.content.Parts.{first_offset}
 use Rattle.markdown_blocks.specs.declared.blocks.BlockKind.TheVariants.{Paragraph}
 use Rattle.markdown_blocks.specs.declared.containers.Container.{Container}
 use Rattle.markdown_blocks.specs.rows.Rows.{TextAt, body_rows, later_rows, row_at, rows_of}
@@ -22,7 +22,7 @@ use Rattle.markdown_blocks.proofs.taken.LineCuts.{lines_utf8}
 -- the text of a row is UTF-8, and the lines may be cut where it may
 pub record IsRowCut (lines : List ℕ) (row : TextAt) : Type 0 where
   pub utf8 : IsUtf8 row.text
-  pub cuts : (offset : ℕ) → IsCharBoundary row.text offset → IsCharBoundary lines (row.place + offset)
+  pub cuts : (offset : ℕ) → IsCharBoundary row.text offset → IsCharBoundary lines (row.offset + offset)
 
 module _ (text : List ℕ) (utf8 : IsUtf8 text) where
   -- what is left of a line, before which so many bytes stand
@@ -32,16 +32,16 @@ module _ (text : List ℕ) (utf8 : IsUtf8 text) where
       let t = after_space 4 s in
       let there = after_some line s r 4 in
       let inside = there.within in
-      let left : drop t.place t.bytes ≡ drop t.place line = ap (drop t.place) there.of_line in record {
+      let left : drop t.offset t.bytes ≡ drop t.offset line = ap (drop t.offset) there.of_line in record {
         utf8 = rest_utf8 line own t there;
         cuts = λ offset cut.
-            let in_line : IsCharBoundary line (t.place + offset) =
-            IsCharBoundary-from_rest line t.place offset inside (subst (λ (l : List ℕ). IsCharBoundary l offset) left cut) in
+            let in_line : IsCharBoundary line (t.offset + offset) =
+            IsCharBoundary-from_rest line t.offset offset inside (subst (λ (l : List ℕ). IsCharBoundary l offset) left cut) in
             let whole : IsUtf8 (line ++ rest) = subst IsUtf8 stands (IsUtf8-drop text before utf8 begins) in
-            let in_rest : IsCharBoundary (drop before text) (t.place + offset) =
-            subst (λ (l : List ℕ). IsCharBoundary l (t.place + offset)) (sym stands) (cut_of_first line rest (t.place + offset) whole own in_line) in
-            let at : before + (t.place + offset) ≡ before + t.place + offset = omega arith in
-            subst (IsCharBoundary text) at (IsCharBoundary-from_rest text before (t.place + offset) begins.0 in_rest);
+            let in_rest : IsCharBoundary (drop before text) (t.offset + offset) =
+            subst (λ (l : List ℕ). IsCharBoundary l (t.offset + offset)) (sym stands) (cut_of_first line rest (t.offset + offset) whole own in_line) in
+            let at : before + (t.offset + offset) ≡ before + t.offset + offset = omega arith in
+            subst (IsCharBoundary text) at (IsCharBoundary-from_rest text before (t.offset + offset) begins.0 in_rest);
       }
 
   -- the next line
@@ -59,7 +59,7 @@ module _ (text : List ℕ) (utf8 : IsUtf8 text) where
   later_cut outer before [] begins stands all = tt
   later_cut outer before (line ∷ lines) begins stands all =
       let next = next_cut before line (concat lines) begins stands all.0 in (
-        row_cut before line (concat lines) begins stands all.0 (behind outer line).state (later_reached line Paragraph outer),
+        row_cut before line (concat lines) begins stands all.0 (match_line outer line).state (later_reached line Paragraph outer),
         later_cut outer (before + length line) lines next.0 next.1 all.1,
       )
 
@@ -77,7 +77,7 @@ module _ (text : List ℕ) (utf8 : IsUtf8 text) where
       let begins = IsCharBoundary-start text utf8 in
       let next = next_cut 0 line (concat lines) begins stands all.0 in
       let at : 0 + length line ≡ length line = omega arith in (
-        row_cut 0 line (concat lines) begins stands all.0 (first_place kept outer line) (first_reached line kept outer),
+        row_cut 0 line (concat lines) begins stands all.0 (first_offset kept outer line) (first_reached line kept outer),
         body_cut outer (length line) lines (subst (IsCharBoundary text) at next.0)
             (subst (λ n. drop n text ≡ concat lines) at next.1) all.1,
       )

@@ -6,9 +6,10 @@ use Rattle.std.proofs.lemmas.List.{at_drop_more, drop_all}
 use mir.Val.{bool_byte}
 use Rattle.markdown_scanners_tree.specs.SomeExactly.{SomeExactly}
 use Rattle.markdown_scanners_tree.specs.line.State.{LineState}
-use Rattle.markdown_blocks.specs.containers.Containers.{Outer, Rest, rest_at, asked_first, asked_in, begun_at, behind, IsInside, rest_in, without_terms}
+use Rattle.markdown_blocks.specs.containers.Containers.{OpenContainers, Rest, rest_at, asked_first, asked_in, begun_at, match_line, IsInside, rest_in, without_terms}
 use Rattle.markdown_blocks.specs.declared.blocks.BlockKind.TheVariants.{Paragraph}
-use Rattle.markdown_blocks.specs.blocks.Leaves.{Begins, BeginsTable, DefinesTerm, IsHeader, IsRow, In, IsHead, LeavesParagraph}
+use Rattle.markdown_blocks.specs.blocks.Leaves.{Begins, BeginTable, IsRow, In, IsHead, LeavesParagraph}
+use Rattle.markdown_blocks.specs.definitions.Content.{words_in}
 use Rattle.markdown_blocks.specs.blocks.Tables.{separates, separators, ends_separated, cells}
 use Rattle.markdown_blocks.specs.delimiter_rows.DelimiterRows.{IsDelimiter}
 
@@ -47,16 +48,16 @@ few_more true count i n one few = omega (arith, one, few)
 few_more false count i n one few = omega (arith, one, few)
 
 -- a line that stands in the containers begins no definition of a term
-inside_asked : (outer : Outer) (line : List ℕ) → IsInside outer.containers line → asked_in outer line ≡ without_terms outer.extensions
+inside_asked : (outer : OpenContainers) (line : List ℕ) → IsInside outer.containers line → asked_in outer line ≡ without_terms outer.extensions
 inside_asked outer line inside =
-    ap (asked_first outer.extensions false) (drop_all (behind outer.containers line).kept outer.containers (omega (arith, inside)))
+    ap (asked_first outer.extensions false) (drop_all (match_line outer.containers line).kept outer.containers (omega (arith, inside)))
 
 -- a test of a line in which none begins
-pub row_given : (outer : Outer) (line : List ℕ) (s : LineState) (rest : Rest) (r : Bool) → s ≡ (behind outer.containers line).state → rest ≡ rest_at s
+pub row_given : (outer : OpenContainers) (line : List ℕ) (s : LineState) (rest : Rest) (r : Bool) → s ≡ (match_line outer.containers line).state → rest ≡ rest_at s
     → IsInside outer.containers line → begun_at (asked_in outer line) s ≡ None → (IsTrue r → Begins Paragraph rest) × (Begins Paragraph rest → IsTrue r)
     → (IsTrue r → IsRow outer line) × (IsRow outer line → IsTrue r)
 row_given outer line s rest r same is inside none tells =
-    let at : rest ≡ rest_at (behind outer.containers line).state = is ∙ ap rest_at same in (
+    let at : rest ≡ rest_at (match_line outer.containers line).state = is ∙ ap rest_at same in (
       λ t. (
         subst (λ z. begun_at (without_terms outer.extensions) z ≡ None) same (subst (λ x. begun_at x s ≡ None) (inside_asked outer line inside) none),
         (inside, subst (Begins Paragraph) at (tells.0 t)),
@@ -65,46 +66,35 @@ row_given outer line s rest r same is inside none tells =
     )
 
 -- a delimiter row has one number of columns
-one_number : (rest : Rest) (columns other : ℕ) → IsDelimiter columns rest → IsDelimiter other rest → other ≡ columns
+pub one_number : (rest : Rest) (columns other : ℕ) → IsDelimiter columns rest → IsDelimiter other rest → other ≡ columns
 one_number rest columns other d o = o.2 ∙ sym d.2
 
 -- a line that is the delimiter row of no table
-pub no_delimiter : (outer : Outer) (text line : List ℕ) → ((columns : ℕ) → ¬ In outer.containers (IsDelimiter columns) line)
+pub no_delimiter : (outer : OpenContainers) (text line : List ℕ) → ((columns : ℕ) → ¬ In outer.containers (IsDelimiter columns) line)
     → (columns : ℕ) → ¬ IsHead outer text columns line
 no_delimiter outer text line none columns head = none columns head.2
 
 -- or of a table of so many columns
-module _ (outer : Outer) (text line : List ℕ) (columns : ℕ) (found : In outer.containers (IsDelimiter columns) line) where
+module _ (outer : OpenContainers) (text line : List ℕ) (columns : ℕ) (found : In outer.containers (IsDelimiter columns) line) where
   pub no_head : (cells text ≡ columns → LeavesParagraph outer line) → (other : ℕ) → ¬ IsHead outer text other line
   no_head leaves other head =
       let same : other ≡ columns = one_number (rest_in outer.containers line) columns other found.1 head.2.1 in
       head.1 (leaves (head.3 ∙ same))
 
--- a table that begins after other lines of a paragraph
-pub header_of : (outer : Outer) (line : List ℕ) (lines : List (List ℕ)) → BeginsTable outer (line ∷ lines) → IsHeader outer line
-header_of outer line [] table = absurd table
-header_of outer line (next ∷ lines) (header, columns, head) = header
+-- the header row of a table
+module _ (outer : OpenContainers) (line next : List ℕ) (lines : List (List ℕ)) where
+  pub no_begin : ((columns : ℕ) → ¬ In outer.containers (IsDelimiter columns) next) → ¬ BeginTable outer (line ∷ next ∷ lines)
+  no_begin none (columns, head) = none columns head.2
 
-pub header_given : (outer : Outer) (line : List ℕ) → IsRow outer line → (defines : Bool)
-    → (IsTrue defines → DefinesTerm outer.extensions (rest_in outer.containers line))
-    × (DefinesTerm outer.extensions (rest_in outer.containers line) → IsTrue defines)
-    → (IsTrue (not defines) → IsHeader outer line) × (IsHeader outer line → IsTrue (not defines))
-header_given outer line row true tells = (λ t. cc, λ header. absurd (header.1 (tells.0 refl)))
-header_given outer line row false tells = (λ t. (row, λ defines. let passes = tells.1 defines in cc), λ header. refl)
-
-module _ (outer : Outer) (line next : List ℕ) (lines : List (List ℕ)) where
-  pub no_begin : ((columns : ℕ) → ¬ In outer.containers (IsDelimiter columns) next) → ¬ BeginsTable outer (line ∷ next ∷ lines)
-  no_begin none (header, columns, head) = none columns head.2
-
-  pub begin_given : (words : List ℕ) (found : Option ℕ) (some : Bool) → words ≡ (rest_in outer.containers line).text → IsHeader outer line
+  pub begin_given : (words : List ℕ) (found : Option ℕ) (some : Bool) → words ≡ words_in outer.containers line
       → SomeExactly (λ columns. IsHead outer words columns next) found → some ≡ is_some found
-      → (IsTrue some → BeginsTable outer (line ∷ next ∷ lines)) × (BeginsTable outer (line ∷ next ∷ lines) → IsTrue some)
-  begin_given words (Some columns) some same header head is =
-      (λ t. (header, columns, subst (λ w. IsHead outer w columns next) same head), λ table. is)
-  begin_given words None some same header none is = (λ t. let both : true ≡ false = sym t ∙ is in cc, by)
+      → (IsTrue some → BeginTable outer (line ∷ next ∷ lines)) × (BeginTable outer (line ∷ next ∷ lines) → IsTrue some)
+  begin_given words (Some columns) some same head is =
+      (λ t. (columns, subst (λ w. IsHead outer w columns next) same head), λ table. is)
+  begin_given words None some same none is = (λ t. let both : true ≡ false = sym t ∙ is in cc, by)
     where
-      by : BeginsTable outer (line ∷ next ∷ lines) → IsTrue some
-      by (header, columns, head) = absurd (none columns (subst (λ w. IsHead outer w columns next) (sym same) head))
+      by : BeginTable outer (line ∷ next ∷ lines) → IsTrue some
+      by (columns, head) = absurd (none columns (subst (λ w. IsHead outer w columns next) (sym same) head))
 
 pub same_line : (lines : List (List ℕ)) (a b : List ℕ) (xs ys : List (List ℕ)) → lines ≡ a ∷ xs → lines ≡ b ∷ ys → a ≡ b
 same_line lines a b xs ys is other = let both : a ∷ xs ≡ b ∷ ys = sym is ∙ other in cc

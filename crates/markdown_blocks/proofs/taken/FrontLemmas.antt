@@ -4,7 +4,7 @@ use Rattle.std.proofs.Common.{refl, sym, ap, ◌∙◌, arith, append-nil, lengt
 use Rattle.markdown_scanners_tree.specs.scanners.TextLines.{ends_line, with_first, lines_of}
 use Rattle.markdown_blocks.proofs.taken.TakenLemmas.{lines_bytes}
 use Rattle.markdown_blocks.proofs.whole.WholeLemmas.{alone, some_lines}
-use Rattle.markdown_blocks.specs.declared.taken.Taken.{Taken}
+use Rattle.markdown_blocks.specs.declared.taken.Extent.{Extent}
 use Rattle.markdown_blocks.specs.taken.Lines.{IsTaken}
 
 nothing_before : (ls xs : List (List ℕ)) → xs ≡ ls ++ xs → ls ≡ []
@@ -80,7 +80,7 @@ front_of (b ∷ bs) (suc n) = λ ls within parts. by (ends_line (b ∷ bs)) refl
         goes_on b bs n ls is (omega (arith, within)) (rw is at parts) (some_line (b ∷ bs) n ls within parts) more
 
 -- the lines that are taken are those of their bytes
-pub lines_of_taken : (text : List ℕ) (taken : Taken) (lines : List (List ℕ)) → IsTaken text taken lines → lines_of (take taken.bytes text) ≡ lines
+pub lines_of_taken : (text : List ℕ) (taken : Extent) (lines : List (List ℕ)) → IsTaken text taken lines → lines_of (take taken.bytes text) ≡ lines
 unfolding IsFrontOf
 lines_of_taken text taken lines h = front_of text taken.bytes lines h.within h.parts
 

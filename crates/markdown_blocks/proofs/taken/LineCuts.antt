@@ -10,13 +10,13 @@ use Rattle.std.proofs.lemmas.Str.{IsCharBoundary-end, IsUtf8-drop, IsUtf8-take}
 use Rattle.std.proofs.Math.Seq.{drop-append_seam, take-append_seam}
 use Rattle.markdown_scanners_tree.specs.Bytes.{line_length}
 use Rattle.markdown_scanners_tree.specs.scanners.TextLines.{ends_line, lines_of, with_first}
-use Rattle.markdown_scanners_tree.proofs.ForCallers.{cut_behind_ascii, first_line-taken, lines_joined}
+use Rattle.markdown_scanners_tree.proofs.ForCallers.{cut_after_ascii, first_line-taken, lines_joined}
 
 -- ---- after lines
 
-pub first_behind : (text line : List ℕ) (rest : List (List ℕ)) → lines_of text ≡ line ∷ rest → lines_of (drop (length line) text) ≡ rest
-first_behind [] line rest is = cc
-first_behind (b ∷ bs) line rest is =
+pub first_after : (text line : List ℕ) (rest : List (List ℕ)) → lines_of text ≡ line ∷ rest → lines_of (drop (length line) text) ≡ rest
+first_after [] line rest is = cc
+first_after (b ∷ bs) line rest is =
     let n = line_length (b ∷ bs) in
     let both : take n (b ∷ bs) ∷ lines_of (drop n (b ∷ bs)) ≡ line ∷ rest = sym (first_line-taken (b ∷ bs) n (omega arith) refl) ∙ is in
     let same : line ≡ take n (b ∷ bs) = cc in
@@ -26,18 +26,18 @@ first_behind (b ∷ bs) line rest is =
     ap lines_of (ap (λ (t : List ℕ). drop (length t) (b ∷ bs)) same ∙ cut) ∙ later
 
 -- the lines of a text after its first ones
-pub lines_behind : (lines : List (List ℕ)) (text : List ℕ) (rest : List (List ℕ)) → lines_of text ≡ lines ++ rest
+pub lines_after : (lines : List (List ℕ)) (text : List ℕ) (rest : List (List ℕ)) → lines_of text ≡ lines ++ rest
     → lines_of (drop (length (concat lines)) text) ≡ rest
-lines_behind [] text rest is = is
-lines_behind (line ∷ lines) text rest is =
-    let more = lines_behind lines (drop (length line) text) rest (first_behind text line (lines ++ rest) is) in
+lines_after [] text rest is = is
+lines_after (line ∷ lines) text rest is =
+    let more = lines_after lines (drop (length line) text) rest (first_after text line (lines ++ rest) is) in
     ap lines_of (ap (λ n. drop n text) (length-append line (concat lines)) ∙ sym (drop-drop (length (concat lines)) (length line) text)) ∙ more
 
 -- the same in a page, of which so many bytes stand before the text
-pub page_behind : (page : List ℕ) (start : ℕ) (lines rest : List (List ℕ)) → lines_of (drop start page) ≡ lines ++ rest
+pub page_after : (page : List ℕ) (start : ℕ) (lines rest : List (List ℕ)) → lines_of (drop start page) ≡ lines ++ rest
     → lines_of (drop (start + length (concat lines)) page) ≡ rest
-page_behind page start lines rest is =
-    ap lines_of (sym (drop-drop (length (concat lines)) start page)) ∙ lines_behind lines (drop start page) rest is
+page_after page start lines rest is =
+    ap lines_of (sym (drop-drop (length (concat lines)) start page)) ∙ lines_after lines (drop start page) rest is
 
 -- ---- the ends of lines
 
@@ -88,7 +88,7 @@ module _ (text line : List ℕ) (later : List (List ℕ)) (is : lines_of text �
     | inr low ↦ (let size = ap length whole ∙ length-append line (concat later) in
         let byte : get_or text (length line - 1) 0 ≡ get_or line (length line - 1) 0 =
         ap (λ t. get_or t (length line - 1) 0) whole ∙ get_or_append_left line (concat later) 0 (length line - 1) (omega (arith, low.0)) in
-        cut_behind_ascii text (length line) utf8 (omega (arith, size)) low.0 (subst (λ b. b < 128) (sym byte) low.1))
+        cut_after_ascii text (length line) utf8 (omega (arith, size)) low.0 (subst (λ b. b < 128) (sym byte) low.1))
   ]
 
   pub first_utf8 : IsUtf8 text → IsUtf8 line
@@ -100,5 +100,5 @@ pub lines_utf8 : (lines : List (List ℕ)) (text : List ℕ) → lines_of text �
 lines_utf8 [] text is utf8 = tt
 lines_utf8 (line ∷ later) text is utf8 = (
   first_utf8 text line later is utf8,
-  lines_utf8 later (drop (length line) text) (first_behind text line later is) (IsUtf8-drop text (length line) utf8 (line_cut text line later is utf8)),
+  lines_utf8 later (drop (length line) text) (first_after text line later is) (IsUtf8-drop text (length line) utf8 (line_cut text line later is utf8)),
 )

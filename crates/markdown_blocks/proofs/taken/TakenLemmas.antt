@@ -7,18 +7,18 @@ use Rattle.std.proofs.lemmas.List.Folds.{concat-append}
 use Rattle.markdown_scanners_tree.proofs.ForCallers.{first_line-taken, lines_joined}
 use Rattle.markdown_scanners_tree.specs.Bytes.{line_length}
 use Rattle.markdown_scanners_tree.specs.scanners.TextLines.{lines_of}
-use Rattle.markdown_blocks.specs.declared.taken.Taken.{Taken}
+use Rattle.markdown_blocks.specs.declared.taken.Extent.{Extent}
 use Rattle.markdown_blocks.specs.taken.Lines.{IsTaken, IsNext}
 use Rattle.markdown_blocks.specs.declared.containers.Container.{Container}
 use Rattle.markdown_blocks.specs.containers.Containers.{IsInside}
-use Rattle.markdown_blocks.specs.blocks.Leaves.{OnFirst, StopsBefore, StopsBehind}
+use Rattle.markdown_blocks.specs.blocks.Leaves.{OnFirst, StopsBefore, StopsAfter}
 
--- a slice from a place on is what is after it
+-- a slice from an offset on is what is after it
 pub slice_after : {A : Type 0} (text : List A) (b : ℕ) → take (length text - b) (drop b text) ≡ drop b text
 slice_after text b = take_all (length text - b) (drop b text) (omega (arith, length-drop b text))
 
 -- the line that is taken from the front of what is left
-pub next_line : (text : List ℕ) (taken more : Taken) (n : ℕ) (rest : List ℕ) → rest ≡ drop taken.bytes text → taken.bytes < length text
+pub next_line : (text : List ℕ) (taken more : Extent) (n : ℕ) (rest : List ℕ) → rest ≡ drop taken.bytes text → taken.bytes < length text
     → n ≡ line_length rest → n ≤ length rest → (0 < length rest → 0 < n) → more.bytes ≡ taken.bytes + n → more.lines ≡ taken.lines + 1
     → IsNext text taken (take n rest) more
 next_line text taken more n rest is below counts fits rises bytes lines =
@@ -34,7 +34,7 @@ next_line text taken more n rest is below counts fits rises bytes lines =
     }
 
 -- a line more
-pub taken-next : (text : List ℕ) (taken more : Taken) (lines : List (List ℕ)) (line : List ℕ) → IsTaken text taken lines → IsNext text taken line more
+pub taken-next : (text : List ℕ) (taken more : Extent) (lines : List (List ℕ)) (line : List ℕ) → IsTaken text taken lines → IsNext text taken line more
     → IsTaken text more (lines ++ line ∷ [])
 taken-next text taken more lines line h n = record {
   within = n.within;
@@ -48,22 +48,22 @@ all-push P (l ∷ lines) line all here = (all.0, all-push P lines line all.1 her
 
 module _ (P : List ℕ → Type 0) (text : List ℕ) where
   -- the lines that are passed after the first, none of which is an end
-  abbrev pub Passed : Taken → Taken → Type 0
+  abbrev pub Passed : Extent → Extent → Type 0
   Passed first taken = (lines : List (List ℕ)) → IsTaken text first lines
       → (more : List (List ℕ)) × IsTaken text taken (lines ++ more) × AllByRecursion (λ line. ¬ P line) more
 
-  abbrev pub Until : Taken → Taken → Type 0
+  abbrev pub Until : Extent → Extent → Type 0
   Until first taken = (lines : List (List ℕ)) → IsTaken text first lines
       → (more : List (List ℕ)) × IsTaken text taken (lines ++ more) × StopsBefore P more (lines_of (drop taken.bytes text))
 
-  abbrev pub Through : List Container → Taken → Taken → Type 0
+  abbrev pub Through : List Container → Extent → Extent → Type 0
   Through outer first taken = (lines : List (List ℕ)) → IsTaken text first lines
-      → (more : List (List ℕ)) × IsTaken text taken (lines ++ more) × StopsBehind outer P more (lines_of (drop taken.bytes text))
+      → (more : List (List ℕ)) × IsTaken text taken (lines ++ more) × StopsAfter outer P more (lines_of (drop taken.bytes text))
 
-  pub passed-none : (first : Taken) → Passed first first
+  pub passed-none : (first : Extent) → Passed first first
   passed-none first lines h = ([], rw append-nil h, tt)
 
-  pub passed-more : (first taken more : Taken) (line : List ℕ) → Passed first taken → IsNext text taken line more → ¬ P line → Passed first more
+  pub passed-more : (first taken more : Extent) (line : List ℕ) → Passed first taken → IsNext text taken line more → ¬ P line → Passed first more
   passed-more first taken more line p n none lines h =
       let before = p lines h in (
         before.0 ++ line ∷ [],
@@ -71,15 +71,15 @@ module _ (P : List ℕ → Type 0) (text : List ℕ) where
         all-push (λ l. ¬ P l) before.0 line before.2 none,
       )
 
-  pub until-found : (first taken more : Taken) (line : List ℕ) → Passed first taken → IsNext text taken line more → P line → Until first taken
+  pub until-found : (first taken more : Extent) (line : List ℕ) → Passed first taken → IsNext text taken line more → P line → Until first taken
   until-found first taken more line p n here lines h =
       let before = p lines h in (before.0, before.1, record { none = before.2; stopped = rw n.parts here })
 
-  pub until-end : (first taken : Taken) → Passed first taken → lines_of (drop taken.bytes text) ≡ [] → Until first taken
+  pub until-end : (first taken : Extent) → Passed first taken → lines_of (drop taken.bytes text) ≡ [] → Until first taken
   until-end first taken p end lines h =
       let before = p lines h in (before.0, before.1, record { none = before.2; stopped = rw end tt })
 
-  pub through-found : (outer : List Container) (first taken more : Taken) (line : List ℕ) → Until first taken → IsNext text taken line more
+  pub through-found : (outer : List Container) (first taken more : Extent) (line : List ℕ) → Until first taken → IsNext text taken line more
       → IsInside outer line → Through outer first more
   through-found outer first taken more line u n inside lines h =
       let before = u lines h in (
@@ -88,7 +88,7 @@ module _ (P : List ℕ → Type 0) (text : List ℕ) where
         inl (before.0, line, refl, record { none = before.2.none; stopped = rw n.parts at before.2.stopped }, inside),
       )
 
-  pub through-end : (outer : List Container) (first taken : Taken) → Until first taken → OnFirst (λ line. ¬ IsInside outer line) (lines_of
+  pub through-end : (outer : List Container) (first taken : Extent) → Until first taken → OnFirst (λ line. ¬ IsInside outer line) (lines_of
       (drop taken.bytes text)) → Through outer first taken
   through-end outer first taken u end lines h =
       let before = u lines h in (before.0, before.1, inr (before.2, end))
@@ -103,7 +103,7 @@ lines_bytes text bytes lines within parts =
     omega (arith, within, whole, length-drop bytes text)
 
 -- the first of them has no more
-pub first_within : (text : List ℕ) (taken : Taken) (line : List ℕ) (later : List (List ℕ)) → IsTaken text taken (line ∷ later)
+pub first_within : (text : List ℕ) (taken : Extent) (line : List ℕ) (later : List (List ℕ)) → IsTaken text taken (line ∷ later)
     → length line ≤ taken.bytes
 first_within text taken line later h =
     let bytes = lines_bytes text taken.bytes (line ∷ later) h.within h.parts in

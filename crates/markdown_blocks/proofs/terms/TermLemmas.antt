@@ -8,8 +8,8 @@ use Rattle.std.proofs.lemmas.Bool.Decides.{nat_tests}
 use Rattle.markdown_scanners_tree.specs.Bytes.{is_line_ending, is_space_or_tab}
 use Rattle.markdown_scanners_tree.proofs.line.WrittenLemmas.{head-cons}
 use Rattle.markdown_blocks.specs.blank_lines.BlankLines.{is_blank}
-use Rattle.markdown_blocks.specs.blocks.Leaves.{IsBlank, IsLeaf}
-use Rattle.markdown_blocks.specs.containers.Containers.{Outer, Rest}
+use Rattle.markdown_blocks.specs.blocks.Leaves.{IsBlank, IsLeafAfter}
+use Rattle.markdown_blocks.specs.containers.Containers.{OpenContainers, Rest}
 use Rattle.markdown_blocks.specs.declared.containers.Container.{Container}
 use Rattle.markdown_blocks.specs.definitions.Content.{content_in, words_in}
 use Rattle.markdown_blocks.specs.info.Info.{without_front}
@@ -20,6 +20,7 @@ use Rattle.markdown_blocks.specs.declared.blocks.BlockKind.TheVariants.{Paragrap
 use Rattle.markdown_values.specs.declared.values.extensions.Extensions.{Extensions}
 use Rattle.markdown_blocks.specs.definitions.Definitions.{AreDefinitions, HasText}
 use Rattle.markdown_blocks.specs.walk.Walk.{IsGathered}
+use Rattle.markdown_blocks.proofs.blocks.AfterLemmas.{paragraph_leaf}
 use Rattle.markdown_blocks.proofs.definitions.DefinitionLemmas.{all_given}
 
 no_bytes : (bytes : List ℕ) → length bytes ≡ 0 → bytes ≡ []
@@ -50,7 +51,7 @@ module _ (asked : Extensions) (kind : BlockKind) (content whole : List ℕ) (on 
     where
       by : IsGathered whole content → HasText whole
       by (inl all) = absurd (some (sym all ∙ no_bytes content (eqb-true (length content) 0 none)))
-      by (inr plain) = record { definitions = []; rest = whole; behind = (refl, plain.1); some = some }
+      by (inr plain) = record { definitions = []; rest = whole; after = (refl, plain.1); some = some }
 
 -- the content of a paragraph is not empty
 front_some : (text : List ℕ) → is_blank text ≡ false → without_front text ≢ []
@@ -79,8 +80,8 @@ paragraph_some words outer later text =
     not_blank (inl blank) = absurd (text blank)
     not_blank (inr other) = other
 
-pub leaf_some : (outer : Outer) (kind : BlockKind) (words : Rest) (later rest : List (List ℕ)) → IsLeaf outer kind words later rest → kind ≡ Paragraph
-    → content_in kind outer.containers words.text later ≢ []
-leaf_some outer kind words later rest leaf is =
-    let there : IsLeaf outer Paragraph words later rest = subst (λ k. IsLeaf outer k words later rest) is leaf in
+pub leaf_some : (header : Bool) (outer : OpenContainers) (kind : BlockKind) (words : Rest) (later rest : List (List ℕ))
+    → IsLeafAfter header outer kind words later rest → kind ≡ Paragraph → content_in kind outer.containers words.text later ≢ []
+leaf_some header outer kind words later rest leaf is =
+    let there = (paragraph_leaf header outer kind words later rest is leaf).1 in
     subst (λ k. content_in k outer.containers words.text later ≢ []) (sym is) (paragraph_some words outer.containers later there.0.0)

@@ -69,14 +69,14 @@ surely b [] more ends = elim (cases_Bool (b == 10)) [
 surely b (c ∷ bs) more ends = ends
 
 front_ends : (text more : List ℕ) (count : ℕ) → count ≤ length text
-    → ((place : ℕ) → count ≡ suc place → surely_ends_line (drop place text) ≡ true) → LastEnds (take count text) (drop count text ++ more)
+    → ((offset : ℕ) → count ≡ suc offset → surely_ends_line (drop offset text) ≡ true) → LastEnds (take count text) (drop count text ++ more)
 unfolding LastEnds
 front_ends text more zero within ended = tt
 front_ends [] more (suc count) within ended = tt
 front_ends (b ∷ bs) more (suc zero) within ended = surely b bs more (ended 0 refl)
 front_ends (b ∷ []) more (suc (suc count)) within ended = absurd (omega arith)
 front_ends (b ∷ c ∷ text) more (suc (suc count)) within ended =
-    front_ends (c ∷ text) more (suc count) (omega arith) (λ place is. ended (suc place) (ap suc is))
+    front_ends (c ∷ text) more (suc count) (omega arith) (λ offset is. ended (suc offset) (ap suc is))
 
 -- the lines of a text whose front is whole, or whose end is that of the input
 pub front_cut : (text more : List ℕ) (count : ℕ) (has_ended : Bool) → MatchBool has_ended (count ≡ length text) (AreWhole text count)

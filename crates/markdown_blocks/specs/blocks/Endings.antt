@@ -3,7 +3,7 @@ use Rattle.std.specs.Prelude.{ℕ, Bool, not, ◌||◌, ◌==◌, List, Option, 
 use Rattle.markdown_scanners_tree.specs.Ascii.{greater_than_sign}
 use Rattle.markdown_scanners_tree.specs.Bytes.{is_white_space}
 use Rattle.markdown_values.specs.declared.values.HeadingLevel.{HeadingLevel}
-use Rattle.markdown_blocks.specs.containers.Containers.{Outer, Rest, rest_in}
+use Rattle.markdown_blocks.specs.containers.Containers.{OpenContainers, Rest, rest_in}
 use Rattle.markdown_blocks.specs.declared.blocks.Ending.{Ending}
 use Rattle.markdown_blocks.specs.declared.blocks.Ending.TheVariants.{Text, Paragraph, Fence, Html}
 use Rattle.markdown_blocks.specs.declared.blocks.NextLine.{NextLine}
@@ -11,7 +11,7 @@ use Rattle.markdown_blocks.specs.declared.blocks.NextLine.TheVariants as next
 use Rattle.markdown_blocks.specs.declared.blocks.TextEnd.{TextEnd}
 use Rattle.markdown_values.specs.declared.values.extensions.Extensions.{Extensions}
 use Rattle.markdown_blocks.specs.blocks.Leaves.{IsBlank, EndsParagraph, ClosesFence, EndsHtml, In, Interrupts, OutOr, IsUnderline, DefinesTerm}
-use Rattle.markdown_blocks.specs.blocks.Leaves.{LeavesParagraph, LeavesBehind, Underlines}
+use Rattle.markdown_blocks.specs.blocks.Leaves.{LeavesParagraph, LeavesAfter, Underlines}
 
 -- what a line has in the open containers where it ends the block
 abbrev pub Ends : Extensions → Ending → Rest → Type 0
@@ -21,7 +21,7 @@ Ends asked (Fence count byte) rest = ClosesFence count byte rest
 Ends asked (Html kind) rest = EndsHtml kind rest
 
 -- the line ends it: by that, or since it does not stand in them and is no lazy line of a paragraph
-abbrev pub IsEnd : Outer → Ending → List ℕ → Type 0
+abbrev pub IsEnd : OpenContainers → Ending → List ℕ → Type 0
 IsEnd outer Paragraph line = LeavesParagraph outer line
 IsEnd outer ending line = OutOr outer.containers (Ends outer.extensions ending) line
 
@@ -31,16 +31,16 @@ IsUnderOrDefines asked (Some level) rest = IsUnderline level rest
 IsUnderOrDefines asked None rest = DefinesTerm asked rest
 
 -- the line ends a paragraph with text so in the containers, and interrupts a paragraph where it is said
-pub record EndsText (outer : Outer) (found : TextEnd) (line : List ℕ) : Type 0 where
+pub record EndsText (outer : OpenContainers) (found : TextEnd) (line : List ℕ) : Type 0 where
   pub ends : In outer.containers (IsUnderOrDefines outer.extensions found.level) line
   pub interrupts : IsTrue found.interrupts ↔ Interrupts outer.extensions (rest_in outer.containers line).text
 
 -- what the line is to a paragraph whose first line has this text, with these later lines before it
-abbrev pub IsNextLine : Outer → List ℕ → List (List ℕ) → List ℕ → NextLine → Type 0
-IsNextLine outer text before line next.GoesOn = ¬ LeavesBehind outer text before line
+abbrev pub IsNextLine : OpenContainers → List ℕ → List (List ℕ) → List ℕ → NextLine → Type 0
+IsNextLine outer text before line next.GoesOn = ¬ LeavesAfter outer text before line
 IsNextLine outer text before line (next.Underlines level) = Underlines outer.containers text before level line
 IsNextLine outer text before line next.Ends =
-    LeavesBehind outer text before line × ((level : HeadingLevel) → ¬ Underlines outer.containers text before level line)
+    LeavesAfter outer text before line × ((level : HeadingLevel) → ¬ Underlines outer.containers text before level line)
 
 -- a byte of text: neither white space nor the marker of a block quote
 abbrev pub is_text_byte : ℕ → Bool

@@ -17,7 +17,7 @@ use Rattle.markdown_scanners_tree.specs.scanners.html_kinds.HtmlKinds.{IsHtmlBlo
 use Rattle.markdown_scanners_tree.specs.scanners.html_tag.HtmlTag.{IsTagAloneInLine}
 use Rattle.markdown_scanners_tree.specs.scanners.list_items.ListMarker.{is_bullet}
 use Rattle.markdown_blocks.specs.blank_lines.BlankLines.{is_blank}
-use Rattle.markdown_blocks.specs.containers.Containers.{Outer, Rest, rest_at, asked_in, begun_at, behind, IsInside, rest_in, item_of, without_terms}
+use Rattle.markdown_blocks.specs.containers.Containers.{OpenContainers, Rest, rest_at, asked_in, begun_at, match_line, IsInside, rest_in, item_of, without_terms}
 use Rattle.markdown_blocks.specs.containers.Footnotes.{footnote_label}
 use Rattle.markdown_blocks.specs.containers.ItemMarkers.{item_outcome}
 use Rattle.markdown_values.specs.declared.values.extensions.Extensions.{Extensions}
@@ -26,10 +26,11 @@ use Rattle.markdown_blocks.specs.declared.blocks.BlockKind.TheVariants.{Blank, B
 use Rattle.markdown_blocks.specs.declared.blocks.BlockKind.TheVariants.{Fenced, Html, Table, Definition, Paragraph}
 use Rattle.markdown_blocks.specs.declared.containers.Container.{Container}
 use Rattle.markdown_blocks.specs.declared.containers.Container.TheVariants.{Item}
-use Rattle.markdown_blocks.specs.definitions.Content.{content_of}
+use Rattle.markdown_blocks.specs.definitions.Content.{content_of, words_in}
 use Rattle.markdown_blocks.specs.definitions.Definitions.{HasText}
 use Rattle.markdown_blocks.specs.blocks.Tables.{cells}
 use Rattle.markdown_blocks.specs.delimiter_rows.DelimiterRows.{IsDelimiter}
+use Rattle.markdown_blocks.specs.info.Info.{without_front}
 
 -- the rest of a line is blank (4.9)
 abbrev pub IsBlank : Rest → Type 0
@@ -82,7 +83,7 @@ IsUnderline level rest =
 
 -- a list item whose first line is not blank, with a bullet or the number 1 (5.2, list items)
 abbrev pub is_filled_item : Option (Container × LineState) → Bool
-is_filled_item (Some (Item item, s)) = not item.begun && (is_bullet item.delimiter || item.start == 1)
+is_filled_item (Some (Item item, s)) = not item.starts_blank && (is_bullet item.delimiter || item.start == 1)
 is_filled_item begun = false
 
 -- such an item begins here
@@ -107,6 +108,12 @@ EndsParagraph asked rest =
 -- where definition lists are on, it is the marker of a definition, whose term is the paragraph before it
 abbrev pub DefinesTerm : Extensions → Rest → Type 0
 DefinesTerm asked rest = (¬ HasIndent rest) × IsTrue (asked.definition_lists && begins_with (λ b. b == colon) rest.text)
+
+-- It goes on with no paragraph that is read, and is a term or not: it is blank, marks the definition of that, or interrupts it. An
+-- underline would have made a heading of one that has text.
+abbrev pub EndsRead : Extensions → Bool → Rest → Type 0
+EndsRead asked term rest =
+    IsBlank rest ⊎ ((IsTrue term × DefinesTerm asked rest) ⊎ ((¬ HasIndent rest) × Interrupts asked rest.text))
 
 -- It goes on with no paragraph that has this content before it: it is blank, an underline after text, or the marker of a definition
 -- after it, or interrupts it. After link reference definitions alone an underline is text, and so is a marker. (4.3, 4.7)
@@ -142,18 +149,18 @@ abbrev pub OutOr : List Container → (Rest → Type 0) → List ℕ → Type 0
 OutOr outer P line = (¬ IsInside outer line) ⊎ In outer P line
 
 -- the line neither stands in them nor is lazy, or what it has after them has the property
-abbrev pub Leaves : Outer → (Rest → Type 0) → List ℕ → Type 0
+abbrev pub Leaves : OpenContainers → (Rest → Type 0) → List ℕ → Type 0
 Leaves outer P line =
-    ((¬ IsInside outer.containers line) × (¬ IsLazy (asked_in outer line) (behind outer.containers line).state))
+    ((¬ IsInside outer.containers line) × (¬ IsLazy (asked_in outer line) (match_line outer.containers line).state))
     ⊎ In outer.containers P line
 
 -- the line goes on with no paragraph in them
-abbrev pub LeavesParagraph : Outer → List ℕ → Type 0
+abbrev pub LeavesParagraph : OpenContainers → List ℕ → Type 0
 LeavesParagraph outer line = Leaves outer (EndsParagraph outer.extensions) line
 
 -- the line goes on with no paragraph in them whose first line has this text, and which has these later lines before it
-abbrev pub LeavesBehind : Outer → List ℕ → List (List ℕ) → List ℕ → Type 0
-LeavesBehind outer text before line =
+abbrev pub LeavesAfter : OpenContainers → List ℕ → List (List ℕ) → List ℕ → Type 0
+LeavesAfter outer text before line =
     Leaves outer (EndsContent outer.extensions (content_of outer.containers text before)) line
 
 -- the line makes a heading of this level of that paragraph (4.3)
@@ -162,16 +169,16 @@ Underlines outer text before level line = In outer (IsUnderline level) line × H
 
 -- In them the line is the delimiter row of a table of so many columns, after a line with this text: tables are asked for, that has
 -- as many cells, and it would go on with a paragraph of that. (GitHub Flavored Markdown 0.29, section 4.10)
-abbrev pub IsHead : Outer → List ℕ → ℕ → List ℕ → Type 0
+abbrev pub IsHead : OpenContainers → List ℕ → ℕ → List ℕ → Type 0
 IsHead outer text columns line =
     (outer.extensions.tables ≡ true)
     × (¬ LeavesParagraph outer line) × In outer.containers (IsDelimiter columns) line × (cells text ≡ columns)
 
 -- a row of a table, which is no term: it stands in the containers, is not blank, and begins no container and no other block (the same
 -- section)
-abbrev pub IsRow : Outer → List ℕ → Type 0
+abbrev pub IsRow : OpenContainers → List ℕ → Type 0
 IsRow outer line =
-    (begun_at (without_terms outer.extensions) (behind outer.containers line).state ≡ None)
+    (begun_at (without_terms outer.extensions) (match_line outer.containers line).state ≡ None)
     × In outer.containers (Begins Paragraph) line
 
 -- the first of the lines, if there is one
@@ -180,25 +187,21 @@ OnFirst P [] = ⊤
 OnFirst P (line ∷ lines) = P line
 
 -- the first of the lines is the delimiter row of no table after a line with this rest
-abbrev pub BeginsNoTable : Outer → Rest → List (List ℕ) → Type 0
+abbrev pub BeginsNoTable : OpenContainers → Rest → List (List ℕ) → Type 0
 BeginsNoTable outer first = OnFirst (λ line. (columns : ℕ) → ¬ IsHead outer first.text columns line)
 
--- It may be the header row of a table after other lines of a paragraph: it stands as a row does, and defines no term. (the same section)
-abbrev pub IsHeader : Outer → List ℕ → Type 0
-IsHeader outer line = IsRow outer line × (¬ DefinesTerm outer.extensions (rest_in outer.containers line))
-
--- With the first of these lines, which is no first line of a paragraph, a table begins: the second is the delimiter row after it.
-abbrev pub BeginsTable : Outer → List (List ℕ) → Type 0
-BeginsTable outer [] = ⊥
-BeginsTable outer (line ∷ []) = ⊥
-BeginsTable outer (line ∷ next ∷ lines) =
-    IsHeader outer line × (columns : ℕ) × IsHead outer (rest_in outer.containers line).text columns next
+-- the first of these lines is the header row of a table: the second is the delimiter row after it (the same section)
+abbrev pub BeginTable : OpenContainers → List (List ℕ) → Type 0
+BeginTable outer [] = ⊥
+BeginTable outer (line ∷ []) = ⊥
+BeginTable outer (line ∷ next ∷ lines) = (columns : ℕ) × IsHead outer (words_in outer.containers line) columns next
 
 -- These lines end a paragraph whose first line has this text, and which has these later lines before them: the first of them goes on
--- with no such paragraph, or a table begins with it.
-abbrev pub EndParagraph : Outer → List ℕ → List (List ℕ) → List (List ℕ) → Type 0
+-- with no such paragraph, or it does, lazy or not, and is the header row of a table.
+abbrev pub EndParagraph : OpenContainers → List ℕ → List (List ℕ) → List (List ℕ) → Type 0
 EndParagraph outer text before [] = ⊥
-EndParagraph outer text before (line ∷ lines) = LeavesBehind outer text before line ⊎ BeginsTable outer (line ∷ lines)
+EndParagraph outer text before (line ∷ lines) =
+    LeavesAfter outer text before line ⊎ ((¬ LeavesAfter outer text before line) × BeginTable outer (line ∷ lines))
 
 -- the lines are all up to the first that has the property, or to the last line
 pub record StopsBefore (P : List ℕ → Type 0) (lines rest : List (List ℕ)) : Type 0 where
@@ -206,18 +209,18 @@ pub record StopsBefore (P : List ℕ → Type 0) (lines rest : List (List ℕ)) 
   pub stopped : OnFirst P rest
 
 -- with none of the lines on do they and these have the property, after those before it
-abbrev pub NoneBehind : (List (List ℕ) → List (List ℕ) → Type 0) → List (List ℕ) → List (List ℕ) → List (List ℕ) → Type 0
-NoneBehind P before [] rest = ⊤
-NoneBehind P before (line ∷ lines) rest = (¬ P before (line ∷ (lines ++ rest))) × NoneBehind P (before ++ line ∷ []) lines rest
+abbrev pub NoneAfter : (List (List ℕ) → List (List ℕ) → Type 0) → List (List ℕ) → List (List ℕ) → List (List ℕ) → Type 0
+NoneAfter P before [] rest = ⊤
+NoneAfter P before (line ∷ lines) rest = (¬ P before (line ∷ (lines ++ rest))) × NoneAfter P (before ++ line ∷ []) lines rest
 
 -- the lines are all up to the first from which on lines have the property after those before it, or to the last line
 pub record StopsAt (P : List (List ℕ) → List (List ℕ) → Type 0) (lines rest : List (List ℕ)) : Type 0 where
-  pub none : NoneBehind P [] lines rest
+  pub none : NoneAfter P [] lines rest
   pub stopped : (rest ≡ []) ⊎ P lines rest
 
 -- the last of the lines is the first that has the property, and stands in the containers; or no such line does
-abbrev pub StopsBehind : List Container → (List ℕ → Type 0) → List (List ℕ) → List (List ℕ) → Type 0
-StopsBehind outer P lines rest =
+abbrev pub StopsAfter : List Container → (List ℕ → Type 0) → List (List ℕ) → List (List ℕ) → Type 0
+StopsAfter outer P lines rest =
     ((before : List (List ℕ)) × (last : List ℕ) × (lines ≡ before ++ last ∷ []) × StopsBefore P before (last ∷ rest)
     × IsInside outer last)
     ⊎ (StopsBefore P lines rest × OnFirst (λ line. ¬ IsInside outer line) rest)
@@ -250,19 +253,22 @@ pub record GoesOnIndented (outer : List Container) (later rest : List (List ℕ)
 abbrev pub EndsAsHtml : List Container → HtmlBlockKind → Rest → List (List ℕ) → List (List ℕ) → Type 0
 EndsAsHtml outer kind first later rest =
     MatchBool (ends_before_blank kind) (StopsBefore (OutOr outer (EndsHtml kind)) later rest)
-    ((EndsHtml kind first × (later ≡ [])) ⊎ ((¬ EndsHtml kind first) × StopsBehind outer (OutOr outer (EndsHtml kind)) later rest))
+    ((EndsHtml kind first × (later ≡ [])) ⊎ ((¬ EndsHtml kind first) × StopsAfter outer (OutOr outer (EndsHtml kind)) later rest))
+
+-- After a line with this text the lines are a table's: its delimiter row, and then rows up to a line that is no row. (GFM 4.10)
+abbrev pub IsTable : OpenContainers → List ℕ → ℕ → List (List ℕ) → List (List ℕ) → Type 0
+IsTable outer text columns later rest =
+    (head : List ℕ) × (rows : List (List ℕ)) × (later ≡ head ∷ rows)
+    × IsHead outer text columns head × StopsBefore (λ line. ¬ IsRow outer line) rows rest
 
 -- In these containers a line with this rest and the later lines are a block of this kind, and this rest of the page follows.
-abbrev pub IsLeaf : Outer → BlockKind → Rest → List (List ℕ) → List (List ℕ) → Type 0
+abbrev pub IsLeaf : OpenContainers → BlockKind → Rest → List (List ℕ) → List (List ℕ) → Type 0
 IsLeaf outer Blank first later rest = Begins Blank first × StopsBefore (OutOr outer.containers (λ r. ¬ IsBlank r)) later rest
 IsLeaf outer Indented first later rest = Begins Indented first × GoesOnIndented outer.containers later rest
 IsLeaf outer (Fenced count byte) first later rest =
-    Begins (Fenced count byte) first × StopsBehind outer.containers (OutOr outer.containers (ClosesFence count byte)) later rest
+    Begins (Fenced count byte) first × StopsAfter outer.containers (OutOr outer.containers (ClosesFence count byte)) later rest
 IsLeaf outer (Html kind) first later rest = Begins (Html kind) first × EndsAsHtml outer.containers kind first later rest
-IsLeaf outer (Table columns) first later rest =
-    Begins Paragraph first
-    × (head : List ℕ) × (rows : List (List ℕ)) × (later ≡ head ∷ rows)
-    × IsHead outer first.text columns head × StopsBefore (λ line. ¬ IsRow outer line) rows rest
+IsLeaf outer (Table columns) first later rest = Begins Paragraph first × IsTable outer first.text columns later rest
 IsLeaf outer Paragraph first later rest =
     Begins Paragraph first × BeginsNoTable outer first (later ++ rest) × StopsAt (EndParagraph outer first.text) later rest
     × OnFirst (λ line. (level : HeadingLevel) → ¬ Underlines outer.containers first.text later level line) rest
@@ -271,3 +277,9 @@ IsLeaf outer (Setext level) first later rest =
     × (middle : List (List ℕ)) × (last : List ℕ) × (later ≡ middle ++ last ∷ []) × BeginsNoTable outer first (later ++ rest)
     × StopsAt (EndParagraph outer first.text) middle (last ∷ rest) × Underlines outer.containers first.text middle level last
 IsLeaf outer kind first later rest = Begins kind first × (later ≡ [])
+
+-- the same where the line is the header row that ends the paragraph before it, or not: then it is a table whatever the line would begin
+abbrev pub IsLeafAfter : Bool → OpenContainers → BlockKind → Rest → List (List ℕ) → List (List ℕ) → Type 0
+IsLeafAfter false outer kind first later rest = IsLeaf outer kind first later rest
+IsLeafAfter true outer (Table columns) first later rest = IsTable outer (without_front first.text) columns later rest
+IsLeafAfter true outer kind first later rest = ⊥

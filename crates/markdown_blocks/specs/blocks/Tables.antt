@@ -4,7 +4,7 @@ use Rattle.std.specs.Prelude.{ℕ, Bool, false, not, ◌&&◌, ◌==◌, ◌+◌
 use Rattle.markdown_scanners_tree.specs.Ascii.{space, backslash, vertical_line}
 use Rattle.markdown_scanners_tree.specs.Bytes.{begins_with, line_head}
 use Rattle.markdown_scanners_tree.specs.scanners.tables.DelimiterRow.{is_pipe}
-use Rattle.markdown_blocks.specs.info.Info.{without_end}
+use Rattle.markdown_blocks.specs.info.Info.{without_end, without_front}
 
 -- a pipe separates cells, unless a backslash stands directly before it
 abbrev pub separates : ℕ → ℕ → Bool
@@ -26,6 +26,6 @@ abbrev pub cells_in : List ℕ → ℕ
 cells_in row =
     separators space row + 1 - (if begins_with is_pipe row then 1 else 0) - (if ends_separated space row then 1 else 0)
 
--- of a line with this text, without the spaces and tabs at its end
+-- of a line with this text, without the spaces and tabs at both ends
 abbrev pub cells : List ℕ → ℕ
-cells text = cells_in (without_end (line_head text))
+cells text = cells_in (without_front (without_end (line_head text)))

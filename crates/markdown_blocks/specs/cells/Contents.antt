@@ -16,11 +16,11 @@ abbrev pub unescaped : List ℕ → List ℕ
 unescaped [] = []
 unescaped (b ∷ bs) = (if escapes_pipe (b ∷ bs) then [] else b ∷ []) ++ unescaped bs
 
--- the places of those bytes, where this is the first
-abbrev pub unescaped_places : ℕ → List ℕ → List ℕ
-unescaped_places place [] = []
-unescaped_places place (b ∷ bs) =
-    (if escapes_pipe (b ∷ bs) then [] else place ∷ []) ++ unescaped_places (place + 1) bs
+-- the offsets of those bytes, where this is the first
+abbrev pub unescaped_offsets : ℕ → List ℕ → List ℕ
+unescaped_offsets offset [] = []
+unescaped_offsets offset (b ∷ bs) =
+    (if escapes_pipe (b ∷ bs) then [] else offset ∷ []) ++ unescaped_offsets (offset + 1) bs
 
 -- the bytes of a cell
 abbrev pub bytes_of_cell : List ℕ → Cell → List ℕ
@@ -35,6 +35,6 @@ escape_at (b ∷ bs) = if escapes_pipe (b ∷ bs) then 0 else suc (escape_at bs)
 abbrev pub content_of_cell : List ℕ → Cell → Placed
 content_of_cell row cell = record {
   text = unescaped (bytes_of_cell row cell);
-  places = unescaped_places cell.start (bytes_of_cell row cell);
+  offsets = unescaped_offsets cell.start (bytes_of_cell row cell);
   is_lent = escape_at (bytes_of_cell row cell) == length (bytes_of_cell row cell);
 }

@@ -8,7 +8,7 @@ use Rattle.markdown_scanners_tree.specs.line.ItemRules.{start_of}
 use Rattle.markdown_scanners_tree.specs.line.Outcome.{Outcome, after_quote, definition_outcome}
 use Rattle.markdown_scanners_tree.specs.line.State.{LineState, unscanned, space_within, after_space}
 use Rattle.markdown_blocks.specs.blank_lines.BlankLines.{is_blank}
-use Rattle.markdown_blocks.specs.containers.Footnotes.{footnote_label, behind_footnote}
+use Rattle.markdown_blocks.specs.containers.Footnotes.{footnote_label, past_footnote}
 use Rattle.markdown_blocks.specs.containers.ItemMarkers.{item_outcome}
 use Rattle.markdown_values.specs.declared.values.extensions.Extensions.{Extensions}
 use Rattle.markdown_values.specs.values.Extensions.{commonmark}
@@ -23,9 +23,9 @@ pub record Rest : Type 0 where
 abbrev pub rest_at : LineState → Rest
 rest_at s = record { indent = space_within 4 s; text = unscanned (after_space 4 s) }
 
--- the block quote marker here, after so much space: what is left behind it, if it stands here and the space is no indented code (5.1)
-abbrev pub behind_quote : ℕ → LineState → Option LineState
-behind_quote indent s =
+-- the block quote marker here, after so much space: what is left after it, if it stands here and the space is no indented code (5.1)
+abbrev pub past_quote : ℕ → LineState → Option LineState
+past_quote indent s =
     if indent == 4 then None
     else if begins_with (λ b. b == greater_than_sign) (unscanned s) then Some (after_quote s)
     else None
@@ -33,11 +33,11 @@ behind_quote indent s =
 -- what an item's marker begins, and what is left of the line after it
 abbrev pub item_of : Outcome (ℕ × ℕ × ℕ) → Option (Container × LineState)
 item_of found =
-    option_map (λ r. (Item (record { delimiter = r.0; start = r.1; width = r.2; begun = is_blank (unscanned found.state) }), found.state)) found.answer
+    option_map (λ r. (Item (record { delimiter = r.0; start = r.1; width = r.2; starts_blank = is_blank (unscanned found.state) }), found.state)) found.answer
 
 -- with these extensions on the footnote definition whose marker stands here, and what is left of the line after it
 abbrev pub footnote_by : LineState → Option (List ℕ) → Option (Container × LineState)
-footnote_by s label = option_map (λ l. (Footnote, behind_footnote l s)) label
+footnote_by s label = option_map (λ l. (Footnote, past_footnote l s)) label
 
 abbrev pub footnote_of : Extensions → LineState → Option (Container × LineState)
 footnote_of asked s = if asked.footnotes then footnote_by s (footnote_label (unscanned s)) else None
@@ -45,7 +45,7 @@ footnote_of asked s = if asked.footnotes then footnote_by s (footnote_label (uns
 -- the definition of a term that a definition's marker begins, and what is left of the line after it
 abbrev pub term_definition_by : Outcome ℕ → Option (Container × LineState)
 term_definition_by found =
-    option_map (λ width. (TermDefinition (record { begun = is_blank (unscanned found.state); width = width }), found.state)) found.answer
+    option_map (λ width. (TermDefinition (record { starts_blank = is_blank (unscanned found.state); width = width }), found.state)) found.answer
 
 abbrev pub term_definition_of : Extensions → ℕ → LineState → Option (Container × LineState)
 term_definition_of asked indent s = if asked.definition_lists then term_definition_by (definition_outcome indent s) else None
@@ -61,15 +61,15 @@ extension_of asked indent s = either_begun (footnote_of asked s) (term_definitio
 
 -- with these extensions on the container whose marker stands here, after so much space, and what is left of the line after it
 -- (5.1, 5.2)
-abbrev pub begun_behind : Extensions → ℕ → LineState → Option (Container × LineState)
-begun_behind asked indent s =
+abbrev pub begun_after : Extensions → ℕ → LineState → Option (Container × LineState)
+begun_after asked indent s =
     if indent == 4 then None
     else if begins_with (λ b. b == greater_than_sign) (unscanned s) then Some (Quote, after_quote s)
     else either_begun (item_of (item_outcome indent s)) (extension_of asked indent s)
 
 -- the container that the rest of a line begins
 abbrev pub begun_at : Extensions → LineState → Option (Container × LineState)
-begun_at asked s = begun_behind asked (space_within 4 s) (after_space 4 s)
+begun_at asked s = begun_after asked (space_within 4 s) (after_space 4 s)
 
 -- the extensions with which containers begin, all of them on
 abbrev pub all_containers : Extensions
@@ -79,10 +79,10 @@ all_containers = record commonmark { footnotes = true; definition_lists = true }
 abbrev pub without_terms : Extensions → Extensions
 without_terms asked = record asked { definition_lists = false }
 
--- The place in the line of that container's marker, and what is left of the line after the marker. It is the same whichever of
+-- The offset in the line of that container's marker, and what is left of the line after the marker. It is the same whichever of
 -- the extensions with which a container begins there are on.
-abbrev pub marker_place : LineState → ℕ
-marker_place s = (after_space 4 s).place
+abbrev pub marker_start : LineState → ℕ
+marker_start s = (after_space 4 s).offset
 
 abbrev pub after_marker : LineState → LineState
 after_marker s =
@@ -96,31 +96,31 @@ after_marker s =
 -- blank. An item that begins with a blank line does not go on with a second one, nor does the definition of a term. What is left of
 -- the line then, and whether that is blank.
 abbrev pub within_quote : Option LineState → Option (Bool × LineState)
-within_quote behind = option_map (λ s. (is_blank (unscanned s), s)) behind
+within_quote match_line = option_map (λ s. (is_blank (unscanned s), s)) match_line
 
 abbrev pub within_width : Bool → ℕ → Bool → LineState → Option (Bool × LineState)
 within_width begun width true s = if begun then None else Some (true, s)
 within_width begun width false s = if space_within width s == width then Some (false, after_space width s) else None
 
 abbrev pub within : Container → Bool → LineState → Option (Bool × LineState)
-within Quote blank s = within_quote (behind_quote (space_within 4 s) (after_space 4 s))
+within Quote blank s = within_quote (past_quote (space_within 4 s) (after_space 4 s))
 within Footnote blank s = within_width false 4 blank s
-within (Item item) blank s = within_width item.begun item.width blank s
-within (TermDefinition definition) blank s = within_width definition.begun definition.width blank s
+within (Item item) blank s = within_width item.starts_blank item.width blank s
+within (TermDefinition definition) blank s = within_width definition.starts_blank definition.width blank s
 
 -- a blank line goes on with the container, whatever space it has
 abbrev pub goes_on_blank : Container → Bool
 goes_on_blank Quote = false
 goes_on_blank Footnote = true
-goes_on_blank (Item item) = not item.begun
-goes_on_blank (TermDefinition definition) = not definition.begun
+goes_on_blank (Item item) = not item.starts_blank
+goes_on_blank (TermDefinition definition) = not definition.starts_blank
 
 -- how many of the containers a line goes on with, the outermost first, and what is left of it after them
-pub record Behind : Type 0 where
+pub record LineMatch : Type 0 where
   pub kept : ℕ
   pub state : LineState
 
-abbrev pub go_on : Bool → List Container → LineState → Behind
+abbrev pub go_on : Bool → List Container → LineState → LineMatch
 go_on blank [] s = record { kept = 0; state = s }
 go_on blank (c ∷ inner) s =
     elim (within c blank s) [
@@ -129,33 +129,34 @@ go_on blank (c ∷ inner) s =
     ]
 
 -- the line, as far as it goes on with the open containers
-abbrev pub behind : List Container → List ℕ → Behind
-behind outer line = go_on (is_blank line) outer (start_of line)
+abbrev pub match_line : List Container → List ℕ → LineMatch
+match_line outer line = go_on (is_blank line) outer (start_of line)
 
 -- the containers that are open, the outermost first, and the extensions that are on
-pub record Outer : Type 0 where
+pub record OpenContainers : Type 0 where
   pub extensions : Extensions
   pub containers : List Container
 
--- The containers that are open between two blocks, the outermost first, the extensions that are on, and whether a term stands directly
--- before the next line, or with one blank line between.
+-- The containers that are open between two blocks, the outermost first, the extensions that are on, whether a term stands directly
+-- before the next line, or with one blank line between, and whether a paragraph stands directly before it.
 pub record Between : Type 0 where
   pub extensions : Extensions
   pub containers : List Container
   pub term : Bool
+  pub paragraph : Bool
 
 -- a line where these containers are open
 pub record Line : Type 0 where
-  pub outer : Outer
+  pub outer : OpenContainers
   pub bytes : List ℕ
 
 -- the line goes on with all of them
 abbrev pub IsInside : List Container → List ℕ → Type 0
-IsInside outer line = (behind outer line).kept ≡ length outer
+IsInside outer line = (match_line outer line).kept ≡ length outer
 
 -- what the line has after those that it goes on with
 abbrev pub rest_in : List Container → List ℕ → Rest
-rest_in outer line = rest_at (behind outer line).state
+rest_in outer line = rest_at (match_line outer line).state
 
 -- The extensions with which the rest of a line begins a container, where these are the open ones that the line ends: the definition of a
 -- term begins where none of them ends and a term stands, or where the outermost that ends is another definition.
@@ -167,10 +168,10 @@ asked_first asked term (c ∷ inner) = without_terms asked
 -- the same of a line that comes next, and of a later line of a block
 abbrev pub asked_between : Between → List ℕ → Extensions
 asked_between before line =
-    asked_first before.extensions before.term (drop (behind before.containers line).kept before.containers)
+    asked_first before.extensions before.term (drop (match_line before.containers line).kept before.containers)
 
-abbrev pub asked_in : Outer → List ℕ → Extensions
-asked_in outer line = asked_first outer.extensions false (drop (behind outer.containers line).kept outer.containers)
+abbrev pub asked_in : OpenContainers → List ℕ → Extensions
+asked_in outer line = asked_first outer.extensions false (drop (match_line outer.containers line).kept outer.containers)
 
 -- With these extensions on the rest of a line begins these containers, one in the other, and no further one. In a container that begins
 -- there stands no term.
@@ -180,13 +181,13 @@ Opens asked s (c ∷ inner) after =
     (next : LineState) × (begun_at asked s ≡ Some (c, next)) × Opens (without_terms asked) next inner after
 
 -- An item or the definition of a term of which a second line is read, and the last of open containers so.
-abbrev pub settled : Container → Container
-settled Quote = Quote
-settled Footnote = Footnote
-settled (Item item) = Item (record item { begun = false })
-settled (TermDefinition definition) = TermDefinition (record definition { begun = false })
+abbrev pub past_first_line : Container → Container
+past_first_line Quote = Quote
+past_first_line Footnote = Footnote
+past_first_line (Item item) = Item (record item { starts_blank = false })
+past_first_line (TermDefinition definition) = TermDefinition (record definition { starts_blank = false })
 
-abbrev pub settled_last : List Container → List Container
-settled_last [] = []
-settled_last (c ∷ []) = settled c ∷ []
-settled_last (c ∷ d ∷ inner) = c ∷ settled_last (d ∷ inner)
+abbrev pub last_past_first_line : List Container → List Container
+last_past_first_line [] = []
+last_past_first_line (c ∷ []) = past_first_line c ∷ []
+last_past_first_line (c ∷ d ∷ inner) = c ∷ last_past_first_line (d ∷ inner)

@@ -25,10 +25,10 @@ footnote_label (a ∷ b ∷ rest) =
     if a == left_bracket && b == circumflex && nat_lt 0 n && closes_label (drop n rest) then Some (take n rest) else None
 footnote_label bytes = None
 
--- the place after all columns of space that stand here
+-- the offset after all columns of space that stand here
 abbrev pub after_columns : LineState → LineState
 after_columns s = after_space (leading_spaces (rest_of s)) s
 
--- the place after the marker with this label, to which the spaces and tabs after the colon belong
-abbrev pub behind_footnote : List ℕ → LineState → LineState
-behind_footnote label s = after_columns (bytes_further (length label + 4) s)
+-- the offset after the marker with this label, to which the spaces and tabs after the colon belong
+abbrev pub past_footnote : List ℕ → LineState → LineState
+past_footnote label s = after_columns (bytes_further (length label + 4) s)

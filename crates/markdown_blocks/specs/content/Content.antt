@@ -1,4 +1,4 @@
--- The content of leaf blocks, with the place of each byte. (CommonMark 0.31.2, sections 2.1, 2.2, 4.2 to 4.6 and 4.8)
+-- The content of leaf blocks, with the offset of each byte. (CommonMark 0.31.2, sections 2.1, 2.2, 4.2 to 4.6 and 4.8)
 use Rattle.std.specs.Prelude.{ℕ, Bool, ◌||◌, ◌==◌, ◌+◌, ◌-◌, ◌<◌, ◌≤◌, List, ◌++◌, ◌≡◌, ⊤, length, take, replicate, slice_index}
 use Rattle.std.specs.List.{flat_map, range_with_len, suffix_len}
 use Rattle.markdown_scanners_tree.specs.Ascii.{carriage_return}
@@ -9,36 +9,36 @@ use Rattle.markdown_blocks.specs.declared.blocks.BlockKind.TheVariants.{Indented
 use Rattle.markdown_blocks.specs.declared.containers.Container.{Container}
 use Rattle.markdown_blocks.specs.declared.content.Run.{Run}
 
--- bytes, of each its place in the block's lines, and whether all are lent from these
+-- bytes, of each its offset in the block's lines, and whether all are lent from these
 pub record Placed : Type 0 where
   pub text : List ℕ
-  pub places : List ℕ
+  pub offsets : List ℕ
   pub is_lent : Bool
 
--- the bytes stand in the block's lines one directly after another, from this place on
+-- the bytes stand in the block's lines one directly after another, from this offset on
 abbrev pub StandsFrom : ℕ → Placed → Type 0
-StandsFrom place content = (offset : ℕ) → offset < length content.text → slice_index content.places offset ≡ place + offset
+StandsFrom source content = (offset : ℕ) → offset < length content.text → slice_index content.offsets offset ≡ source + offset
 
--- they do so from some place on: the content is one run of the block's lines
+-- they do so from some offset on: the content is one run of the block's lines
 abbrev pub IsOneRun : Placed → Type 0
-IsOneRun content = (place : ℕ) × StandsFrom place content
+IsOneRun content = (offset : ℕ) × StandsFrom offset content
 
--- the bytes of the run stand in the block's lines one directly after another, the first of them at its place
+-- the bytes of the run stand in the block's lines one directly after another, the first of them at its offset
 pub record IsRunOf (content : Placed) (run : Run) : Type 0 where
   pub within : run.end ≤ length content.text
-  pub places : (offset : ℕ) → run.start ≤ offset → offset < run.end → slice_index content.places offset ≡ run.place + (offset - run.start)
+  pub offsets : (offset : ℕ) → run.start ≤ offset → offset < run.end → slice_index content.offsets offset ≡ run.source + (offset - run.start)
 
 -- columns of spaces or a line feed, and the bytes
 abbrev pub text_of : Part → List ℕ
 text_of p = replicate p.columns p.filler ++ p.bytes
 
 -- columns stand where the byte does that they replace, directly before the bytes
-abbrev pub places_of : Part → List ℕ
-places_of p = replicate p.columns (p.place - 1) ++ range_with_len p.place (length p.bytes)
+abbrev pub offsets_of : Part → List ℕ
+offsets_of p = replicate p.columns (p.offset - 1) ++ range_with_len p.offset (length p.bytes)
 
 -- the parts, joined; they are lent where they are one run of the lines
 abbrev pub joined : List Part → Placed
-joined parts = record { text = flat_map text_of parts; places = flat_map places_of parts; is_lent = is_one_run parts }
+joined parts = record { text = flat_map text_of parts; offsets = flat_map offsets_of parts; is_lent = is_one_run parts }
 
 -- without the spaces, tabs and line endings at its end
 abbrev pub words_len : List ℕ → ℕ
@@ -64,7 +64,7 @@ HasNoReturn text = (offset : ℕ) → offset < length text → ¬ (slice_index t
 
 -- so many of its first bytes; no bytes at all are lent too
 abbrev pub front : ℕ → Placed → Placed
-front n content = record { text = take n content.text; places = take n content.places; is_lent = content.is_lent || n == 0 }
+front n content = record { text = take n content.text; offsets = take n content.offsets; is_lent = content.is_lent || n == 0 }
 
 abbrev pub content_with : BlockKind → List Part → Placed
 content_with kind parts = front (content_len kind (joined parts).text) (joined parts)

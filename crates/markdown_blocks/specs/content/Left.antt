@@ -19,11 +19,11 @@ parts_left p =
     ++ later_parts p.cut.kind p.cut.outer.now.containers p.cut.indent p.read.bytes
     (take (p.count - p.read.lines) (lines_of (drop p.read.bytes p.lines.now))))
 
--- joined, the parts are these bytes, which stand one after the other from this place on
+-- joined, the parts are these bytes, which stand one after the other from this offset on
 abbrev pub IsRunAt : List ℕ → ℕ → List Part → Type 0
-IsRunAt run place parts = (flat_map text_of parts ≡ run) × GoOn place parts
+IsRunAt run offset parts = (flat_map text_of parts ≡ run) × GoOn offset parts
 
--- they are the bytes of the lines from one place up to another
+-- they are the bytes of the lines from one offset up to another
 abbrev pub IsRun : List ℕ → List Part → ℕ → ℕ → Type 0
 IsRun lines parts begin end =
     (begin ≤ end) × (end ≤ length lines) × IsRunAt (take (end - begin) (drop begin lines)) begin parts

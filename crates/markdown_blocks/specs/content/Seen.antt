@@ -5,13 +5,13 @@ use Rattle.markdown_blocks.specs.content.Parts.{Part}
 use Rattle.markdown_blocks.specs.declared.content.parts.LinePart.{LinePart}
 
 abbrev pub seen_part : LinePart → Part
-seen_part p = record { columns = p.columns; filler = p.filler; place = p.place; bytes = p.bytes.now }
+seen_part p = record { columns = p.columns; filler = p.filler; offset = p.offset; bytes = p.bytes.now }
 
--- the part's bytes stand in the lines at its place
+-- the part's bytes stand in the lines at its offset
 abbrev pub IsIn : List ℕ → Part → Type 0
 IsIn lines p =
-    (p.place + length p.bytes ≤ length lines)
-    × (drop p.place lines ≡ p.bytes ++ drop (p.place + length p.bytes) lines)
+    (p.offset + length p.bytes ≤ length lines)
+    × (drop p.offset lines ≡ p.bytes ++ drop (p.offset + length p.bytes) lines)
 
 abbrev pub IsFirstIn : List ℕ → Option LinePart → Type 0
 IsFirstIn lines first = ForSome first (λ p. IsIn lines (seen_part p))

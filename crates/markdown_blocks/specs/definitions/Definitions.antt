@@ -19,5 +19,5 @@ AreDefinitions text (definition ∷ more) rest = IsDefinition text definition ×
 pub record HasText (content : List ℕ) : Type 0 where
   pub definitions : List ReferenceDefinition
   pub rest : List ℕ
-  pub behind : AreDefinitions content definitions rest
+  pub after : AreDefinitions content definitions rest
   pub some : rest ≢ []

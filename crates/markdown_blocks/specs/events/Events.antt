@@ -6,7 +6,7 @@ use Rattle.markdown_scanners_tree.specs.line.State.{LineState}
 use Rattle.markdown_scanners_tree.specs.scanners.TextLines.{lines_of}
 use Rattle.markdown_blocks.specs.blocks.Pages.{Piece, IsPage}
 use Rattle.markdown_blocks.specs.byte_order_mark.ByteOrderMark.{text_of, text_start}
-use Rattle.markdown_blocks.specs.containers.Containers.{Rest, rest_in, behind, marker_place, after_marker}
+use Rattle.markdown_blocks.specs.containers.Containers.{Rest, rest_in, match_line, marker_start, after_marker}
 use Rattle.markdown_blocks.specs.declared.blocks.BlockKind.{BlockKind}
 use Rattle.markdown_blocks.specs.declared.blocks.BlockKind.TheVariants.{Definition}
 use Rattle.markdown_values.specs.declared.values.extensions.Extensions.{Extensions}
@@ -27,7 +27,7 @@ pub record LeafBlock : Type 0 where
   pub bytes : ℕ
   pub indent : ℕ
   pub text : List ℕ
-  pub place : ℕ
+  pub offset : ℕ
 
 -- how many bytes of the page stand before what follows a leaf block
 abbrev pub block_end : LeafBlock → ℕ
@@ -62,7 +62,7 @@ leaf_of kind part = record {
   bytes = length (concat part.lines);
   indent = part.words.indent;
   text = part.words.text;
-  place = part.start + (length (first_of part.lines) - length part.words.text);
+  offset = part.start + (length (first_of part.lines) - length part.words.text);
 }
 
 -- the first of the lines, so many
@@ -116,14 +116,14 @@ AreLeavesOf line start piece leaves =
 -- the containers that the rest of a line begins, one in the other, where so many bytes of the page stand before the line
 abbrev pub started : ℕ → LineState → List Container → List Event
 started start s [] = []
-started start s (c ∷ inner) = starts c (start + marker_place s) ∷ started start (after_marker s) inner
+started start s (c ∷ inner) = starts c (start + marker_start s) ∷ started start (after_marker s) inner
 
 -- The events of a piece with these leaf blocks, before which these containers are open: those that its first line does not go on
 -- with end, those that it begins start, and its leaf blocks stand in them.
 abbrev pub piece_events : List Container → ℕ → Piece → List LeafBlock → List Event
 piece_events outer start piece leaves =
     replicate (length outer - length piece.kept) ends
-    ++ started start (behind outer piece.first).state piece.begun ++ map leaf leaves
+    ++ started start (match_line outer piece.first).state piece.begun ++ map leaf leaves
 
 -- the events of pieces, before which these containers are open and so many lines and bytes stand
 abbrev pub AreEvents : List Container → ℕ → ℕ → List Piece → List Event → Type 0
@@ -156,10 +156,10 @@ seen_leaf l = record {
   bytes = l.bytes;
   indent = l.indent;
   text = l.text.now;
-  place = l.place;
+  offset = l.offset;
 }
 
 abbrev pub seen_event : BlockEvent → Event
-seen_event (Start container place) = starts container place
+seen_event (Start container offset) = starts container offset
 seen_event (Block l) = leaf (seen_leaf l)
 seen_event End = ends

@@ -8,29 +8,29 @@ use Rattle.markdown_blocks.specs.containers.Containers.{Between}
 use Rattle.markdown_values.specs.declared.values.extensions.Extensions.{Extensions}
 use Rattle.markdown_blocks.specs.declared.containers.Container.{Container}
 use Rattle.markdown_blocks.specs.declared.step.Step.{Step}
-use Rattle.markdown_blocks.specs.declared.taken.Taken.{Taken}
+use Rattle.markdown_blocks.specs.declared.taken.Extent.{Extent}
 use Rattle.markdown_blocks.specs.walk.Walk.{rest_of}
 use Rattle.markdown_blocks.specs.events.Events.{Event, leaf, ends, LeafBlock, Part, AreLeaves, started, AreEvents, open_after}
 
--- What is left of a block: how many containers end; how many of its own have begun, and the place in its first line, before which
+-- What is left of a block: how many containers end; how many of its own have begun, and the offset in its first line, before which
 -- so many bytes of the page stand, before the next one's marker; its kind; the lines that no leaf block has that was given; and how
 -- much of its content those leaf blocks have.
 pub record BlockLeft : Type 0 where
   pub ending : ℕ
   pub begun : ℕ
   pub front : ℕ
-  pub place : LineState
+  pub position : LineState
   pub kind : BlockKind
   pub part : Part
   pub used : ℕ
 
 -- the whole block of a step, before which so many lines and bytes of the page stand and so many containers are open
-abbrev pub block_left : Step → Taken → ℕ → BlockLeft
+abbrev pub block_left : Step → Extent → ℕ → BlockLeft
 block_left step before depth = record {
   ending = depth - step.kept;
   begun = step.kept;
   front = before.bytes;
-  place = step.start;
+  position = step.start;
   kind = step.block.kind;
   part = record { line = before.lines; start = before.bytes; words = rest_of step; lines = lines_of step.lines.now };
   used = 0;
@@ -41,7 +41,7 @@ pub record GivesBlock (outer : List Container) (content : List ℕ) (left : Bloc
   pub leaves : List LeafBlock
   pub are_leaves : AreLeaves outer left.kind left.part (drop left.used content) leaves
   pub given : events ≡ replicate left.ending ends
-      ++ started left.front left.place (drop left.begun outer) ++ map leaf leaves
+      ++ started left.front left.position (drop left.begun outer) ++ map leaf leaves
 
 -- a number that each of its events lowers; it is 0 where none is left
 abbrev pub block_events_left : List Container → BlockLeft → ℕ
@@ -53,14 +53,14 @@ pub record Pending : Type 0 where
   pub content : List ℕ
 
 -- How far a page is read: the extensions that are on; what is left of it after the block that is read, the containers that are
--- open there, whether a term stands before it, how many of them have begun and not ended where no block is read, how many lines
--- and bytes stand before it, and that
--- block.
+-- open there, whether a term stands before it, and whether a paragraph does, how many of them have begun and not ended where no
+-- block is read, how many lines and bytes stand before it, and that block.
 pub record Left : Type 0 where
   pub text : List ℕ
   pub extensions : Extensions
   pub containers : List Container
   pub term : Bool
+  pub paragraph : Bool
   pub begun : ℕ
   pub line : ℕ
   pub start : ℕ
@@ -77,7 +77,7 @@ depth_then begun containers (Some pending) = length containers
 
 -- its extensions, its containers, and whether a term stands there
 abbrev pub between_of : Left → Between
-between_of left = record { extensions = left.extensions; containers = left.containers; term = left.term }
+between_of left = record { extensions = left.extensions; containers = left.containers; term = left.term; paragraph = left.paragraph }
 
 -- from here the page gives these events
 pub record Gives (left : Left) (events : List Event) : Type 0 where

@@ -17,6 +17,6 @@ IsMarked (TermDefinition definition) text = IsTrue (begins_with (λ b. b == colo
 -- the same of each that begins in these events
 abbrev pub AreMarked : List ℕ → List Event → Type 0
 AreMarked page [] = ⊤
-AreMarked page (starts container place ∷ later) = IsMarked container (drop place page) × AreMarked page later
+AreMarked page (starts container offset ∷ later) = IsMarked container (drop offset page) × AreMarked page later
 AreMarked page (leaf block ∷ later) = AreMarked page later
 AreMarked page (ends ∷ later) = AreMarked page later

@@ -27,7 +27,7 @@ IsWritten content (Some written) rest =
 
 -- what is written in the definition that an event is, where this is left of its block's content
 abbrev pub IsWrittenIn : List ℕ → Event → Option Written → List ℕ → Type 0
-IsWrittenIn content (starts container place) written rest = (written ≡ None) × (rest ≡ content)
+IsWrittenIn content (starts container offset) written rest = (written ≡ None) × (rest ≡ content)
 IsWrittenIn content (leaf block) written rest = IsWritten content written rest
 IsWrittenIn content ends written rest = (written ≡ None) × (rest ≡ content)
 

@@ -12,6 +12,6 @@ IsUsed content old new =
 
 -- a leaf block has that of it, and no other event has any
 abbrev pub IsUsedBy : List ℕ → ℕ → Event → ℕ → Type 0
-IsUsedBy content old (starts container place) new = new ≡ old
+IsUsedBy content old (starts container offset) new = new ≡ old
 IsUsedBy content old (leaf block) new = IsUsed content old new
 IsUsedBy content old ends new = new ≡ old

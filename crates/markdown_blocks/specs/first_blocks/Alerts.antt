@@ -17,7 +17,7 @@ use Rattle.markdown_blocks.specs.lists.Lists.{Nodes, flatten}
 -- The alert whose line, of this kind and so many bytes, is the first of a block: how many bytes of the page stand before it, how
 -- many bytes it has, and whether the block has no other line.
 abbrev pub alert_with : LeafBlock → BlockQuoteKind × ℕ → Alert
-alert_with block line = record { kind = line.0; place = block.place; len = line.1; is_alone = block.lines == 1 }
+alert_with block line = record { kind = line.0; offset = block.offset; len = line.1; is_alone = block.lines == 1 }
 
 -- an alert is a block quote whose first block is a paragraph, and the first line of that is an alert's
 abbrev pub alert_in : Container → BlockKind → LeafBlock → Option Alert

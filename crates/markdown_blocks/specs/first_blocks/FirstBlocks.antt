@@ -17,13 +17,13 @@ abbrev pub first_in : Container → Nodes → Option First
 first_in container nothing = None
 first_in container (leaf_then block later) =
     if is_blank_kind block.kind then first_in container later else Some (record { container = container; block = block })
-first_in container (container_then other place inner later) = None
+first_in container (container_then other offset inner later) = None
 
 -- the first blocks of the containers among nodes and in them, in order
 abbrev pub firsts_of : Nodes → List First
 firsts_of nothing = []
 firsts_of (leaf_then block later) = firsts_of later
-firsts_of (container_then container place inner later) =
+firsts_of (container_then container offset inner later) =
     option_to_list (first_in container inner) ++ firsts_of inner ++ firsts_of later
 
 -- what a first block of the library says

@@ -31,7 +31,7 @@ is_task_text text = false
 abbrev pub scanned_task : LeafBlock → Option Task
 scanned_task block =
     let found = task_outcome (start_of block.text) in
-    option_map (λ checked. record { is_checked = checked; place = block.place; len = found.state.place }) found.answer
+    option_map (λ checked. record { is_checked = checked; offset = block.offset; len = found.state.offset }) found.answer
 
 -- the task list marker that a block's text begins with, where its line goes on after it
 abbrev pub task_of : LeafBlock → Option Task

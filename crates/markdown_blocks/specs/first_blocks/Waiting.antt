@@ -7,10 +7,10 @@ use Rattle.markdown_blocks.specs.first_blocks.FirstBlocks.{First}
 use Rattle.markdown_blocks.specs.blocks.Pages.{is_blank_kind}
 
 -- the innermost container after an event, where it has no block yet, and before the event this one had none
-abbrev pub waiting_behind : Option Container → Event → Option Container
-waiting_behind waiting (starts container place) = Some container
-waiting_behind waiting (leaf block) = if is_blank_kind block.kind then waiting else None
-waiting_behind waiting ends = None
+abbrev pub waiting_next : Option Container → Event → Option Container
+waiting_next waiting (starts container offset) = Some container
+waiting_next waiting (leaf block) = if is_blank_kind block.kind then waiting else None
+waiting_next waiting ends = None
 
 -- the first block that the event is
 abbrev pub first_at : Option Container → Event → Option First
@@ -19,7 +19,7 @@ first_at waiting (leaf block) =
 first_at waiting event = None
 
 -- the first blocks among the events that follow
-abbrev pub firsts_behind : Option Container → List Event → List First
-firsts_behind waiting [] = []
-firsts_behind waiting (event ∷ later) =
-    option_to_list (first_at waiting event) ++ firsts_behind (waiting_behind waiting event) later
+abbrev pub firsts_after : Option Container → List Event → List First
+firsts_after waiting [] = []
+firsts_after waiting (event ∷ later) =
+    option_to_list (first_at waiting event) ++ firsts_after (waiting_next waiting event) later

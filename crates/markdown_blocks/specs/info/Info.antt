@@ -12,10 +12,10 @@ abbrev pub without_end : List ℕ → List ℕ
 without_end bytes = take (length bytes - suffix_len is_space_or_tab bytes) bytes
 
 -- what stands after a run of this byte
-abbrev pub behind_fence : ℕ → List ℕ → List ℕ
-behind_fence byte bytes = drop (prefix_len (λ b. b == byte) bytes) bytes
+abbrev pub after_fence : ℕ → List ℕ → List ℕ
+after_fence byte bytes = drop (prefix_len (λ b. b == byte) bytes) bytes
 
 -- The info string where a fence of this byte opens code, and this is the rest of its line: what stands after the fence,
 -- without the spaces and tabs at both ends.
 abbrev pub info_of : ℕ → List ℕ → List ℕ
-info_of byte fence = without_end (without_front (line_head (behind_fence byte fence)))
+info_of byte fence = without_end (without_front (line_head (after_fence byte fence)))

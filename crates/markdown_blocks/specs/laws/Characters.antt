@@ -9,13 +9,13 @@ pub record IsCutOut (page : List ℕ) (block : LeafBlock) : Type 0 where
   pub begins : IsCharBoundary page block.start
   pub ends : IsCharBoundary page (block_end block)
   pub lines : IsUtf8 (take block.bytes (drop block.start page))
-  pub place : IsCharBoundary page block.place
+  pub offset : IsCharBoundary page block.offset
   pub text : IsUtf8 block.text
-  pub in_text : (offset : ℕ) → IsCharBoundary block.text offset → IsCharBoundary page (block.place + offset)
+  pub in_text : (offset : ℕ) → IsCharBoundary block.text offset → IsCharBoundary page (block.offset + offset)
 
 -- so may it at each leaf block among the events, and before the marker of each container
 abbrev pub AreCutOut : List ℕ → List Event → Type 0
 AreCutOut page [] = ⊤
-AreCutOut page (starts container place ∷ later) = IsCharBoundary page place × AreCutOut page later
+AreCutOut page (starts container offset ∷ later) = IsCharBoundary page offset × AreCutOut page later
 AreCutOut page (leaf block ∷ later) = IsCutOut page block × AreCutOut page later
 AreCutOut page (ends ∷ later) = AreCutOut page later

@@ -26,6 +26,7 @@ HasSameWords piece held line changed = words_in (piece.kept ++ piece.begun) line
 -- The block in these containers, of which its first line begins the second ones. Its first line is changed so, and so each
 -- other line, or in a paragraph so, where that leaves the line's words as they are (laziness).
 pub record IsHeldIn (First Later Lazy : Change) (kept begun : List Container) (piece held : Piece) : Type 0 where
+  pub header : held.header ≡ piece.header
   pub kept_are : held.kept ≡ kept
   pub begun_are : held.begun ≡ begun
   pub words : held.words ≡ piece.words

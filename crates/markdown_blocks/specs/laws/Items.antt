@@ -37,7 +37,7 @@ abbrev pub width_of : Lead → ℕ
 width_of lead = lead.indent + length lead.marker + lead.gap
 
 abbrev pub item_by : Lead → Container
-item_by lead = Item (record { delimiter = lead.delimiter; begun = false; width = width_of lead; start = lead.start })
+item_by lead = Item (record { delimiter = lead.delimiter; starts_blank = false; width = width_of lead; start = lead.start })
 
 -- the marker with what stands after it, before the line
 abbrev pub marked_line : Lead → List ℕ → List ℕ
@@ -48,7 +48,7 @@ marked_line lead line = lead.marker ++ (replicate lead.gap space ++ line)
 pub record IsItemLine (lead : Lead) (line changed : List ℕ) : Type 0 where
   pub parts : changed ≡ replicate lead.indent space ++ marked_line lead line
   pub text : IsTrue (not (is_blank line))
-  pub behind : IsTrue (not (begins_with is_space_or_tab line)) ⊎ ((lead.gap ≡ 1) × HasIndent (rest_at (start_of line)))
+  pub after : IsTrue (not (begins_with is_space_or_tab line)) ⊎ ((lead.gap ≡ 1) × HasIndent (rest_at (start_of line)))
   pub no_break : IsTrue (not (is_thematic_break (marked_line lead line)))
   pub tabs : KeepsTabs (width_of lead) line
 
@@ -78,7 +78,7 @@ AreInItem asked lead =
 
 -- the item where its first line alone is read, which is blank after the marker
 abbrev pub begun_by : Lead → Container
-begun_by lead = Item (record { delimiter = lead.delimiter; begun = true; width = width_of lead; start = lead.start })
+begun_by lead = Item (record { delimiter = lead.delimiter; starts_blank = true; width = width_of lead; start = lead.start })
 
 -- The first line of an item that begins with a blank line: after the marker stands a line ending, or nothing.
 pub record IsMarkerAlone (lead : Lead) (line changed : List ℕ) : Type 0 where

@@ -42,13 +42,13 @@ AreNoDefinitions (container ∷ inner) = AreNoDefinitions inner
 
 -- Of the containers that a block begins after these ones only the first is the definition of a term, and that follows the term, or
 -- another definition of it.
-abbrev pub BeginBehindTerm : List Piece → List Container → List Container → Type 0
-BeginBehindTerm before ended [] = ⊤
-BeginBehindTerm before ended (TermDefinition definition ∷ inner) = FollowsTerm before ended × AreNoDefinitions inner
-BeginBehindTerm before ended (container ∷ inner) = AreNoDefinitions inner
+abbrev pub BeginAfterTerm : List Piece → List Container → List Container → Type 0
+BeginAfterTerm before ended [] = ⊤
+BeginAfterTerm before ended (TermDefinition definition ∷ inner) = FollowsTerm before ended × AreNoDefinitions inner
+BeginAfterTerm before ended (container ∷ inner) = AreNoDefinitions inner
 
 -- so does each block after these ones
 abbrev pub HaveTerms : List Piece → List Piece → Type 0
 HaveTerms before [] = ⊤
 HaveTerms before (piece ∷ later) =
-    BeginBehindTerm before (drop (length piece.kept) (open_after before)) piece.begun × HaveTerms (piece ∷ before) later
+    BeginAfterTerm before (drop (length piece.kept) (open_after before)) piece.begun × HaveTerms (piece ∷ before) later

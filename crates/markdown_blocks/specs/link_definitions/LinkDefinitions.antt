@@ -98,10 +98,10 @@ known_as known label = option_map target_in (lookup (bytes_eq (key_bytes label))
 abbrev pub known_before : Known → List Named → List ℕ → Option Target
 known_before known later label = elim (known_as known label) [ Some target ↦ Some target | None ↦ first_of label later ]
 
--- Of the definitions that a content begins with, those before this place are added.
-pub record AreAddedUpTo (place : ℕ) (content : List ℕ) (old new : Known) : Type 0 where
+-- Of the definitions that a content begins with, those before this offset are added.
+pub record AreAddedUpTo (offset : ℕ) (content : List ℕ) (old new : Known) : Type 0 where
   pub front : List Named
-  pub is_front : (later : List Named) → Names (drop place content) later → Names content (front ++ later)
+  pub is_front : (later : List Named) → Names (drop offset content) later → Names content (front ++ later)
   pub added : (asked : List ℕ) → known_as new asked ≡ known_before old front asked
 
 -- of those that it begins with after the start, those before the end

@@ -19,16 +19,16 @@ pub data Nodes : Type 0 where
 abbrev pub flatten : Nodes → List Event
 flatten nothing = []
 flatten (leaf_then block later) = leaf block ∷ flatten later
-flatten (container_then container place inner later) = starts container place ∷ flatten inner ++ ends ∷ flatten later
+flatten (container_then container offset inner later) = starts container offset ∷ flatten inner ++ ends ∷ flatten later
 
 -- how many lines of the page stand before what follows a leaf block, and before what follows nodes that so many stand before
-abbrev pub line_behind : LeafBlock → ℕ
-line_behind block = block.line + block.lines
+abbrev pub next_line : LeafBlock → ℕ
+next_line block = block.line + block.lines
 
 abbrev pub lines_passed : ℕ → Nodes → ℕ
 lines_passed line nothing = line
-lines_passed line (leaf_then block later) = lines_passed (line_behind block) later
-lines_passed line (container_then container place inner later) = lines_passed (lines_passed line inner) later
+lines_passed line (leaf_then block later) = lines_passed (next_line block) later
+lines_passed line (container_then container offset inner later) = lines_passed (lines_passed line inner) later
 
 abbrev pub begins_blank : Nodes → Bool
 begins_blank (leaf_then block later) = is_blank_kind block.kind
@@ -119,7 +119,7 @@ abbrev pub leaf_child : LeafBlock → ℕ → Bool → Child
 leaf_child block line blank = record {
   container = None;
   line = line;
-  end = line_behind block;
+  end = next_line block;
   is_parted = false;
   is_blank = blank;
   inside = [];
@@ -146,8 +146,8 @@ abbrev pub children : Bool → ℕ → ℕ → Nodes → List Child
 children is_first depth line nothing = []
 children is_first depth line (leaf_then block later) =
     child_unless (is_blank_kind block.kind && not is_first) (leaf_child block line (begins_blank later))
-    (children false depth (line_behind block) later)
-children is_first depth line (container_then container place inner later) =
+    (children false depth (next_line block) later)
+children is_first depth line (container_then container offset inner later) =
     container_child container (suc depth) line (lines_passed line inner) (begins_blank later) (children true (suc depth) line inner)
     ∷ children false depth (lines_passed line inner) later
 

@@ -8,7 +8,7 @@ use Rattle.markdown_blocks.specs.declared.lists.ListBlock.{ListBlock}
 use Rattle.markdown_blocks.specs.declared.lists.OpenList.{OpenList}
 use Rattle.markdown_blocks.specs.events.Events.{Event, starts, leaf, ends, LeafBlock}
 use Rattle.markdown_blocks.specs.blocks.Pages.{is_blank_kind}
-use Rattle.markdown_blocks.specs.lists.Lists.{line_behind}
+use Rattle.markdown_blocks.specs.lists.Lists.{next_line}
 
 -- How far the events are followed: the lines before what comes next, and before what follows the last block; whether a blank line
 -- stands after that block; whether the innermost container has no block yet; what is known of it, and of those around it.
@@ -86,12 +86,12 @@ pub record Read : Type 0 where
   pub state : Tracked
 
 abbrev pub leaf_read : Bool → LeafBlock → Tracked → Read
-leaf_read true block s = record { list = None; state = record s { line = line_behind block; is_blank = true } }
+leaf_read true block s = record { list = None; state = record s { line = next_line block; is_blank = true } }
 leaf_read false block s = record {
   list = closed s;
   state = record {
-    line = line_behind block;
-    end = line_behind block;
+    line = next_line block;
+    end = next_line block;
     is_blank = false;
     is_fresh = false;
     level = record { ends_with_block = s.level.ends_with_block; is_parted = s.level.is_parted || s.is_blank; list = None };
@@ -127,11 +127,11 @@ start_read container s = record {
 }
 
 abbrev pub read : Tracked → Event → Read
-read s (starts container place) = start_read container s
+read s (starts container offset) = start_read container s
 read s (leaf block) = leaf_read (is_blank_kind block.kind && not s.is_fresh) block s
 read s ends = end_read s.outer s
 
 -- the lists that end in these events, and at their end
-abbrev pub lists_behind : Tracked → List Event → List ListBlock
-lists_behind s [] = option_to_list (closed s)
-lists_behind s (event ∷ later) = option_to_list (read s event).list ++ lists_behind (read s event).state later
+abbrev pub lists_given : Tracked → List Event → List ListBlock
+lists_given s [] = option_to_list (closed s)
+lists_given s (event ∷ later) = option_to_list (read s event).list ++ lists_given (read s event).state later

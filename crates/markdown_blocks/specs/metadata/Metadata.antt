@@ -13,9 +13,9 @@ use Rattle.markdown_blocks.specs.declared.metadata.Metadata.{Metadata}
 abbrev pub style_of : ℕ → MetadataBlockKind
 style_of byte = if byte == hyphen then YamlStyle else PlusesStyle
 
--- A line begins at this place, directly after an LF, that closes a block which the byte opens.
+-- A line begins at this offset, directly after an LF, that closes a block which the byte opens.
 abbrev pub ClosesAt : List ℕ → ℕ → ℕ → Type 0
-ClosesAt page byte place = (get_or page (place - 1) 0 ≡ line_feed) × (n : ℕ) × IsClosingMetadataBlock (drop place page) byte n
+ClosesAt page byte offset = (get_or page (offset - 1) 0 ≡ line_feed) × (n : ℕ) × IsClosingMetadataBlock (drop offset page) byte n
 
 -- The metadata block that a text begins with, of a style that is enabled: its content stands between its first line and the first
 -- line after the next that closes it, and the page's blocks begin after that.
@@ -26,7 +26,7 @@ pub record IsTextMetadata (text : List ℕ) (yaml pluses : Bool) (m : Metadata) 
   pub start : m.start ≡ next_line text
   pub later : m.start < m.end
   pub closed : ClosesAt text byte m.end
-  pub first : (place : ℕ) → m.start < place → place < m.end → ¬ ClosesAt text byte place
+  pub first : (offset : ℕ) → m.start < offset → offset < m.end → ¬ ClosesAt text byte offset
   pub len : m.len ≡ m.end + line_length (drop m.end text)
 
 -- the same after so many bytes

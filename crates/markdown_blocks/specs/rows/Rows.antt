@@ -3,29 +3,29 @@ use Rattle.std.specs.Prelude.{ℕ, ◌+◌, ◌≡◌, ◌⊎◌, List, [], ◌�
 use Rattle.markdown_values.specs.declared.values.Alignment.{Alignment}
 use Rattle.markdown_scanners_tree.specs.line.State.{LineState, after_space}
 use Rattle.markdown_blocks.specs.blocks.Leaves.{HasIndent}
-use Rattle.markdown_blocks.specs.containers.Containers.{Rest, behind, rest_at, rest_in}
-use Rattle.markdown_blocks.specs.content.Parts.{first_place}
+use Rattle.markdown_blocks.specs.containers.Containers.{Rest, match_line, rest_at, rest_in}
+use Rattle.markdown_blocks.specs.content.Parts.{first_offset}
 use Rattle.markdown_blocks.specs.declared.containers.Container.{Container}
 use Rattle.markdown_blocks.specs.declared.rows.Row.{Row}
 use Rattle.markdown_blocks.specs.delimiter_rows.DelimiterRows.{alignments_in, is_delimiter_row}
 
 -- the text of a row, before which so many bytes of the table's lines stand
 pub record TextAt : Type 0 where
-  pub place : ℕ
+  pub offset : ℕ
   pub text : List ℕ
 
 abbrev pub seen_row : Row → TextAt
-seen_row row = record { place = row.place; text = row.text.now }
+seen_row row = record { offset = row.offset; text = row.text.now }
 
--- what a line has after its containers and its indent, where this is the place after the containers and so many bytes stand before it
+-- what a line has after its containers and its indent, where this is the offset after the containers and so many bytes stand before it
 abbrev pub row_at : ℕ → LineState → TextAt
-row_at before s = record { place = before + (after_space 4 s).place; text = (rest_at s).text }
+row_at before s = record { offset = before + (after_space 4 s).offset; text = (rest_at s).text }
 
 -- the rows that these later lines are, before which so many bytes stand
 abbrev pub later_rows : List Container → ℕ → List (List ℕ) → List TextAt
 later_rows outer before [] = []
 later_rows outer before (line ∷ lines) =
-    row_at before (behind outer line).state ∷ later_rows outer (before + length line) lines
+    row_at before (match_line outer line).state ∷ later_rows outer (before + length line) lines
 
 -- those after a delimiter row, which is the first of these lines
 abbrev pub body_rows : List Container → ℕ → List (List ℕ) → List TextAt
@@ -36,7 +36,7 @@ body_rows outer before (delimiters ∷ lines) = later_rows outer (before + lengt
 -- goes on with so many of the containers.
 abbrev pub rows_of : ℕ → List Container → List (List ℕ) → List TextAt
 rows_of kept outer [] = []
-rows_of kept outer (head ∷ lines) = row_at 0 (first_place kept outer head) ∷ body_rows outer (length head) lines
+rows_of kept outer (head ∷ lines) = row_at 0 (first_offset kept outer head) ∷ body_rows outer (length head) lines
 
 -- those of the lines after a row that is read, if one is, and so many bytes
 abbrev pub first_row : Option Row → List TextAt

@@ -12,5 +12,5 @@ surely_ends_line (b ∷ bs) =
 -- so many bytes at the front of the text are all its lines that surely end
 pub record AreWhole (text : List ℕ) (count : ℕ) : Type 0 where
   pub within : count ≤ length text
-  pub ended : (place : ℕ) → count ≡ suc place → IsTrue (surely_ends_line (drop place text))
-  pub last : (place : ℕ) → count ≤ place → place < length text → ¬ IsTrue (surely_ends_line (drop place text))
+  pub ended : (offset : ℕ) → count ≡ suc offset → IsTrue (surely_ends_line (drop offset text))
+  pub last : (offset : ℕ) → count ≤ offset → offset < length text → ¬ IsTrue (surely_ends_line (drop offset text))

@@ -4,14 +4,14 @@ ghost use Rattle.markdown_values.specs.declared.values.HeadingLevel.{HeadingLeve
 ghost use Rattle.markdown_scanners_tree.specs.SomeExactly.{SomeExactly};
 ghost use Rattle.markdown_scanners_tree.specs.scanners.Headings.{IsSetextUnderline};
 ghost use Rattle.markdown_blocks.specs.blocks.Endings.{EndsText, IsEnd, IsUnderOrDefines};
-ghost use Rattle.markdown_blocks.specs.blocks.Leaves.{ClosesFence, EndsParagraph, HasIndent, In, Interrupts, IsLazy, IsUnderline};
+ghost use Rattle.markdown_blocks.specs.blocks.Leaves.{ClosesFence, EndsParagraph, EndsRead, HasIndent, In, Interrupts, IsLazy, IsUnderline, Leaves};
 ghost use Rattle.markdown_blocks.specs.blocks.Leaves.{begins_filled_item, ends_html, interrupts_by_marker};
-ghost use Rattle.markdown_blocks.specs.containers.Containers.{asked_in, behind, IsInside};
+ghost use Rattle.markdown_blocks.specs.containers.Containers.{asked_in, match_line, IsInside};
 
 use crate::blank_lines::is_blank;
 use crate::blocks::{Ending, TextEnd};
 use crate::containers::item_markers::scan_item;
-use crate::containers::{Container, Outer, go_on};
+use crate::containers::{Container, OpenContainers, go_on};
 use crate::footnotes::footnote_label;
 use crate::kinds::has_fed_signs;
 use crate::line::Line;
@@ -44,7 +44,7 @@ pub(super) fn ends(line: &Line, ending: Ending) -> bool
 }
 
 /// Whether the line stands in the containers.
-pub(super) fn is_inside(line: &[u8], outer: &Outer) -> bool
+pub(super) fn is_inside(line: &[u8], outer: &OpenContainers) -> bool
     ensures { IsTrue result ↔ IsInside outer.now.containers line.now }
 {
     let (kept, _) = go_on(line, outer);
@@ -65,7 +65,7 @@ pub(super) fn is_indented(line: &Line) -> bool
 // that.
 fn is_lazy(line: &Line) -> bool
     ensures { IsTrue result ↔ IsLazy (asked_in line.now.outer line.now.bytes)
-        (behind line.now.outer.containers line.now.bytes).state }
+        (match_line line.now.outer.containers line.now.bytes).state }
 {
     if line.begins_container() {
         return false;
@@ -119,7 +119,7 @@ fn begins_filled_item(text: &[u8]) -> bool
     match scan_item(text, &mut LineStart::new(text), 0) {
         Some(Container::Item(item)) => {
             let is_first = matches!(item.delimiter, b'-' | b'+' | b'*') || item.start == 1;
-            !item.begun && is_first
+            !item.starts_blank && is_first
         }
         _ => false,
     }
@@ -150,6 +150,30 @@ fn after_underline(text: &[u8], level: HeadingLevel) -> &[u8]
         _ => b'-',
     };
     &text[scan_ch_repeat(text, byte)..]
+}
+
+/// Whether the line goes on with the paragraph before it that is read, and is a term or not.
+pub(super) fn goes_on_with(line: &Line, is_term: bool) -> bool
+    ensures { IsTrue result ↔ (¬ Leaves line.now.outer (EndsRead line.now.outer.extensions is_term)
+        line.now.bytes) }
+{
+    match line.rest_inside() {
+        Some(rest) => !ends_read(rest, line.outer().extensions(), is_term),
+        None => is_lazy(line),
+    }
+}
+
+// Whether a line with this after its containers goes on with no such paragraph.
+fn ends_read(rest: &Rest, extensions: Extensions, is_term: bool) -> bool
+    ensures { IsTrue result ↔ EndsRead extensions is_term rest.now }
+{
+    if is_blank(rest.text) {
+        return true;
+    }
+    if is_term && defines_term(rest, extensions) {
+        return true;
+    }
+    rest.indent != 4 && interrupts(rest.text, extensions)
 }
 
 /// What the line is in the containers that ends a paragraph with text.

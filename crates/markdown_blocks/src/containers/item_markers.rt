@@ -25,7 +25,7 @@ pub(crate) fn scan_item<'a>(
     ensures none { IfNone result (item_of (item_outcome indent start.old) ≡ None) }
     ensures unchanged { IfNone result (start.new ≡ start.old) }
     ensures bytes { start.new.bytes ≡ line.now }
-    ensures rises { IfSome result (λ _. start.old.place < start.new.place) }
+    ensures rises { IfSome result (λ _. start.old.offset < start.new.offset) }
 {
     if let Some(item) = scan_plain_item(line, start, indent) {
         return Some(item);
@@ -34,7 +34,7 @@ pub(crate) fn scan_item<'a>(
     let further = pass_columns_left(line, start);
     Some(Container::Item(ListItem {
         delimiter,
-        begun: is_blank(&line[start.bytes_scanned()..]),
+        starts_blank: is_blank(&line[start.bytes_scanned()..]),
         width: (width + further) as u8,
         start: number as u32,
     }))
@@ -49,7 +49,7 @@ fn pass_columns_left(line: &[u8], start: &mut LineStart) -> usize
     ensures some { 0 < result → start.new ≡ after_space result start.old }
     ensures few { result < 4 }
     ensures bytes { start.new.bytes ≡ line.now }
-    ensures forward { start.old.place ≤ start.new.place }
+    ensures forward { start.old.offset ≤ start.new.offset }
 {
     let rest = &line[start.bytes_scanned()..];
     if scan_blank_line(rest).is_none() || is_blank(rest) {
@@ -80,7 +80,7 @@ fn scan_plain_item<'a>(
         item_of (item_outcome indent start.old) ≡ Some (container, start.new)) }
     ensures unchanged { IfNone result (start.new ≡ start.old) }
     ensures bytes { start.new.bytes ≡ line.now }
-    ensures rises { IfSome result (λ _. start.old.place < start.new.place) }
+    ensures rises { IfSome result (λ _. start.old.offset < start.new.offset) }
 {
     let offset = start.bytes_scanned();
     let bullet = plain_bullet(&line[offset..])?;
@@ -90,7 +90,7 @@ fn scan_plain_item<'a>(
     *start = LineStart::resumed(line, offset + 2, 0, (start.phase() + 2) % 4)?;
     Some(Container::Item(ListItem {
         delimiter: bullet,
-        begun: false,
+        starts_blank: false,
         width: indent as u8 + 2,
         start: 0,
     }))

@@ -1,6 +1,6 @@
 //! The content of a table's cells. (GitHub Flavored Markdown 0.29, section 4.10)
 ghost use Rattle.std.specs.Prelude.{◌≡◌, ◌^◌, ◌++◌, ◌+◌, ◌<◌, ◌≤◌, [], ◌∷◌, true, false, length, IfOk, IsOk, OnOk};
-ghost use Rattle.markdown_blocks.specs.cells.Contents.{bytes_of_cell, content_of_cell, escape_at, escapes_pipe, unescaped, unescaped_places};
+ghost use Rattle.markdown_blocks.specs.cells.Contents.{bytes_of_cell, content_of_cell, escape_at, escapes_pipe, unescaped, unescaped_offsets};
 ghost use Rattle.markdown_blocks.specs.content.Bytes.{AreBytesOf};
 
 use crate::cells::Cell;
@@ -19,11 +19,11 @@ pub fn cell_content<'a>(alloc: Global, row: &'a [u8], cell: Cell) -> Result<Cont
     ensures bytes { IfOk result (λ content. AreBytesOf row.now content) }
 {
     let text = bytes_of_cell(row, cell);
-    let place = cell.start.min(row.len());
+    let offset = cell.start.min(row.len());
     if escape_at(text) == text.len() {
-        return Ok(lent(alloc, text, place));
+        return Ok(lent(alloc, text, offset));
     }
-    built(alloc, text, place)
+    built(alloc, text, offset)
 }
 
 // The bytes of a cell.
@@ -32,9 +32,9 @@ fn bytes_of_cell(row: &[u8], cell: Cell) -> &[u8]
     ensures within { cell.start ≤ length row.now → cell.start + length result.now ≤ length row.now }
     ensures none { length row.now ≤ cell.start → result.now ≡ [] }
 {
-    let (_, behind) = row.split_at(cell.start.min(row.len()));
+    let (_, after) = row.split_at(cell.start.min(row.len()));
     let length = cell.end.saturating_sub(cell.start);
-    let (bytes, _) = behind.split_at(length.min(behind.len()));
+    let (bytes, _) = after.split_at(length.min(after.len()));
     bytes
 }
 
@@ -61,12 +61,12 @@ fn escapes_pipe(bytes: &[u8]) -> bool
 }
 
 // The content of a cell in which no pipe is escaped.
-fn lent<'a>(alloc: Global, text: &'a [u8], place: usize) -> Content<'a>
-    requires fits { place + length text.now < 2 ^ 64 }
+fn lent<'a>(alloc: Global, text: &'a [u8], source: usize) -> Content<'a>
+    requires fits { source + length text.now < 2 ^ 64 }
     requires none { escape_at text.now ≡ length text.now }
     ensures { result ≡ record {
       text = unescaped text.now;
-      places = unescaped_places place text.now;
+      offsets = unescaped_offsets source text.now;
       is_lent = true;
     } }
 {
@@ -76,7 +76,7 @@ fn lent<'a>(alloc: Global, text: &'a [u8], place: usize) -> Content<'a>
         first: Segment {
             offset: 0,
             columns: 0,
-            place,
+            source,
         },
         later: Vec::new(alloc),
     }
@@ -84,22 +84,22 @@ fn lent<'a>(alloc: Global, text: &'a [u8], place: usize) -> Content<'a>
 
 // The content of a cell: what stands before the first backslash that escapes a pipe, and what
 // stands after each.
-fn built<'a>(alloc: Global, text: &[u8], place: usize) -> Result<Content<'a>, AllocError>
-    requires fits { place + length text.now < 2 ^ 64 }
+fn built<'a>(alloc: Global, text: &[u8], source: usize) -> Result<Content<'a>, AllocError>
+    requires fits { source + length text.now < 2 ^ 64 }
     requires some { escape_at text.now < length text.now }
     ensures { IfOk result (λ content. content ≡ record {
       text = unescaped text.now;
-      places = unescaped_places place text.now;
+      offsets = unescaped_offsets source text.now;
       is_lent = false;
     }) }
 {
     let mut bytes = Vec::new(alloc);
     let mut segments = Vec::new(alloc);
     let (run, mut rest) = text.split_at(escape_at(text));
-    add_run(&mut bytes, &mut segments, run, place)?;
-    let mut end = place + run.len();
-    while let [_, behind @ ..] = rest {
-        let (run, more) = behind.split_at(escape_at(behind));
+    add_run(&mut bytes, &mut segments, run, source)?;
+    let mut end = source + run.len();
+    while let [_, after @ ..] = rest {
+        let (run, more) = after.split_at(escape_at(after));
         add_run(&mut bytes, &mut segments, run, end + 1)?;
         end += run.len() + 1;
         rest = more;
@@ -110,27 +110,27 @@ fn built<'a>(alloc: Global, text: &[u8], place: usize) -> Result<Content<'a>, Al
         first: Segment {
             offset: 0,
             columns: 0,
-            place: 0,
+            source: 0,
         },
         later: segments,
     })
 }
 
-// Adds bytes that stand one after the other from this place on.
+// Adds bytes that stand one after the other from this offset on.
 fn add_run(
     bytes: &mut Vec<u8>,
     segments: &mut Vec<Segment>,
     run: &[u8],
-    place: usize,
+    source: usize,
 ) -> Result<(), AllocError>
     ensures bytes { OnOk result (bytes.new.items ≡ bytes.old.items ++ run.now) }
     ensures segments { OnOk result (segments.new.items ≡ segments.old.items
-        ++ record { offset = length bytes.old.items; columns = 0; place = place } ∷ []) }
+        ++ record { offset = length bytes.old.items; columns = 0; source = source } ∷ []) }
 {
     segments.push(Segment {
         offset: bytes.len(),
         columns: 0,
-        place,
+        source,
     })?;
     bytes.extend_from_slice(run)
 }

@@ -15,7 +15,7 @@ pub(crate) fn written<'a>(
     part: LinePart<'a>,
     kind: BlockKind,
 ) -> (LinePart<'a>, Option<LinePart<'a>>)
-    requires fits { part.place + length part.bytes.now < 2 ^ 64 }
+    requires fits { part.offset + length part.bytes.now < 2 ^ 64 }
     ensures parts { seen_part result.0 ∷ first_parts result.1 ≡ written kind (seen_part part.entry) }
     ensures inside { (lines : List ℕ) → IsIn lines (seen_part part.entry)
         → IsIn lines (seen_part result.0) × IsFirstIn lines result.1 }
@@ -28,7 +28,7 @@ pub(crate) fn written<'a>(
 
 // The same of code and HTML.
 fn ended<'a>(part: LinePart<'a>) -> (LinePart<'a>, Option<LinePart<'a>>)
-    requires fits { part.place + length part.bytes.now < 2 ^ 64 }
+    requires fits { part.offset + length part.bytes.now < 2 ^ 64 }
     ensures parts { seen_part result.0 ∷ first_parts result.1 ≡ ended (seen_part part.entry) }
     ensures inside { (lines : List ℕ) → IsIn lines (seen_part part.entry)
         → IsIn lines (seen_part result.0) × IsFirstIn lines result.1 }
@@ -43,7 +43,7 @@ fn ended<'a>(part: LinePart<'a>) -> (LinePart<'a>, Option<LinePart<'a>>)
     let ending = LinePart {
         columns: 1,
         filler: b'\n',
-        place: part.place + part.bytes.len(),
+        offset: part.offset + part.bytes.len(),
         bytes: &[],
     };
     (head, Some(ending))

@@ -3,31 +3,31 @@ ghost use Rattle.std.specs.Prelude.{◌≡◌, ◌↔◌, ◌++◌, ◌+◌, ◌
 ghost use Rattle.markdown_scanners_tree.specs.scanners.TextLines.{lines_of};
 ghost use Rattle.markdown_blocks.specs.blocks.Leaves.{ClosesFence, In};
 ghost use Rattle.markdown_blocks.specs.containers.Containers.{all_containers, begun_at};
-ghost use Rattle.markdown_blocks.specs.content.Parts.{AreInner, IsLeftOut, after_containers, after_indent, after_width, first_place, heading_part};
-ghost use Rattle.markdown_blocks.specs.content.Parts.{later_place, part_at};
-ghost use Rattle.markdown_blocks.specs.content.Parts.{place_inside, text_place, without_closing, without_signs};
+ghost use Rattle.markdown_blocks.specs.content.Parts.{AreInner, IsLeftOut, after_containers, after_indent, after_width, first_offset, heading_part};
+ghost use Rattle.markdown_blocks.specs.content.Parts.{later_offset, part_at};
+ghost use Rattle.markdown_blocks.specs.content.Parts.{offset_inside, text_offset, without_closing, without_signs};
 ghost use Rattle.markdown_blocks.specs.content.Seen.{IsFirstIn, IsIn, seen_part};
 ghost use Rattle.markdown_blocks.specs.declared.containers.Container.{Container};
 
 use crate::blank_lines::is_blank;
 use crate::blocks::BlockKind;
 use crate::blocks::endings::closes_fence;
-use crate::containers::{Container, Outer, all_containers, go_on, pass, scan_container};
+use crate::containers::{Container, OpenContainers, all_containers, go_on, pass, scan_container};
 use crate::content::line_endings::written;
 use crate::info::{without_end, without_front};
 use crate::line::Line;
-use crate::taken::Taken;
+use crate::taken::Extent;
 use markdown_scanners_tree::line::LineStart;
 use markdown_scanners_tree::scanners::{line_head, scan_ch_repeat};
 use markdown_values::values::Extensions;
 
-/// A part of a line: so many columns of this filler, in place of the byte before this place, and the
+/// A part of a line: so many columns of this filler, in place of the byte before this offset, and the
 /// bytes from there on.
 #[derive(Clone, Copy)]
 pub(crate) struct LinePart<'a> {
     pub(crate) columns: usize,
     pub(crate) filler: u8,
-    pub(crate) place: usize,
+    pub(crate) offset: usize,
     pub(crate) bytes: &'a [u8],
 }
 
@@ -40,7 +40,7 @@ pub(crate) struct Parts<'a> {
     // The line ending after it, where that is written as a line feed.
     ending: Option<LinePart<'a>>,
     // What is read of the lines, and how many of them there are.
-    read: Taken,
+    read: Extent,
     count: usize,
     cut: Cut<'a>,
     ghost first_in: { IsFirstIn lines.now first },
@@ -53,7 +53,7 @@ pub(crate) struct Parts<'a> {
 struct Cut<'a> {
     kind: BlockKind,
     indent: usize,
-    outer: &'a Outer<'a>,
+    outer: &'a OpenContainers<'a>,
 }
 
 impl<'a> Parts<'a> {
@@ -67,17 +67,17 @@ impl<'a> Parts<'a> {
     pub(crate) fn of(
         lines: &'a [u8],
         kind: BlockKind,
-        outer: &'a Outer<'a>,
+        outer: &'a OpenContainers<'a>,
         kept: usize,
     ) -> Parts<'a>
         ensures parts { AreParts kind outer.now.containers kept (lines_of lines.now)
             (parts_left result) }
         ensures lines { result.lines.now ≡ lines.now }
     {
-        let Some((line, read)) = Taken::nothing().next(lines) else {
+        let Some((line, read)) = Extent::nothing().next(lines) else {
             return Parts::none(lines, kind, outer);
         };
-        let mut start = first_place(line, outer.containers(), kept);
+        let mut start = first_offset(line, outer.containers(), kept);
         match kind {
             BlockKind::Blank | BlockKind::Break | BlockKind::Table(_) => {
                 return Parts::none(lines, kind, outer);
@@ -129,7 +129,7 @@ impl<'a> Parts<'a> {
     }
 
     // No part.
-    fn none(lines: &'a [u8], kind: BlockKind, outer: &'a Outer<'a>) -> Parts<'a>
+    fn none(lines: &'a [u8], kind: BlockKind, outer: &'a OpenContainers<'a>) -> Parts<'a>
         ensures parts { parts_left result ≡ [] }
         ensures lines { result.lines.now ≡ lines.now }
     {
@@ -137,7 +137,7 @@ impl<'a> Parts<'a> {
             lines,
             first: None,
             ending: None,
-            read: Taken::nothing(),
+            read: Extent::nothing(),
             count: 0,
             cut: Cut {
                 kind,
@@ -188,10 +188,10 @@ impl<'a> Parts<'a> {
         let before = self.read.bytes;
         let (line, more) = self.read.next(self.lines)?;
         self.read = more;
-        let place = later_place(line, self.cut.kind, self.cut.outer);
-        let part = text_part(line, place, self.cut.kind, self.cut.indent);
+        let offset = later_offset(line, self.cut.kind, self.cut.outer);
+        let part = text_part(line, offset, self.cut.kind, self.cut.indent);
         let here = LinePart {
-            place: before + part.place,
+            offset: before + part.offset,
             ..part
         };
         let (part, ending) = written(here, self.cut.kind);
@@ -203,7 +203,7 @@ impl<'a> Parts<'a> {
 // How many of the lines are read and content: of those after the first all, or all but the last. Where
 // it is all, as of most kinds, the lines are not read, and more are answered than there are.
 #[inline(always)]
-fn count_inner(lines: &[u8], first: Taken, kind: BlockKind, outer: &Outer) -> usize
+fn count_inner(lines: &[u8], first: Extent, kind: BlockKind, outer: &OpenContainers) -> usize
     requires { first.bytes ≤ length lines.now }
     ensures { AreInner kind outer.now.containers (lines_of (drop first.bytes lines.now))
         (take (result - first.lines) (lines_of (drop first.bytes lines.now))) }
@@ -216,7 +216,12 @@ fn count_inner(lines: &[u8], first: Taken, kind: BlockKind, outer: &Outer) -> us
 
 /// What is read of the lines with those after the first that are content: all, or all but the last.
 #[inline(always)]
-pub(crate) fn read_inner(lines: &[u8], first: Taken, kind: BlockKind, outer: &Outer) -> Taken
+pub(crate) fn read_inner(
+    lines: &[u8],
+    first: Extent,
+    kind: BlockKind,
+    outer: &OpenContainers,
+) -> Extent
     requires { first.bytes ≤ length lines.now }
     ensures inner { (inner : List (List ℕ))
         × AreInner kind outer.now.containers (lines_of (drop first.bytes lines.now)) inner
@@ -245,7 +250,7 @@ fn is_all_content(kind: BlockKind) -> bool
 }
 
 // Whether the line is the last of its block, and no content.
-fn is_left_out(line: &[u8], is_last: bool, kind: BlockKind, outer: &Outer) -> bool
+fn is_left_out(line: &[u8], is_last: bool, kind: BlockKind, outer: &OpenContainers) -> bool
     ensures { IsTrue result ↔ (IsTrue is_last × IsLeftOut kind outer.now.containers line.now) }
 {
     if !is_last {
@@ -259,7 +264,7 @@ fn is_left_out(line: &[u8], is_last: bool, kind: BlockKind, outer: &Outer) -> bo
 }
 
 // Whether the line closes fenced code in the containers.
-fn is_closing_fence(line: &[u8], count: usize, byte: u8, outer: &Outer) -> bool
+fn is_closing_fence(line: &[u8], count: usize, byte: u8, outer: &OpenContainers) -> bool
     ensures { IsTrue result ↔ In outer.now.containers (ClosesFence count byte) line.now }
 {
     let line = Line::new(line, outer);
@@ -271,16 +276,16 @@ fn is_closing_fence(line: &[u8], count: usize, byte: u8, outer: &Outer) -> bool
 
 /// The position in a block's first line after its containers.
 #[inline(always)]
-pub(crate) fn first_place<'a>(
+pub(crate) fn first_offset<'a>(
     line: &'a [u8],
     containers: &[Container],
     kept: usize,
 ) -> LineStart<'a>
-    ensures place { result ≡ first_place kept containers.now line.now }
+    ensures offset { result ≡ first_offset kept containers.now line.now }
     ensures bytes { result.bytes ≡ line.now }
 {
     let (before, begun) = containers.split_at(kept.min(containers.len()));
-    let (_, mut start) = go_on(line, &Outer::new(Extensions::none(), before));
+    let (_, mut start) = go_on(line, &OpenContainers::new(Extensions::none(), before));
     let mut left = begun.len();
     while left > 0 {
         if !pass_marker(line, &mut start) {
@@ -313,13 +318,13 @@ fn pass_marker<'a>(line: &'a [u8], start: &mut LineStart<'a>) -> bool
 
 // The position in a later line of a block after its containers.
 #[inline(always)]
-fn later_place<'a>(line: &'a [u8], kind: BlockKind, outer: &Outer) -> LineStart<'a>
-    ensures place { result ≡ later_place kind outer.now.containers line.now }
+fn later_offset<'a>(line: &'a [u8], kind: BlockKind, outer: &OpenContainers) -> LineStart<'a>
+    ensures offset { result ≡ later_offset kind outer.now.containers line.now }
     ensures bytes { result.bytes ≡ line.now }
 {
     match kind {
         BlockKind::Indented | BlockKind::Fenced(..) | BlockKind::Html(_) => {
-            place_inside(line, outer.containers())
+            offset_inside(line, outer.containers())
         }
         _ => {
             let (_, start) = go_on(line, outer);
@@ -330,8 +335,8 @@ fn later_place<'a>(line: &'a [u8], kind: BlockKind, outer: &Outer) -> LineStart<
 
 // The position in a line of code or HTML after the containers that it goes on with. Of a blank line
 // no more containers are tried than it has space for.
-fn place_inside<'a>(line: &'a [u8], containers: &[Container]) -> LineStart<'a>
-    ensures place { result ≡ place_inside containers.now line.now }
+fn offset_inside<'a>(line: &'a [u8], containers: &[Container]) -> LineStart<'a>
+    ensures offset { result ≡ offset_inside containers.now line.now }
     ensures bytes { result.bytes ≡ line.now }
 {
     let mut start = LineStart::new(line);
@@ -353,7 +358,7 @@ fn place_inside<'a>(line: &'a [u8], containers: &[Container]) -> LineStart<'a>
 
 // Passes as much of an item's indent as a blank line has. Answers whether nothing of it is left.
 fn pass_indent_left(start: &mut LineStart, container: Container, blank: bool) -> bool
-    ensures place { start.new ≡ after_indent container blank start.old }
+    ensures offset { start.new ≡ after_indent container blank start.old }
     ensures spent { IsTrue result → (inner : List Container)
         → after_containers true inner start.new ≡ start.new }
     ensures bytes { start.new.bytes ≡ start.old.bytes }
@@ -368,7 +373,7 @@ fn pass_indent_left(start: &mut LineStart, container: Container, blank: bool) ->
 
 // Passes at most so many columns of space of a blank line. Answers whether nothing of it is left.
 fn pass_width_left(start: &mut LineStart, width: u8, blank: bool) -> bool
-    ensures place { start.new ≡ after_width width blank start.old }
+    ensures offset { start.new ≡ after_width width blank start.old }
     ensures spent { IsTrue result → (inner : List Container)
         → after_containers true inner start.new ≡ start.new }
     ensures bytes { start.new.bytes ≡ start.old.bytes }
@@ -380,7 +385,7 @@ fn pass_width_left(start: &mut LineStart, width: u8, blank: bool) -> bool
     start.remaining_space() == 0 && start.is_at_eol()
 }
 
-// What a line has for the content, from this place after its containers on.
+// What a line has for the content, from this offset after its containers on.
 #[inline(always)]
 fn text_part<'a>(
     line: &'a [u8],
@@ -389,24 +394,24 @@ fn text_part<'a>(
     indent: usize,
 ) -> LinePart<'a>
     requires { start.bytes ≡ line.now }
-    ensures part { seen_part result ≡ part_at (text_place kind indent start.entry) }
-    ensures inside { result.place ≤ length line.now }
-    ensures bytes { result.bytes.now ≡ drop result.place line.now }
+    ensures part { seen_part result ≡ part_at (text_offset kind indent start.entry) }
+    ensures inside { result.offset ≤ length line.now }
+    ensures bytes { result.bytes.now ≡ drop result.offset line.now }
 {
     pass_space(&mut start, kind, indent);
-    let place = start.bytes_scanned();
+    let offset = start.bytes_scanned();
     LinePart {
         columns: start.remaining_space(),
         filler: b' ',
-        place,
-        bytes: &line[place..],
+        offset,
+        bytes: &line[offset..],
     }
 }
 
 // Passes the space before the content of a line.
 #[inline(always)]
 fn pass_space(start: &mut LineStart, kind: BlockKind, indent: usize)
-    ensures place { start.new ≡ text_place kind indent start.old }
+    ensures offset { start.new ≡ text_offset kind indent start.old }
     ensures bytes { start.new.bytes ≡ start.old.bytes }
 {
     match kind {
@@ -438,7 +443,7 @@ fn heading_part<'a>(line: &'a [u8], mut start: LineStart) -> LinePart<'a>
     LinePart {
         columns: 0,
         filler: b' ',
-        place: line.len() - after.len(),
+        offset: line.len() - after.len(),
         bytes: without_closing(without_end(line_head(after))),
     }
 }

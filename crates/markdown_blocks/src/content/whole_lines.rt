@@ -7,17 +7,21 @@ ghost use Rattle.markdown_blocks.specs.declared.blocks.BlockKind.TheVariants.{Fe
 ghost use Rattle.markdown_scanners_tree.specs.declared.scanners.html_kinds.HtmlBlockKind.{HtmlBlockKind};
 
 use crate::blocks::BlockKind;
-use crate::containers::Outer;
+use crate::containers::OpenContainers;
 use crate::content::line_endings::has_return;
 use crate::content::parts::read_inner;
-use crate::taken::Taken;
+use crate::taken::Extent;
 use markdown_scanners_tree::line::LineStart;
 
 /// Where the content begins and ends in the lines of a block in no container, where it is known to be
 /// whole lines: of HTML all of them, and of fenced code that is not indented those after the first, but
 /// for the closing fence. No carriage return stands in them.
 #[inline(always)]
-pub(crate) fn whole_lines(lines: &[u8], kind: BlockKind, outer: &Outer) -> Option<(usize, usize)>
+pub(crate) fn whole_lines(
+    lines: &[u8],
+    kind: BlockKind,
+    outer: &OpenContainers,
+) -> Option<(usize, usize)>
     ensures { IfSome result (λ r. (kept : ℕ) → (parts : List Part)
         × AreParts kind outer.now.containers kept (lines_of lines.now) parts
         × IsRun lines.now parts r.0 r.1) }
@@ -33,7 +37,7 @@ pub(crate) fn whole_lines(lines: &[u8], kind: BlockKind, outer: &Outer) -> Optio
 }
 
 // The same of HTML.
-fn html_lines(lines: &[u8], kind: BlockKind, outer: &Outer) -> Option<(usize, usize)>
+fn html_lines(lines: &[u8], kind: BlockKind, outer: &OpenContainers) -> Option<(usize, usize)>
     requires none { outer.now.containers ≡ [] }
     requires html { (which : HtmlBlockKind) × (kind ≡ Html which) }
     ensures { IfSome result (λ r. (kept : ℕ) → (parts : List Part)
@@ -47,7 +51,7 @@ fn html_lines(lines: &[u8], kind: BlockKind, outer: &Outer) -> Option<(usize, us
 }
 
 // The same of fenced code.
-fn fenced_lines(lines: &[u8], kind: BlockKind, outer: &Outer) -> Option<(usize, usize)>
+fn fenced_lines(lines: &[u8], kind: BlockKind, outer: &OpenContainers) -> Option<(usize, usize)>
     requires none { outer.now.containers ≡ [] }
     requires fenced { (count : ℕ) × (byte : ℕ) × (kind ≡ Fenced count byte) }
     ensures { IfSome result (λ r. (kept : ℕ) → (parts : List Part)
@@ -57,7 +61,7 @@ fn fenced_lines(lines: &[u8], kind: BlockKind, outer: &Outer) -> Option<(usize, 
     if has_return(lines) {
         return None;
     }
-    let (line, first) = Taken::nothing().next(lines)?;
+    let (line, first) = Extent::nothing().next(lines)?;
     let mut start = LineStart::new(line);
     if start.scan_space_upto(4) > 0 {
         return None;

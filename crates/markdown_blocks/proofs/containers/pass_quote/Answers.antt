@@ -9,4 +9,4 @@ returns-then-scan_blockquote_marker-clause-passed c =
     c.scan_space_upto.ensures.answer c.scan_space_upto.ensures.state c.if-scan_space_upto-lt4.true
     (c.scan_blockquote_marker.ensures.answer.0 c.if-scan_blockquote_marker.true) c.scan_blockquote_marker.ensures.state
     (blank_at c.args.line.now c.scan_blockquote_marker.new.self c.bytes_scanned.result c.is_blank.result
-    (c.scan_blockquote_marker.ensures.bytes ∙ c.scan_space_upto.ensures.bytes ∙ c.requires) c.bytes_scanned.ensures.place c.is_blank.ensures)
+    (c.scan_blockquote_marker.ensures.bytes ∙ c.scan_space_upto.ensures.bytes ∙ c.requires) c.bytes_scanned.ensures.offset c.is_blank.ensures)

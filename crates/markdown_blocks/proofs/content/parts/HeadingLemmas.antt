@@ -11,7 +11,7 @@ use Rattle.markdown_scanners_tree.specs.line.Outcome.{after_all_space}
 use Rattle.markdown_scanners_tree.specs.line.State.{LineState, unscanned, after_space}
 use Rattle.markdown_blocks.specs.content.Parts.{Part, heading_part, without_closing, without_signs}
 use Rattle.markdown_blocks.specs.content.Seen.{IsIn}
-use Rattle.markdown_blocks.specs.info.Info.{behind_fence, without_end, without_front}
+use Rattle.markdown_blocks.specs.info.Info.{after_fence, without_end, without_front}
 
 -- the first bytes of others
 record IsFrontOf (whole front : List ℕ) : Type 0 where
@@ -59,7 +59,7 @@ text_front after =
     (closing_front (without_end (line_head after)))
 
 in_line : (line after bytes : List ℕ) (k : ℕ) → after ≡ drop k line → k ≤ length line → IsFrontOf after bytes
-    → IsIn line (record { columns = 0; filler = space; place = length line - length after; bytes = bytes })
+    → IsIn line (record { columns = 0; filler = space; offset = length line - length after; bytes = bytes })
 in_line line after bytes k is within f =
     let left : length after ≡ length line - k = ap length is ∙ length-drop k line in
     let size : length bytes ≡ f.count = ap length f.taken ∙ length-take-le f.count after f.within in
@@ -70,31 +70,31 @@ in_line line after bytes k is within f =
     ∙ ap (λ d. bytes ++ d) (ap (drop f.count) is ∙ drop-drop f.count k line ∙ ap (λ n. drop (k + n) line) (sym size)) in
     (omega (arith, left, within, size, f.within), subst (λ n. drop n line ≡ bytes ++ drop (n + length bytes) line) (sym at) whole)
 
-module _ (s : LineState) (line text marked after bytes : List ℕ) (place : ℕ) (same : s.bytes ≡ line)
-    (is : text ≡ unscanned (after_all_space (after_space 4 s))) (signs : marked ≡ behind_fence number_sign text)
+module _ (s : LineState) (line text marked after bytes : List ℕ) (offset : ℕ) (same : s.bytes ≡ line)
+    (is : text ≡ unscanned (after_all_space (after_space 4 s))) (signs : marked ≡ after_fence number_sign text)
     (spaces : after ≡ without_front marked) (ends : bytes ≡ without_closing (without_end (line_head after))) where
   at : ℕ → List ℕ → Part
-  at size rest = record { columns = 0; filler = space; place = size - length rest; bytes = without_closing (without_end (line_head rest)) }
+  at size rest = record { columns = 0; filler = space; offset = size - length rest; bytes = without_closing (without_end (line_head rest)) }
 
-  pub heading_is : record { columns = 0; filler = space; place = length line - length after; bytes = bytes } ≡ heading_part s
+  pub heading_is : record { columns = 0; filler = space; offset = length line - length after; bytes = bytes } ≡ heading_part s
   unfolding at
   heading_is =
-      let rest : after ≡ without_front (behind_fence number_sign (unscanned (after_all_space (after_space 4 s)))) =
-      spaces ∙ ap without_front (signs ∙ ap (behind_fence number_sign) is) in
-      ap (λ b. record { columns = 0; filler = space; place = length line - length after; bytes = b }) ends
+      let rest : after ≡ without_front (after_fence number_sign (unscanned (after_all_space (after_space 4 s)))) =
+      spaces ∙ ap without_front (signs ∙ ap (after_fence number_sign) is) in
+      ap (λ b. record { columns = 0; filler = space; offset = length line - length after; bytes = b }) ends
       ∙ ap (at (length line)) rest
-      ∙ ap (λ l. at (length l) (without_front (behind_fence number_sign (unscanned (after_all_space (after_space 4 s)))))) (sym same)
+      ∙ ap (λ l. at (length l) (without_front (after_fence number_sign (unscanned (after_all_space (after_space 4 s)))))) (sym same)
 
-  pub heading_in : text ≡ drop place line → place ≤ length line
-      → IsIn line (record { columns = 0; filler = space; place = length line - length after; bytes = bytes })
+  pub heading_in : text ≡ drop offset line → offset ≤ length line
+      → IsIn line (record { columns = 0; filler = space; offset = length line - length after; bytes = bytes })
   heading_in from within =
       let p = prefix_len is_space_or_tab marked in
       let q = prefix_len (λ b. b == number_sign) text in
       let low = prefix_len-le-length is_space_or_tab marked in
       let lower = prefix_len-le-length (λ b. b == number_sign) text in
-      let sized = ap length from ∙ length-drop place line in
+      let sized = ap length from ∙ length-drop offset line in
       let shorter = ap length signs ∙ length-drop q text in
-      in_line line after bytes (place + q + p)
-      (spaces ∙ ap (drop p) (signs ∙ ap (drop q) from ∙ drop-drop q place line) ∙ drop-drop p (place + q) line)
+      in_line line after bytes (offset + q + p)
+      (spaces ∙ ap (drop p) (signs ∙ ap (drop q) from ∙ drop-drop q offset line) ∙ drop-drop p (offset + q) line)
       (omega (arith, low, lower, sized, shorter, within))
       (subst (IsFrontOf after) (sym ends) (text_front after))

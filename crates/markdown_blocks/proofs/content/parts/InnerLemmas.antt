@@ -7,7 +7,7 @@ use Rattle.markdown_scanners_tree.specs.scanners.TextLines.{lines_of}
 use Rattle.markdown_blocks.specs.content.Parts.{AreInner, IsLeftOut}
 use Rattle.markdown_blocks.specs.declared.blocks.BlockKind.{BlockKind}
 use Rattle.markdown_blocks.specs.declared.containers.Container.{Container}
-use Rattle.markdown_blocks.specs.declared.taken.Taken.{Taken}
+use Rattle.markdown_blocks.specs.declared.taken.Extent.{Extent}
 use Rattle.markdown_blocks.specs.taken.Lines.{IsNext}
 use Rattle.markdown_blocks.proofs.whole.WholeLemmas.{some_lines}
 use Rattle.markdown_blocks.proofs.block_events.PartLemmas.{lines_few}
@@ -25,9 +25,9 @@ all_read text n within none =
     let size = ap length (some_lines (drop n text) none) in
     omega (arith, size, length-drop n text, within)
 
-module _ (kind : BlockKind) (outer : List Container) (text : List ℕ) (first : Taken) where
+module _ (kind : BlockKind) (outer : List Container) (text : List ℕ) (first : Extent) where
   -- the lines that are read after the first; where none is left, the last of them is content
-  pub record Read (read : Taken) : Type 0 where
+  pub record Read (read : Extent) : Type 0 where
     pub before : List (List ℕ)
     pub parts : lines_of (drop first.bytes text) ≡ before ++ lines_of (drop read.bytes text)
     pub counted : read.lines ≡ first.lines + length before
@@ -36,7 +36,7 @@ module _ (kind : BlockKind) (outer : List Container) (text : List ℕ) (first : 
   pub read-none : Read first
   read-none = record { before = []; parts = refl; counted = omega arith; last = λ none ls l is. absurd (no_push ls l is) }
 
-  pub read-more : (read more : Taken) (line : List ℕ) → Read read → IsNext text read line more
+  pub read-more : (read more : Extent) (line : List ℕ) → Read read → IsNext text read line more
       → (more.bytes ≡ length text → ¬ IsLeftOut kind outer line) → Read more
   read-more read more line r n stays = record {
     before = r.before ++ line ∷ [];
@@ -46,21 +46,21 @@ module _ (kind : BlockKind) (outer : List Container) (text : List ℕ) (first : 
         subst (λ x. ¬ IsLeftOut kind outer x) (same_from_push r.before ls line l is).1 (stays (all_read text more.bytes n.within none));
   }
 
-  front : (read : Taken) → (r : Read read) → take (read.lines - first.lines) (lines_of (drop first.bytes text)) ≡ r.before
+  front : (read : Extent) → (r : Read read) → take (read.lines - first.lines) (lines_of (drop first.bytes text)) ≡ r.before
   front read r =
       let size : read.lines - first.lines ≡ length r.before = omega (arith, r.counted) in
       ap (λ n. take n (lines_of (drop first.bytes text))) size ∙ ap (take (length r.before)) r.parts
       ∙ take-append_seam r.before (lines_of (drop read.bytes text))
 
   -- no line is left
-  pub all_inner : (read : Taken) → Read read → lines_of (drop read.bytes text) ≡ []
+  pub all_inner : (read : Extent) → Read read → lines_of (drop read.bytes text) ≡ []
       → AreInner kind outer (lines_of (drop first.bytes text)) (take (read.lines - first.lines) (lines_of (drop first.bytes text)))
   all_inner read r none =
       let all : lines_of (drop first.bytes text) ≡ r.before = r.parts ∙ ap (λ ls. r.before ++ ls) none ∙ append-nil r.before in
       inr (front read r ∙ sym all, λ ls l is. r.last none ls l (sym all ∙ is))
 
   -- the last line is left out
-  pub but_last : (read more : Taken) (line : List ℕ) → Read read → IsNext text read line more → more.bytes ≡ length text → IsLeftOut kind outer line
+  pub but_last : (read more : Extent) (line : List ℕ) → Read read → IsNext text read line more → more.bytes ≡ length text → IsLeftOut kind outer line
       → AreInner kind outer (lines_of (drop first.bytes text)) (take (read.lines - first.lines) (lines_of (drop first.bytes text)))
   but_last read more line r n all out =
       let parts : lines_of (drop first.bytes text) ≡ r.before ++ line ∷ [] =
@@ -68,7 +68,7 @@ module _ (kind : BlockKind) (outer : List Container) (text : List ℕ) (first : 
       inl (line, parts ∙ ap (λ ls. ls ++ line ∷ []) (sym (front read r)), out)
 
 -- of a block of which no line is left out, all lines are content, and so are at most as many as there are bytes
-pub none_left_out : (kind : BlockKind) (outer : List Container) (text : List ℕ) (first : Taken) (count : ℕ) → length text ≤ count
+pub none_left_out : (kind : BlockKind) (outer : List Container) (text : List ℕ) (first : Extent) (count : ℕ) → length text ≤ count
     → ((last : List ℕ) → ¬ IsLeftOut kind outer last)
     → AreInner kind outer (lines_of (drop first.bytes text)) (take (count - first.lines) (lines_of (drop first.bytes text)))
 none_left_out kind outer text first count room none =

@@ -4,14 +4,14 @@ use Rattle.std.proofs.lemmas.List.{drop-append-le, drop-drop, length-drop}
 use Rattle.std.specs.List.{concat}
 use Rattle.markdown_scanners_tree.specs.scanners.TextLines.{lines_of}
 use Rattle.markdown_scanners_tree.proofs.ForCallers.{lines_joined}
-use Rattle.markdown_blocks.specs.content.Parts.{Part, later_parts, later_place, moved, part_at, text_place, written}
+use Rattle.markdown_blocks.specs.content.Parts.{Part, later_parts, later_offset, moved, part_at, text_offset, written}
 use Rattle.markdown_blocks.specs.content.Seen.{IsIn}
 use Rattle.markdown_blocks.specs.declared.blocks.BlockKind.{BlockKind}
 use Rattle.markdown_blocks.specs.declared.containers.Container.{Container}
-use Rattle.markdown_blocks.specs.declared.taken.Taken.{Taken}
+use Rattle.markdown_blocks.specs.declared.taken.Extent.{Extent}
 use Rattle.markdown_blocks.specs.taken.Lines.{IsNext}
 
-module _ (text : List ℕ) (read more : Taken) (line : List ℕ) (n : IsNext text read line more) where
+module _ (text : List ℕ) (read more : Extent) (line : List ℕ) (n : IsNext text read line more) where
   -- the line stands before what is left after it
   pub stands : drop read.bytes text ≡ line ++ drop more.bytes text
   stands = sym (lines_joined (drop read.bytes text)) ∙ ap concat n.parts ∙ ap (λ b. line ++ b) (lines_joined (drop more.bytes text))
@@ -22,18 +22,18 @@ module _ (text : List ℕ) (read more : Taken) (line : List ℕ) (n : IsNext tex
       ap length stands ∙ length-append line (drop more.bytes text) in
       omega (arith, sizes, length-drop read.bytes text, length-drop more.bytes text, n.within, n.further)
 
-  pub in_lines : (columns filler place : ℕ) (bytes : List ℕ) → place ≤ length line → bytes ≡ drop place line
-      → IsIn text (record { columns = columns; filler = filler; place = read.bytes + place; bytes = bytes })
-  in_lines columns filler place bytes inside is =
-      let size : length bytes ≡ length line - place = ap length is ∙ length-drop place line in
-      let end : read.bytes + place + length bytes ≡ more.bytes = omega (arith, size, inside, more_bytes) in (
+  pub in_lines : (columns filler offset : ℕ) (bytes : List ℕ) → offset ≤ length line → bytes ≡ drop offset line
+      → IsIn text (record { columns = columns; filler = filler; offset = read.bytes + offset; bytes = bytes })
+  in_lines columns filler offset bytes inside is =
+      let size : length bytes ≡ length line - offset = ap length is ∙ length-drop offset line in
+      let end : read.bytes + offset + length bytes ≡ more.bytes = omega (arith, size, inside, more_bytes) in (
         omega (arith, end, n.within),
-        sym (drop-drop place read.bytes text) ∙ ap (drop place) stands ∙ drop-append-le place line (drop more.bytes text) inside
+        sym (drop-drop offset read.bytes text) ∙ ap (drop offset) stands ∙ drop-append-le offset line (drop more.bytes text) inside
             ∙ ap (λ b. b ++ drop more.bytes text) (sym is) ∙ ap (λ m. bytes ++ drop m text) (sym end),
       )
 
   pub next_part : (kind : BlockKind) (outer : List Container) (indent count : ℕ) (part : Part) → read.lines < count
-      → part ≡ part_at (text_place kind indent (later_place kind outer line))
+      → part ≡ part_at (text_offset kind indent (later_offset kind outer line))
       → later_parts kind outer indent read.bytes (take (count - read.lines) (lines_of (drop read.bytes text)))
       ≡ written kind (moved read.bytes part)
       ++ later_parts kind outer indent more.bytes (take (count - more.lines) (lines_of (drop more.bytes text)))

@@ -10,8 +10,8 @@ use Rattle.markdown_scanners_tree.specs.Bytes.{begins_with, is_at_line_end, is_s
 use Rattle.markdown_scanners_tree.specs.line.State.{LineState, unscanned, rest_of, leading_spaces, space_within, after_space, columns_further}
 use Rattle.markdown_scanners_tree.proofs.line.SpaceLemmas.{none_at_front}
 use Rattle.markdown_scanners_tree.proofs.line.StepLemmas.{no_space_taken, rest-none}
-use Rattle.markdown_blocks.specs.containers.Containers.{all_containers, begun_at, begun_behind, behind, behind_quote, within, within_quote, within_width}
-use Rattle.markdown_blocks.specs.content.Parts.{after_containers, after_indent, after_markers, after_width, first_place}
+use Rattle.markdown_blocks.specs.containers.Containers.{all_containers, begun_at, begun_after, match_line, past_quote, within, within_quote, within_width}
+use Rattle.markdown_blocks.specs.content.Parts.{after_containers, after_indent, after_markers, after_width, first_offset}
 use Rattle.markdown_blocks.specs.declared.containers.Container.{Container}
 use Rattle.markdown_blocks.specs.declared.containers.Container.TheVariants.{Quote, Item, Footnote, TermDefinition}
 
@@ -42,17 +42,17 @@ unfolding marks
 marks-some n s t c some = ap (marks n s) some
 
 pub marker_here : (s t : LineState) (indent : ℕ) (found : Option (Container × LineState)) → indent ≡ space_within 4 s → t ≡ after_space 4 s
-    → begun_behind all_containers indent t ≡ found → begun_at all_containers s ≡ found
+    → begun_after all_containers indent t ≡ found → begun_at all_containers s ≡ found
 marker_here s t indent found columns is here =
-    subst (λ n. begun_behind all_containers n (after_space 4 s) ≡ found) columns (subst (λ z. begun_behind all_containers indent z ≡ found) is here)
+    subst (λ n. begun_after all_containers n (after_space 4 s) ≡ found) columns (subst (λ z. begun_after all_containers indent z ≡ found) is here)
 
 pub first_is : (kept few begun : ℕ) (outer before : List Container) (line : List ℕ) (s : LineState) → few ≡ min kept (length outer)
-    → before ≡ take few outer → begun ≡ length outer - few → s ≡ (behind before line).state
-    → after_markers begun s ≡ first_place kept outer line
+    → before ≡ take few outer → begun ≡ length outer - few → s ≡ (match_line before line).state
+    → after_markers begun s ≡ first_offset kept outer line
 first_is kept few begun outer before line s is front count state =
     let fronts : before ≡ take kept outer = front ∙ ap (λ n. take n outer) is ∙ take_min kept outer in
     let counts : begun ≡ length outer - kept = omega (arith, count, is) in
-    ap (λ n. after_markers n s) counts ∙ ap (after_markers (length outer - kept)) (state ∙ ap (λ cs. (behind cs line).state) fronts)
+    ap (λ n. after_markers n s) counts ∙ ap (after_markers (length outer - kept)) (state ∙ ap (λ cs. (match_line cs line).state) fronts)
 
 -- at a line ending stand no space and no marker
 end_no_space : (r : List ℕ) → is_at_line_end r ≡ true → begins_with is_space_or_tab r ≡ false
@@ -63,7 +63,7 @@ end_no_quote : (r : List ℕ) → is_at_line_end r ≡ true → begins_with (λ 
 end_no_quote [] end = refl
 end_no_quote (b ∷ bs) end = grind (arith, nat_tests)
 
-no_quote : (n : ℕ) (s : LineState) → begins_with (λ b. b == greater_than_sign) (unscanned s) ≡ false → behind_quote n s ≡ None
+no_quote : (n : ℕ) (s : LineState) → begins_with (λ b. b == greater_than_sign) (unscanned s) ≡ false → past_quote n s ≡ None
 no_quote n s other = elim (cases_Bool (n == 4)) [ inl far ↦ rw far refl | inr near ↦ rw (near, other) refl ]
 
 -- the line's space is spent
@@ -88,10 +88,10 @@ module _ (s : LineState) (small : s.phase < 4) (none : s.pending ≡ 0) (end : i
       let same = stays 4 in
       stays-none true Quote inner s (ap within_quote (no_quote (space_within 4 s) (after_space 4 s)
       (subst (λ t. begins_with (λ b. b == greater_than_sign) (unscanned t) ≡ false) (sym same) (end_no_quote (unscanned s) end))))
-  spent (Item item ∷ inner) = width_spent (Item item) inner item.begun item.width refl refl (spent inner)
+  spent (Item item ∷ inner) = width_spent (Item item) inner item.starts_blank item.width refl refl (spent inner)
   spent (Footnote ∷ inner) = width_spent Footnote inner false 4 refl refl (spent inner)
   spent (TermDefinition definition ∷ inner) =
-      width_spent (TermDefinition definition) inner definition.begun definition.width refl refl (spent inner)
+      width_spent (TermDefinition definition) inner definition.starts_blank definition.width refl refl (spent inner)
 
 pub spent_after : (n : ℕ) (old s : LineState) → s ≡ after_space n old → s.pending ≡ 0 → is_at_line_end (unscanned s) ≡ true
     → (inner : List Container) → after_containers true inner s ≡ s

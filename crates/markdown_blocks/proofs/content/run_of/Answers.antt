@@ -3,7 +3,7 @@ use Rattle.markdown_blocks.specs.content.Content.{joined}
 use Rattle.markdown_blocks.specs.content.Left.{parts_left}
 use Rattle.markdown_blocks.specs.content.Parts.{AreOneRun, GoOn}
 use Rattle.markdown_blocks.specs.content.Seen.{seen_part}
-use Rattle.markdown_blocks.proofs.content.RunLemmas.{go_first, go_next, not_cut, places_first, places_next}
+use Rattle.markdown_blocks.proofs.content.RunLemmas.{go_first, go_next, not_cut, offsets_first, offsets_next}
 use Rattle.markdown_blocks.proofs.content.RunLemmas.{run_first, run_inside, run_joined, run_next, run_part}
 use Rattle.markdown_blocks.proofs.content.run_of.Goals as goal
 use Rattle.markdown_blocks.proofs.content.run_of.Goals.{then-next-gt0-via-then-next-gt0, then-next-gt0-via-else-next-gt0+then-next-end}
@@ -19,7 +19,7 @@ loop-next-init c =
       run_first c.args.parts.lines.now (parts_left c.args.parts) (parts_left c.next.new.self) p none inside c.in-Some.ensures.some,
       (go_first (parts_left c.args.parts) (parts_left c.next.new.self) p none c.in-Some.ensures.some).0,
       (go_first (parts_left c.args.parts) (parts_left c.next.new.self) p none c.in-Some.ensures.some).1,
-      places_first (parts_left c.args.parts) (parts_left c.next.new.self) p none c.in-Some.ensures.some,
+      offsets_first (parts_left c.args.parts) (parts_left c.next.new.self) p none c.in-Some.ensures.some,
     )
 
 pub loop-next-preserved : goal.loop-next-preserved
@@ -31,24 +31,24 @@ loop-next-preserved c =
       c.in-Some-next.ensures.lines ∙ l.invariant.0,
       omega (arith, l.invariant.1),
       omega (arith, inside.0, c.if-next-end.false),
-      run_next c.args.parts.lines.now (parts_left c.args.parts) (parts_left l.rest) (parts_left c.next-in-loop-next.new.self) p c.in-Some.part.place l.end none
+      run_next c.args.parts.lines.now (parts_left c.args.parts) (parts_left l.rest) (parts_left c.next-in-loop-next.new.self) p c.in-Some.part.offset l.end none
           c.if-next-end.false inside l.invariant.1 c.in-Some-next.ensures.some l.invariant.3,
       λ on. l.invariant.4 ((go_next (parts_left l.rest) (parts_left c.next-in-loop-next.new.self) p l.end none c.if-next-end.false c.in-Some-next.ensures.some).0 on),
       λ on. (go_next (parts_left l.rest) (parts_left c.next-in-loop-next.new.self) p l.end none c.if-next-end.false c.in-Some-next.ensures.some).1 (l.invariant.5 on),
-      places_next (parts_left c.args.parts) (parts_left l.rest) (parts_left c.next-in-loop-next.new.self) p c.in-Some.part.place l.end none
+      offsets_next (parts_left c.args.parts) (parts_left l.rest) (parts_left c.next-in-loop-next.new.self) p c.in-Some.part.offset l.end none
           c.if-next-end.false l.invariant.1 c.in-Some-next.ensures.some l.invariant.6,
     )
 
 pub returns-then-next-gt0-clause-inside : goal.returns-then-next-gt0-clause-inside
 returns-then-next-gt0-clause-inside c =
-    run_inside c.args.parts.lines.now c.in-Some.part.place c.loop-next.end c.loop-next.invariant.1 c.loop-next.invariant.2
+    run_inside c.args.parts.lines.now c.in-Some.part.offset c.loop-next.end c.loop-next.invariant.1 c.loop-next.invariant.2
 
 -- what is read breaks the run
 pub returns-then-next-gt0-clause-joined : goal.returns-then-next-gt0-clause-joined
 returns-then-next-gt0-clause-joined c =
     let l = c.loop-next in
     let all = parts_left c.args.parts in
-    let begin = c.in-Some.part.place in
+    let begin = c.in-Some.part.offset in
     let same : parts_left c.with.result ≡ parts_left l.rest = c.with.ensures.parts ∙ sym c.in-Some-next.ensures.some in
     let broken : ¬ AreOneRun all = λ one.
     let first = not_cut one.0 all (parts_left c.next.new.self) (seen_part c.in-Some.part) c.in-Some.ensures.some one.1 in

@@ -8,12 +8,12 @@ returns-in_default c =
 
 pub returns-then-is_label_end : goal.returns-then-is_label_end
 returns-then-is_label_end c =
-    sym (search_found c.args.text.now c.loop-from.from c.in-Some.offset c.in-Some.ensures
+    sym (search_found c.args.text.now c.loop-from.from c.in-Some.found c.in-Some.ensures
     (sym c.is_label_end.ensures ∙ c.if-is_label_end.true))
     ∙ c.loop-from.invariant
 
 pub loop-from-preserved : goal.loop-from-preserved
 loop-from-preserved c =
-    sym (search_later c.args.text.now c.loop-from.from c.in-Some.offset c.in-Some.ensures
+    sym (search_later c.args.text.now c.loop-from.from c.in-Some.found c.in-Some.ensures
     (sym c.is_label_end.ensures ∙ c.if-is_label_end.false))
     ∙ c.loop-from.invariant

@@ -1,4 +1,4 @@
--- The end of a label stands at no place that was passed.
+-- The end of a label stands at no offset that was passed.
 use Rattle.std.proofs.Common.{◌≡◌, ◌-◌, length, drop}
 use Rattle.markdown_blocks.specs.definitions.LabelEnds.{has_label_end}
 use Rattle.markdown_blocks.proofs.definitions.has_label_end.Given as goal

@@ -1,7 +1,7 @@
 use Rattle.std.proofs.Common.{◌++◌, ◌∷◌, [], sym, ap, ◌∙◌, append_assoc}
 use Rattle.std.specs.Option.{option_to_list}
 use Rattle.markdown_blocks.specs.events.Events.{seen_event}
-use Rattle.markdown_blocks.specs.lists.Tracked.{lists_behind}
+use Rattle.markdown_blocks.specs.lists.Tracked.{lists_given}
 use Rattle.markdown_blocks.proofs.lists.PageLemmas.{lists_are}
 use Rattle.markdown_blocks.proofs.lists.lists_of_page_ext.Goals as goal
 
@@ -19,7 +19,7 @@ loop-found-preserved c = λ events g.
       before.0,
       before.1,
       λ nodes same. rw c.in_ok-keep.ensures (before.2 nodes same ∙ ap (λ ls. found ++ ls) (c.in_ok-read.ensures.ended events)
-          ∙ sym (append_assoc found (option_to_list c.in_ok-read.field-0) (lists_behind c.read.new.self events))),
+          ∙ sym (append_assoc found (option_to_list c.in_ok-read.field-0) (lists_given c.read.new.self events))),
     )
 
 pub returns : goal.returns

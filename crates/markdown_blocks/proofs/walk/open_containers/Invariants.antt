@@ -1,4 +1,4 @@
-use Rattle.std.proofs.Common.{◌+◌, ◌-◌, ◌≤◌, ◌≡◌, length}
+use Rattle.std.proofs.Common.{◌+◌, ◌-◌, ◌≤◌, ◌≡◌, false, length}
 use Rattle.markdown_blocks.proofs.walk.WalkLemmas.{Opening}
 use Rattle.markdown_blocks.proofs.walk.open_containers.Given as goal
 
@@ -8,11 +8,11 @@ invariant-loop-container l =
     (l.start.bytes ≡ l.line) × (l.rest.indent ≤ 4) × Opening (record {
       extensions = l.extensions;
       containers = l.fn.outer.items;
-      term =
-          l.is_after_term;
+      term = l.is_after_term;
+      paragraph = false;
     }) l.line
     l.outer.items l.count l.rest l.start l.asked
-    × (length l.outer.items ≤ l.count + l.start.place) × (l.start.place ≤ length l.line)
+    × (length l.outer.items ≤ l.count + l.start.offset) × (l.start.offset ≤ length l.line)
 
 abbrev pub decreases-loop-container : goal.decreases-loop-container
-decreases-loop-container l = length l.line - l.start.place
+decreases-loop-container l = length l.line - l.start.offset

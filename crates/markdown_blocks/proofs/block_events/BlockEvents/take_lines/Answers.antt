@@ -30,7 +30,7 @@ pub returns-clause-rest : goal.returns-clause-rest
 returns-clause-rest c =
     let lines = c.self.inside.lines.now in
     let rest = drop c.front_of-taken.result.bytes lines in
-    let behind = slice_after lines c.front_of-taken.result.bytes in
+    let after = slice_after lines c.front_of-taken.result.bytes in
     let f = front_is lines c.args.count c.front_of-taken.result rest refl c.front_of-taken.ensures in
-    let words = c.words.view_is ∙ (rw (behind, f.lines_are) at c.first_rest-words.ensures.rest) in
-    rw (← c.self.view_is, behind, f.lines_are, words, f.counted, f.bytes_are) refl
+    let words = c.words.view_is ∙ (rw (after, f.lines_are) at c.first_rest-words.ensures.rest) in
+    rw (← c.self.view_is, after, f.lines_are, words, f.counted, f.bytes_are) refl

@@ -23,7 +23,7 @@ returns-clause-found c =
     ∙ item_given (item_outcome c.args.indent s) after _ _ _ _
     (sym (ap (λ (o : Outcome (ℕ × ℕ × ℕ)). o.answer) whole)) (sym (ap (λ (o : Outcome (ℕ × ℕ × ℕ)). o.state) whole))
     (blank_at c.args.line.now after c.bytes_scanned.result c.is_blank.result
-    c.pass_columns_left-further.ensures.bytes c.bytes_scanned.ensures.place c.is_blank.ensures)
+    c.pass_columns_left-further.ensures.bytes c.bytes_scanned.ensures.offset c.is_blank.ensures)
 
 pub returns-in_err-delimiter-clause-none : goal.returns-in_err-delimiter-clause-none
 returns-in_err-delimiter-clause-none c =

@@ -9,9 +9,9 @@ use Rattle.markdown_blocks.proofs.content.cell.built.Given as goal
 
 abbrev pub invariant-loop-rest : goal.invariant-loop-rest
 invariant-loop-rest l =
-    (l.bytes.items ++ flat_map text_of (later_runs l.end l.rest) ≡ flat_map text_of (runs l.place l.text))
-    × (l.segments.items ++ segments_from (length l.bytes.items) (later_runs l.end l.rest) ≡ segments_from 0 (runs l.place l.text))
-    × (escape_at l.rest ≡ 0) × (l.end + length l.rest ≡ l.place + length l.text)
+    (l.bytes.items ++ flat_map text_of (later_runs l.end l.rest) ≡ flat_map text_of (runs l.source l.text))
+    × (l.segments.items ++ segments_from (length l.bytes.items) (later_runs l.end l.rest) ≡ segments_from 0 (runs l.source l.text))
+    × (escape_at l.rest ≡ 0) × (l.end + length l.rest ≡ l.source + length l.text)
 
 abbrev pub decreases-loop-rest : goal.decreases-loop-rest
 decreases-loop-rest l = length l.rest

@@ -9,8 +9,8 @@ use Rattle.markdown_blocks.proofs.content.cell.cell_content.Goals as goal
 
 pub returns-then-escape_at-text-clause-content : goal.returns-then-escape_at-text-clause-content
 returns-then-escape_at-text-clause-content c =
-    c.lent.ensures ∙ content_is c.args.row.now c.args.cell c.min-place.result c.bytes_of_cell-text.result.now true c.bytes_of_cell-text.ensures.bytes
-    c.min-place.ensures c.bytes_of_cell-text.ensures.none
+    c.lent.ensures ∙ content_is c.args.row.now c.args.cell c.min-offset.result c.bytes_of_cell-text.result.now true c.bytes_of_cell-text.ensures.bytes
+    c.min-offset.ensures c.bytes_of_cell-text.ensures.none
     (eq-eqb (escape_at c.bytes_of_cell-text.result.now) (length c.bytes_of_cell-text.result.now)
     (omega (arith, c.escape_at.ensures.length, c.if-escape_at-text.true)))
 
@@ -20,8 +20,8 @@ returns-then-escape_at-text-clause-bytes c =
 
 pub returns-clause-content : goal.returns-clause-content
 returns-clause-content c =
-    IfOk-weaker c.built.result _ _ (λ content is. is ∙ content_is c.args.row.now c.args.cell c.min-place.result c.bytes_of_cell-text.result.now false
-    c.bytes_of_cell-text.ensures.bytes c.min-place.ensures c.bytes_of_cell-text.ensures.none
+    IfOk-weaker c.built.result _ _ (λ content is. is ∙ content_is c.args.row.now c.args.cell c.min-offset.result c.bytes_of_cell-text.result.now false
+    c.bytes_of_cell-text.ensures.bytes c.min-offset.ensures c.bytes_of_cell-text.ensures.none
     (escaped_apart c.bytes_of_cell-text.result.now c.escape_at.result c.escape_at.ensures.length c.if-escape_at-text.false)) c.built.ensures
 
 pub returns-clause-lent : goal.returns-clause-lent

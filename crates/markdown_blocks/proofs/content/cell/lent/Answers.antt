@@ -7,7 +7,7 @@ use Rattle.markdown_blocks.proofs.content.cell.lent.Goals as goal
 pub returns : goal.returns
 returns c =
     let text = c.args.text.now in
-    ap (λ b. seen (length b == 0) (text ++ b) (start c.args.place) c.new-2.result.items) c.new.ensures.items
-    ∙ ap (λ ls. seen true (text ++ []) (start c.args.place) ls) c.new-2.ensures.items
-    ∙ ap (λ t. seen true t (start c.args.place) []) (append-nil text)
-    ∙ lent_runs text c.args.place c.requires.none
+    ap (λ b. seen (length b == 0) (text ++ b) (start c.args.source) c.new-2.result.items) c.new.ensures.items
+    ∙ ap (λ ls. seen true (text ++ []) (start c.args.source) ls) c.new-2.ensures.items
+    ∙ ap (λ t. seen true t (start c.args.source) []) (append-nil text)
+    ∙ lent_runs text c.args.source c.requires.none

@@ -8,4 +8,4 @@ returns c =
     let scan = c.scan_blockquote_tag in
     rw (c.in-Quote-Paragraph.is-0, c.in-Quote-Paragraph.is-1)
     (alert_some (seen_leaf c.args.self.now.leaf) _ c.new-start.ensures _ _ (sym c.in_ok-kind.was ∙ scan.ensures.answer)
-    (c.bytes_scanned.ensures.place ∙ ap (λ s. s.place) scan.ensures.state))
+    (c.bytes_scanned.ensures.offset ∙ ap (λ s. s.offset) scan.ensures.state))

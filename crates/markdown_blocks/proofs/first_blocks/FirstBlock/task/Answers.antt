@@ -18,4 +18,4 @@ returns c =
     let goes_on : is_task_text c.args.self.now.leaf.text.now ≡ true = cc (c.is_task_text.ensures, c.if-not-is_task_text.false) in
     rw (c.in-Item-Paragraph.is-0, c.in-Item-Paragraph.is-1)
     (task_some (seen_leaf c.args.self.now.leaf) _ c.new-start.ensures goes_on _ _ (sym c.in_ok-is_checked.was ∙ scan.ensures.answer)
-    (c.bytes_scanned.ensures.place ∙ ap (λ s. s.place) scan.ensures.state))
+    (c.bytes_scanned.ensures.offset ∙ ap (λ s. s.offset) scan.ensures.state))

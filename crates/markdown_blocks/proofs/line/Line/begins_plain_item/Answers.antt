@@ -1,14 +1,14 @@
 use Rattle.std.proofs.Common.{false, ◌==◌, ◌≡◌, ap, sym, subst, ◌∙◌, arith}
 use Rattle.std.proofs.lemmas.Bool.Decides.{nat_tests}
 use Rattle.markdown_scanners_tree.specs.line.State.{LineState, after_space, space_within}
-use Rattle.markdown_blocks.specs.containers.Containers.{Rest, asked_in, behind}
+use Rattle.markdown_blocks.specs.containers.Containers.{Rest, asked_in, match_line}
 use Rattle.markdown_blocks.specs.containers.private.Markers.{IsPlainBullet}
 use Rattle.markdown_blocks.proofs.containers.PlainItems.{plain_begun, some_bullet}
 use Rattle.markdown_blocks.proofs.line.Line.begins_plain_item.Goals as goal
 
 pub returns : goal.returns
 returns c = rw (← c.self.view_is) (λ yes.
-    let s = (behind c.self.inside.outer.now.containers c.self.inside.bytes.now).state in
+    let s = (match_line c.self.inside.outer.now.containers c.self.inside.bytes.now).state in
     let there = c.rest.view_is ∙ (rw (← c.self.view_is) at c.rest-rest.ensures) in
     let columns : c.rest.inside.indent ≡ space_within 4 s = ap (λ (r : Rest). r.indent) there in
     let differs = c.if-rest-eq4.false in

@@ -1,6 +1,6 @@
 use Rattle.std.proofs.Common.{length, take, drop, ◌-◌, refl, arith}
 use Rattle.markdown_blocks.proofs.taken.TakenLemmas.{next_line, slice_after}
-use Rattle.markdown_blocks.proofs.taken.Taken.next.Goals as goal
+use Rattle.markdown_blocks.proofs.taken.Extent.next.Goals as goal
 
 pub returns-clause-line : goal.returns-clause-line
 returns-clause-line c =

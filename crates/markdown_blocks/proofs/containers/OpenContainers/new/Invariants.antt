@@ -1,7 +1,7 @@
 use Rattle.std.proofs.Common.{◌≡◌, ◌≤◌, length, drop, true}
 use Rattle.std.specs.List.{list_all}
 use Rattle.markdown_blocks.specs.containers.Containers.{goes_on_blank}
-use Rattle.markdown_blocks.proofs.containers.Outer.new.Given as goal
+use Rattle.markdown_blocks.proofs.containers.OpenContainers.new.Given as goal
 
 -- the containers from there on go on with blank lines
 abbrev pub invariant-loop-plain : goal.invariant-loop-plain

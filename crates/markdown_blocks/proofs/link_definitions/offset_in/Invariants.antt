@@ -1,7 +1,7 @@
 use Rattle.std.proofs.Common.{length, ◌≡◌}
 use Rattle.markdown_scanners_tree.specs.scanners.TextLines.{lines_of}
 use Rattle.markdown_blocks.specs.link_definitions.Lent.{from_byte}
-use Rattle.markdown_blocks.proofs.link_definitions.place_in.Given as goal
+use Rattle.markdown_blocks.proofs.link_definitions.offset_in.Given as goal
 
 abbrev pub invariant-loop-left : goal.invariant-loop-left
 invariant-loop-left l =

@@ -3,7 +3,7 @@ use Rattle.markdown_scanners_tree.specs.scanners.TextLines.{lines_of}
 use Rattle.markdown_blocks.specs.link_definitions.Lent.{from_byte}
 use Rattle.markdown_blocks.proofs.link_definitions.LentLemmas.{from_end, from_later, from_line, some_left}
 use Rattle.markdown_blocks.proofs.taken.TakenLemmas.{slice_after}
-use Rattle.markdown_blocks.proofs.link_definitions.place_in.Goals as goal
+use Rattle.markdown_blocks.proofs.link_definitions.offset_in.Goals as goal
 
 pub returns-then-further-length : goal.returns-then-further-length
 returns-then-further-length c =

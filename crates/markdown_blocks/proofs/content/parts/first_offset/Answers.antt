@@ -2,10 +2,10 @@ use Rattle.std.proofs.Common.{suc, ◌≡◌, ◌-◌, ap, sym, ◌∙◌, arith
 use Rattle.markdown_blocks.specs.content.Parts.{after_markers}
 use Rattle.markdown_blocks.proofs.kinds.KindLemmas.{not_given}
 use Rattle.markdown_blocks.proofs.content.parts.PlaceLemmas.{marks-none, marks-some}
-use Rattle.markdown_blocks.proofs.content.parts.first_place.Goals as goal
+use Rattle.markdown_blocks.proofs.content.parts.first_offset.Goals as goal
 
-pub returns-then-not-pass_marker-clause-place : goal.returns-then-not-pass_marker-clause-place
-returns-then-not-pass_marker-clause-place c =
+pub returns-then-not-pass_marker-clause-offset : goal.returns-then-not-pass_marker-clause-offset
+returns-then-not-pass_marker-clause-offset c =
     let l = c.loop-left in
     let more : l.left ≡ suc (l.left - 1) = omega (arith, c.loop-left-test.true) in
     let none = not_given c.if-not-pass_marker.true (λ t. t) in
