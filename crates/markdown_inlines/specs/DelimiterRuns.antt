@@ -53,30 +53,30 @@ can_open byte before after =
 abbrev pub can_close : ℕ → Option ℕ → Option ℕ → Bool
 can_close byte before after = can_open byte after before
 
--- the characters before and after a place of a text
+-- the characters before and after an offset of a text
 abbrev pub char_before : List ℕ → ℕ → Option ℕ
-char_before text place = last_or None (chars (take place text))
+char_before text offset = last_or None (chars (take offset text))
 
 abbrev pub char_after : List ℕ → ℕ → Option ℕ
-char_after text place = slice_get (chars (drop place text)) 0
+char_after text offset = slice_get (chars (drop offset text)) 0
 
--- a delimiter run begins at a place of a text: it is the longest of one of the two bytes there
-pub record IsDelimiterRun (text : List ℕ) (place : ℕ) (run : DelimiterRun) : Type 0 where
+-- a delimiter run begins at an offset of a text: it is the longest of one of the two bytes there
+pub record IsDelimiterRun (text : List ℕ) (offset : ℕ) (run : DelimiterRun) : Type 0 where
   pub delimiter : (run.byte ≡ asterisk) ⊎ (run.byte ≡ underscore)
   pub some : 0 < run.count
-  pub longest : run.count ≡ prefix_len (λ b. b == run.byte) (drop place text)
-  pub opens : run.can_open ≡ can_open run.byte (char_before text place) (char_after text (place + run.count))
-  pub closes : run.can_close ≡ can_close run.byte (char_before text place) (char_after text (place + run.count))
+  pub longest : run.count ≡ prefix_len (λ b. b == run.byte) (drop offset text)
+  pub opens : run.can_open ≡ can_open run.byte (char_before text offset) (char_after text (offset + run.count))
+  pub closes : run.can_close ≡ can_close run.byte (char_before text offset) (char_after text (offset + run.count))
 
--- a run of tildes begins at a place of a text, the longest there: it can open strikethrough where it is left-flanking, and close it
+-- a run of tildes begins at an offset of a text, the longest there: it can open strikethrough where it is left-flanking, and close it
 -- where it is right-flanking (GitHub Flavored Markdown 0.29, 6.5)
-pub record IsTildeRun (text : List ℕ) (place : ℕ) (run : DelimiterRun) : Type 0 where
+pub record IsTildeRun (text : List ℕ) (offset : ℕ) (run : DelimiterRun) : Type 0 where
   pub delimiter : run.byte ≡ tilde
   pub some : 0 < run.count
-  pub longest : run.count ≡ prefix_len (λ b. b == run.byte) (drop place text)
-  pub opens : run.can_open ≡ is_left_flanking (char_before text place) (char_after text (place + run.count))
-  pub closes : run.can_close ≡ is_right_flanking (char_before text place) (char_after text (place + run.count))
+  pub longest : run.count ≡ prefix_len (λ b. b == run.byte) (drop offset text)
+  pub opens : run.can_open ≡ is_left_flanking (char_before text offset) (char_after text (offset + run.count))
+  pub closes : run.can_close ≡ is_right_flanking (char_before text offset) (char_after text (offset + run.count))
 
 -- a delimiter run begins there, or a run of tildes where strikethrough is asked for
 abbrev pub IsRunOf : Extensions → List ℕ → ℕ → DelimiterRun → Type 0
-IsRunOf asked text place run = IsDelimiterRun text place run ⊎ (IsTrue asked.strikethrough × IsTildeRun text place run)
+IsRunOf asked text offset run = IsDelimiterRun text offset run ⊎ (IsTrue asked.strikethrough × IsTildeRun text offset run)

@@ -44,7 +44,7 @@ pub record IsMade (runs : List Delimiters) (emphasis : Emphasis) : Type 0 where
   pub takes_all : AreWhole runs → emphasis.byte ≡ tilde
       → (emphasis.opening ≡ opener.start) × (emphasis.closing ≡ closer.start) × (emphasis.count ≡ opener.run.count)
 
--- it is around what stands from one place to another, or after that
+-- it is around what stands from one offset to another, or after that
 abbrev pub IsOutside : ℕ → ℕ → Emphasis → Type 0
 IsOutside from to emphasis =
     ((emphasis.opening + emphasis.count ≤ from) × (to ≤ emphasis.closing)) ⊎ (to ≤ emphasis.opening)

@@ -114,13 +114,13 @@ pub record EndsNone (known : Known) (opener : Opener) (outer : List Opener) (rea
   pub end_is : end ≡ close + 1
   pub next_is : next ≡ record reading { openers = outer }
 
--- What a right bracket at a place does, with these openers.
+-- What a right bracket at an offset does, with these openers.
 abbrev pub IsClosed : Known → List Opener → Reading → ℕ → ℕ → Reading → Type 0
 IsClosed known [] reading close end next = (end ≡ close + 1) × (next ≡ reading)
 IsClosed known (opener ∷ outer) reading close end next =
     EndsLink known opener outer reading close end next ⊎ EndsNone known opener outer reading close end next
 
--- Text stands from one place up to another, and ends where another piece begins, or with the whole.
+-- Text stands from one offset up to another, and ends where another piece begins, or with the whole.
 pub record IsTextPiece (asked : Extensions) (text : List ℕ) (from to : ℕ) : Type 0 where
   pub some : from < to
   pub only_text : HasOnlyText asked text from to
@@ -144,11 +144,11 @@ IsRead K.Closer setting reading piece next =
     (occurs_at reading.text (codes "]") piece.start ≡ true) × IsClosed setting.known reading.openers reading piece.start piece.end next
 IsRead kind setting reading piece next = IsPieceAt setting.asked reading.text piece × (next ≡ with_piece kind piece reading)
 
--- From a place on these pieces are read, each where the one before it ends, up to the end of the text.
+-- From an offset on these pieces are read, each where the one before it ends, up to the end of the text.
 abbrev pub AreRead : Setting → ℕ → Reading → List Piece → Reading → Type 0
-AreRead setting place reading [] last = (place ≡ length reading.text) × (last ≡ reading)
-AreRead setting place reading (piece ∷ later) last =
-    (piece.start ≡ place) × (next : Reading) × IsRead piece.kind setting reading piece next × AreRead setting piece.end next later last
+AreRead setting offset reading [] last = (offset ≡ length reading.text) × (last ≡ reading)
+AreRead setting offset reading (piece ∷ later) last =
+    (piece.start ≡ offset) × (next : Reading) × IsRead piece.kind setting reading piece next × AreRead setting piece.end next later last
 
 -- In a setting a text is cut into these pieces, of whose openers these links begin at some, with this emphasis.
 pub record IsCut (text : List ℕ) (setting : Setting) (pieces : List Piece) (links : List (Option Link)) (emphasis : List Emphasis)
@@ -158,6 +158,6 @@ pub record IsCut (text : List ℕ) (setting : Setting) (pieces : List Piece) (li
   pub links_are : links ≡ last.links
   pub emphasis_is : emphasis ≡ last.emphasis ++ emphasis_of last.runs
 
--- the text from one place up to another, as a piece, if there is any
+-- the text from one offset up to another, as a piece, if there is any
 abbrev pub text_between : ℕ → ℕ → List Piece
 text_between from to = if nat_lt from to then record { kind = K.Text; start = from; end = to } ∷ [] else []

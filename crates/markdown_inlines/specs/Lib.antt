@@ -9,6 +9,7 @@ pub mod InlineLaws
 pub mod Inlines
 pub mod LastStrings
 pub mod LineBreaks
+pub mod LinkLists
 pub mod LinkTails
 pub mod Links
 pub mod Marks

@@ -14,23 +14,23 @@ pub record IsClosing (text : List ℕ) (n : ℕ) : Type 0 where
   pub is_gap : IsGap gap
   pub counted : n ≡ length gap + 1
 
--- From the place on stand a gap, a link title, and what closes the tail: `len` bytes of the text up to there.
-pub record IsTitledEnd (text : List ℕ) (place : ℕ) (title : Range ℕ) (len : ℕ) : Type 0 where
+-- From the offset on stand a gap, a link title, and what closes the tail: `len` bytes of the text up to there.
+pub record IsTitledEnd (text : List ℕ) (offset : ℕ) (title : Range ℕ) (len : ℕ) : Type 0 where
   pub closing : ℕ
-  pub is_titled : IsSeparatedTitle text place title
+  pub is_titled : IsSeparatedTitle text offset title
   pub closes : IsClosing (drop (title.end + 1) text) closing
   pub len_is : len ≡ title.end + 1 + closing
 
--- What closes the tail stands at the place: `len` bytes of the text up to there.
-pub record IsUntitledEnd (text : List ℕ) (place len : ℕ) : Type 0 where
+-- What closes the tail stands at the offset: `len` bytes of the text up to there.
+pub record IsUntitledEnd (text : List ℕ) (offset len : ℕ) : Type 0 where
   pub closing : ℕ
-  pub closes : IsClosing (drop place text) closing
-  pub len_is : len ≡ place + closing
+  pub closes : IsClosing (drop offset text) closing
+  pub len_is : len ≡ offset + closing
 
--- how a tail ends whose destination ends at the place
+-- how a tail ends whose destination ends at the offset
 abbrev pub IsTailEnd : List ℕ → ℕ → Option (Range ℕ) → ℕ → Type 0
-IsTailEnd text place (Some title) len = IsTitledEnd text place title len
-IsTailEnd text place None len = IsUntitledEnd text place len
+IsTailEnd text offset (Some title) len = IsTitledEnd text offset title len
+IsTailEnd text offset None len = IsUntitledEnd text offset len
 
 -- Neither a destination nor a title stands between the parentheses. Its destination has no byte.
 pub record IsEmptyTail (text : List ℕ) (tail : LinkTail) : Type 0 where

@@ -16,17 +16,17 @@ Known = List ℕ → Bool
 
 -- the range so many bytes later
 abbrev pub shifted : ℕ → Range ℕ → Range ℕ
-shifted place range = record { start = place + range.start; end = place + range.end }
+shifted offset range = record { start = offset + range.start; end = offset + range.end }
 
--- where an inline link leads with this tail, which begins at a place
+-- where an inline link leads with this tail, which begins at an offset
 abbrev pub inline_target : ℕ → LinkTail → LinkTarget
-inline_target place tail = Inline (shifted place tail.destination) (option_map (shifted place) tail.title)
+inline_target offset tail = Inline (shifted offset tail.destination) (option_map (shifted offset) tail.title)
 
 -- how deep the parentheses of a destination may nest
 abbrev pub most_parentheses : ℕ
 most_parentheses = 32
 
--- A label with this text stands from a place up to its right bracket.
+-- A label with this text stands from an offset up to its right bracket.
 pub record IsLabelAt (text : List ℕ) (from close : ℕ) (name : List ℕ) : Type 0 where
   pub label : Label
   pub is_label : IsLabel SkipsNothing (drop from text) false label
@@ -37,29 +37,29 @@ pub record IsLabelAt (text : List ℕ) (from close : ℕ) (name : List ℕ) : Ty
 abbrev pub IsKnownLabel : List ℕ → Known → ℕ → ℕ → Type 0
 IsKnownLabel text known from close = (name : List ℕ) × IsLabelAt text from close name × (known name ≡ true)
 
--- a label follows at a place, up to its right bracket
+-- a label follows at an offset, up to its right bracket
 abbrev pub IsLabelAfter : List ℕ → ℕ → ℕ → Type 0
-IsLabelAfter text place close = (occurs_at text (codes "[") place ≡ true) × (name : List ℕ) × IsLabelAt text (place + 1) close name
+IsLabelAfter text offset close = (occurs_at text (codes "[") offset ≡ true) × (name : List ℕ) × IsLabelAt text (offset + 1) close name
 
 -- and is defined
 abbrev pub IsKnownAfter : List ℕ → Known → ℕ → ℕ → Type 0
-IsKnownAfter text known place close = (occurs_at text (codes "[") place ≡ true) × IsKnownLabel text known (place + 1) close
+IsKnownAfter text known offset close = (occurs_at text (codes "[") offset ≡ true) × IsKnownLabel text known (offset + 1) close
 
 -- the label that stands there, with its brackets, is defined
-pub record IsFullLabel (text : List ℕ) (known : Known) (place : ℕ) (label : Range ℕ) : Type 0 where
+pub record IsFullLabel (text : List ℕ) (known : Known) (offset : ℕ) (label : Range ℕ) : Type 0 where
   pub bracket : ℕ
-  pub known_after : IsKnownAfter text known place bracket
-  pub begins : label.start ≡ place
+  pub known_after : IsKnownAfter text known offset bracket
+  pub begins : label.start ≡ offset
   pub ends : label.end ≡ bracket + 1
 
 -- No tail of an inline link follows, and no label.
 abbrev pub HasNoTail : List ℕ → ℕ → Type 0
-HasNoTail text place = (tail : LinkTail) → ¬ IsLinkTail most_parentheses (drop place text) tail
+HasNoTail text offset = (tail : LinkTail) → ¬ IsLinkTail most_parentheses (drop offset text) tail
 
 abbrev pub HasNoLabelAfter : List ℕ → ℕ → Type 0
-HasNoLabelAfter text place = (close : ℕ) → ¬ IsLabelAfter text place close
+HasNoLabelAfter text offset = (close : ℕ) → ¬ IsLabelAfter text offset close
 
--- A link text that stands from a place up to a right bracket is that of an inline link, a full, a collapsed or a shortcut reference
+-- A link text that stands from an offset up to a right bracket is that of an inline link, a full, a collapsed or a shortcut reference
 -- link, in this order, which ends there.
 abbrev pub IsTarget : List ℕ → Known → ℕ → ℕ → LinkTarget → ℕ → Type 0
 IsTarget text known from close (Inline destination title) end =

@@ -20,27 +20,27 @@ closing_mark emphasis =
     else if emphasis.count == 2 then M.ClosesStrong
     else M.ClosesEmphasis
 
--- the mark at a place by emphasis, which has one delimiter on each side, or two; where it has none there, another
+-- the mark at an offset by emphasis, which has one delimiter on each side, or two; where it has none there, another
 abbrev pub mark_by : Emphasis → ℕ → Mark → Mark
-mark_by emphasis place other =
-    if place == emphasis.opening then opening_mark emphasis
-    else if place == emphasis.closing then closing_mark emphasis
-    else if emphasis.count == 2 && (place == emphasis.opening + 1 || place == emphasis.closing + 1) then M.Second
+mark_by emphasis offset other =
+    if offset == emphasis.opening then opening_mark emphasis
+    else if offset == emphasis.closing then closing_mark emphasis
+    else if emphasis.count == 2 && (offset == emphasis.opening + 1 || offset == emphasis.closing + 1) then M.Second
     else other
 
 abbrev pub marks_by : List Emphasis → ℕ → Mark
-marks_by [] place = M.Nothing
-marks_by (emphasis ∷ more) place = mark_by emphasis place (marks_by more place)
+marks_by [] offset = M.Nothing
+marks_by (emphasis ∷ more) offset = mark_by emphasis offset (marks_by more offset)
 
 -- These are the marks of the bytes of a text of a length.
 pub record AreMarks (emphasis : List Emphasis) (len : ℕ) (marks : List Mark) : Type 0 where
   pub counted : length marks ≡ len
-  pub each : (place : ℕ) → place < len → get_or marks place M.Nothing ≡ marks_by emphasis place
+  pub each : (offset : ℕ) → offset < len → get_or marks offset M.Nothing ≡ marks_by emphasis offset
 
--- the link text of a link ends at a place
+-- the link text of a link ends at an offset
 abbrev pub ends_at : ℕ → Option Link → Bool
-ends_at place None = false
-ends_at place (Some link) = place == link.text.end
+ends_at offset None = false
+ends_at offset (Some link) = offset == link.text.end
 
 abbrev pub ends_link : List (Option Link) → ℕ → Bool
-ends_link links place = list_any (ends_at place) links
+ends_link links offset = list_any (ends_at offset) links

@@ -14,27 +14,27 @@ use Rattle.markdown_inlines.specs.declared.pieces.Piece.{Piece}
 use Rattle.markdown_inlines.specs.declared.pieces.PieceKind.{PieceKind}
 use Rattle.markdown_inlines.specs.declared.pieces.PieceKind.TheVariants as K
 
--- the byte at a place, as text
+-- the byte at an offset, as text
 abbrev pub byte_at : ℕ → Inline
-byte_at place = I.Leaf (record { kind = K.Text; start = place; end = place + 1 })
+byte_at offset = I.Leaf (record { kind = K.Text; start = offset; end = offset + 1 })
 
 -- what a delimiter with this mark is: the second of two is part of the first
 abbrev pub delimiter_with : Mark → ℕ → List Inline
-delimiter_with M.OpensEmphasis place = I.StartEmphasis place 1 ∷ []
-delimiter_with M.OpensStrong place = I.StartEmphasis place 2 ∷ []
-delimiter_with M.ClosesEmphasis place = I.EndEmphasis place 1 ∷ []
-delimiter_with M.ClosesStrong place = I.EndEmphasis place 2 ∷ []
-delimiter_with M.OpensStrikethrough place = I.StartStrikethrough place 1 ∷ []
-delimiter_with M.OpensStrikethroughOfTwo place = I.StartStrikethrough place 2 ∷ []
-delimiter_with M.ClosesStrikethrough place = I.EndStrikethrough place 1 ∷ []
-delimiter_with M.ClosesStrikethroughOfTwo place = I.EndStrikethrough place 2 ∷ []
-delimiter_with M.Second place = []
-delimiter_with mark place = byte_at place ∷ []
+delimiter_with M.OpensEmphasis offset = I.StartEmphasis offset 1 ∷ []
+delimiter_with M.OpensStrong offset = I.StartEmphasis offset 2 ∷ []
+delimiter_with M.ClosesEmphasis offset = I.EndEmphasis offset 1 ∷ []
+delimiter_with M.ClosesStrong offset = I.EndEmphasis offset 2 ∷ []
+delimiter_with M.OpensStrikethrough offset = I.StartStrikethrough offset 1 ∷ []
+delimiter_with M.OpensStrikethroughOfTwo offset = I.StartStrikethrough offset 2 ∷ []
+delimiter_with M.ClosesStrikethrough offset = I.EndStrikethrough offset 1 ∷ []
+delimiter_with M.ClosesStrikethroughOfTwo offset = I.EndStrikethrough offset 2 ∷ []
+delimiter_with M.Second offset = []
+delimiter_with mark offset = byte_at offset ∷ []
 
 abbrev pub delimiter_at : List Emphasis → ℕ → List Inline
-delimiter_at emphasis place = delimiter_with (marks_by emphasis place) place
+delimiter_at emphasis offset = delimiter_with (marks_by emphasis offset) offset
 
--- the delimiters from one place up to another
+-- the delimiters from one offset up to another
 abbrev pub delimiters_between : List Emphasis → ℕ → ℕ → List Inline
 delimiters_between emphasis from to = flat_map (delimiter_at emphasis) (range_with_len from (to - from))
 

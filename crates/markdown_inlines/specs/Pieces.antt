@@ -1,4 +1,4 @@
--- What begins at a place of a text, and the text that stands between. (CommonMark 0.31.2, chapter 6)
+-- What begins at an offset of a text, and the text that stands between. (CommonMark 0.31.2, chapter 6)
 use Rattle.std.specs.Prelude.{ℕ, true, false, ◌+◌, ◌-◌, ◌<◌, ◌≤◌, List, ◌∷◌, ◌++◌, ◌≡◌, ◌≢◌, ◌⊎◌, length, drop, codes, get_or}
 use Rattle.std.specs.Prelude.{Some, IsTrue}
 use Rattle.memchr.specs.Find.{occurs_at}
@@ -71,7 +71,7 @@ pub record IsTagPiece (rest : List ℕ) (len : ℕ) : Type 0 where
 -- Raw HTML: a tag, or a comment, a processing instruction, a declaration or a CDATA section, which ends where the find after its
 -- `<!` or `<?` does. (6.6)
 abbrev pub IsHtmlPiece : List ℕ → ℕ → ℕ → Type 0
-IsHtmlPiece text place len = IsTagPiece (drop place text) len ⊎ (find_at text (place + 2) ≡ Some (place + len))
+IsHtmlPiece text offset len = IsTagPiece (drop offset text) len ⊎ (find_at text (offset + 2) ≡ Some (offset + len))
 
 abbrev pub IsNoUri : List ℕ → Type 0
 IsNoUri rest = (len : ℕ) → ¬ IsUriPiece rest len
@@ -79,30 +79,30 @@ IsNoUri rest = (len : ℕ) → ¬ IsUriPiece rest len
 abbrev pub IsNoEmail : List ℕ → Type 0
 IsNoEmail rest = (len : ℕ) → ¬ IsEmailPiece rest len
 
--- With these extensions, a piece of this kind and length begins at a place of a text, of which what stands before `from` is in other
+-- With these extensions, a piece of this kind and length begins at an offset of a text, of which what stands before `from` is in other
 -- pieces. Of a code span the backtick string isn't preceded by a backtick from there on.
 abbrev pub BeginsAt : Extensions → List ℕ → ℕ → ℕ → PieceKind → ℕ → Type 0
-BeginsAt asked text from place Text len = ⊥
-BeginsAt asked text from place Escape len = IsEscape (drop place text) len
-BeginsAt asked text from place HardBreak len = IsLineBreak (drop place text) (record { is_hard = true; len = len })
-BeginsAt asked text from place SoftBreak len = IsLineBreak (drop place text) (record { is_hard = false; len = len })
-BeginsAt asked text from place Reference len = IsReferencePiece (drop place text) len
-BeginsAt asked text from place (Code backticks) len =
-    (from < place → get_or text (place - 1) 0 ≢ backtick) × IsCodePiece (drop place text) backticks len
-BeginsAt asked text from place Uri len = IsUriPiece (drop place text) len
-BeginsAt asked text from place Email len = IsNoUri (drop place text) × IsEmailPiece (drop place text) len
-BeginsAt asked text from place Html len =
-    IsNoUri (drop place text) × IsNoEmail (drop place text) × IsHtmlPiece text place len
-BeginsAt asked text from place (Delimiters run) len = IsRunOf asked text place run × (len ≡ run.count)
-BeginsAt asked text from place LinkOpener len = (occurs_at text (codes "[") place ≡ true) × IsOpenerEnd asked text place (place + len)
-BeginsAt asked text from place ImageOpener len =
-    (occurs_at text (codes "![") place ≡ true) × IsOpenerEnd asked text (place + 1) (place + len)
-BeginsAt asked text from place Closer len = (occurs_at text (codes "]") place ≡ true) × (len ≡ 1)
+BeginsAt asked text from offset Text len = ⊥
+BeginsAt asked text from offset Escape len = IsEscape (drop offset text) len
+BeginsAt asked text from offset HardBreak len = IsLineBreak (drop offset text) (record { is_hard = true; len = len })
+BeginsAt asked text from offset SoftBreak len = IsLineBreak (drop offset text) (record { is_hard = false; len = len })
+BeginsAt asked text from offset Reference len = IsReferencePiece (drop offset text) len
+BeginsAt asked text from offset (Code backticks) len =
+    (from < offset → get_or text (offset - 1) 0 ≢ backtick) × IsCodePiece (drop offset text) backticks len
+BeginsAt asked text from offset Uri len = IsUriPiece (drop offset text) len
+BeginsAt asked text from offset Email len = IsNoUri (drop offset text) × IsEmailPiece (drop offset text) len
+BeginsAt asked text from offset Html len =
+    IsNoUri (drop offset text) × IsNoEmail (drop offset text) × IsHtmlPiece text offset len
+BeginsAt asked text from offset (Delimiters run) len = IsRunOf asked text offset run × (len ≡ run.count)
+BeginsAt asked text from offset LinkOpener len = (occurs_at text (codes "[") offset ≡ true) × IsOpenerEnd asked text offset (offset + len)
+BeginsAt asked text from offset ImageOpener len =
+    (occurs_at text (codes "![") offset ≡ true) × IsOpenerEnd asked text (offset + 1) (offset + len)
+BeginsAt asked text from offset Closer len = (occurs_at text (codes "]") offset ≡ true) × (len ≡ 1)
 
--- nothing but text begins from one place up to another
+-- nothing but text begins from one offset up to another
 abbrev pub HasOnlyText : Extensions → List ℕ → ℕ → ℕ → Type 0
 HasOnlyText asked text from to =
-    (place : ℕ) → from ≤ place → place < to → (kind : PieceKind) (len : ℕ) → ¬ BeginsAt asked text from place kind len
+    (offset : ℕ) → from ≤ offset → offset < to → (kind : PieceKind) (len : ℕ) → ¬ BeginsAt asked text from offset kind len
 
 -- This is the next piece that is not text.
 pub record IsNext (asked : Extensions) (text : List ℕ) (from : ℕ) (piece : Piece) : Type 0 where
@@ -112,9 +112,9 @@ pub record IsNext (asked : Extensions) (text : List ℕ) (from : ℕ) (piece : P
   pub begins : BeginsAt asked text from piece.start piece.kind len
   pub ends : piece.end ≡ piece.start + len
 
--- a text, the extensions that are asked for, a place up to which it has been read, and what has been searched up to there
+-- a text, the extensions that are asked for, an offset up to which it has been read, and what has been searched up to there
 pub record ReadText : Type 0 where
   pub text : List ℕ
   pub asked : Extensions
-  pub place : ℕ
+  pub offset : ℕ
   pub searched : Searched

@@ -15,9 +15,9 @@ pub record IsOpenerSource (text : List ℕ) (opener : Opener) : Type 0 where
   pub some : opener.start < opener.text
   pub ends : IsCharBoundary text opener.text
 
--- the link texts of these openers begin at a place or before it
+-- the link texts of these openers begin at an offset or before it
 abbrev pub AreBefore : List Opener → ℕ → Type 0
-AreBefore openers place = AllByRecursion (λ (opener : Opener). opener.text ≤ place) openers
+AreBefore openers offset = AllByRecursion (λ (opener : Opener). opener.text ≤ offset) openers
 
 -- So many runs and openers stand before the innermost of these at most, and before each of the others at most as many as before the
 -- one in it.
@@ -37,7 +37,7 @@ reading_of text reader = record {
   openers = reverse reader.openers.items;
   runs = reader.runs.items;
   last_link = reader.last_link;
-  links = reader.links.items;
+  links = reader.links;
   emphasis = reader.emphasis.items;
 }
 

@@ -18,10 +18,10 @@ pub record IsSource (text : List ℕ) (piece : Piece) : Type 0 where
   pub begins : IsCharBoundary text piece.start
   pub ends : IsCharBoundary text piece.end
 
--- Each of the pieces stands in the text; joined, they are what stands before a place of it.
-pub record AreSources (text : List ℕ) (pieces : List Piece) (place : ℕ) : Type 0 where
+-- Each of the pieces stands in the text; joined, they are what stands before an offset of it.
+pub record AreSources (text : List ℕ) (pieces : List Piece) (offset : ℕ) : Type 0 where
   pub each : All (IsSource text) pieces
-  pub joined : flat_map (source_of text) pieces ≡ take place text
+  pub joined : flat_map (source_of text) pieces ≡ take offset text
 
 -- A text may be cut on both sides of each part of a link's target.
 abbrev pub IsTargetSource : List ℕ → LinkTarget → Type 0

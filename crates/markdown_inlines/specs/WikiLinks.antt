@@ -14,24 +14,24 @@ is_target_byte b = not (b == left_bracket || b == right_bracket || b == vertical
 
 -- a target ends before a pipe, which is part of the head, or before `]]`, which is not
 abbrev pub IsHeadEnd : List ℕ → ℕ → ℕ → Type 0
-IsHeadEnd text place end =
-    ((occurs_at text (codes "|") place ≡ true) × (end ≡ place + 1)) ⊎ ((occurs_at text (codes "]]") place ≡ true) × (end ≡ place))
+IsHeadEnd text offset end =
+    ((occurs_at text (codes "|") offset ≡ true) × (end ≡ offset + 1)) ⊎ ((occurs_at text (codes "]]") offset ≡ true) × (end ≡ offset))
 
--- The head of a wikilink stands from one place of a text to another: two left brackets, a target of some bytes, and a pipe unless
+-- The head of a wikilink stands from one offset of a text to another: two left brackets, a target of some bytes, and a pipe unless
 -- two right brackets follow.
-pub record IsHead (text : List ℕ) (place : ℕ) (target : Range ℕ) (end : ℕ) : Type 0 where
-  pub brackets : occurs_at text (codes "[[") place ≡ true
-  pub begins : target.start ≡ place + 2
+pub record IsHead (text : List ℕ) (offset : ℕ) (target : Range ℕ) (end : ℕ) : Type 0 where
+  pub brackets : occurs_at text (codes "[[") offset ≡ true
+  pub begins : target.start ≡ offset + 2
   pub some : target.start < target.end
   pub longest : target.end ≡ target.start + prefix_len is_target_byte (drop target.start text)
   pub ends : IsHeadEnd text target.end end
 
 abbrev pub HasNoHead : List ℕ → ℕ → Type 0
-HasNoHead text place = (target : Range ℕ) (end : ℕ) → ¬ IsHead text place target end
+HasNoHead text offset = (target : Range ℕ) (end : ℕ) → ¬ IsHead text offset target end
 
--- An opener whose left bracket stands at a place ends after that bracket; where wikilinks are asked for and the head of one stands
+-- An opener whose left bracket stands at an offset ends after that bracket; where wikilinks are asked for and the head of one stands
 -- there, it ends with that.
 abbrev pub IsOpenerEnd : Extensions → List ℕ → ℕ → ℕ → Type 0
-IsOpenerEnd asked text place end =
-    (IsTrue asked.wikilinks × (target : Range ℕ) × IsHead text place target end)
-    ⊎ ((IsTrue asked.wikilinks → HasNoHead text place) × (end ≡ place + 1))
+IsOpenerEnd asked text offset end =
+    (IsTrue asked.wikilinks × (target : Range ℕ) × IsHead text offset target end)
+    ⊎ ((IsTrue asked.wikilinks → HasNoHead text offset) × (end ≡ offset + 1))

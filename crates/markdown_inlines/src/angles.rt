@@ -12,35 +12,35 @@ use crate::searches::Searches;
 use markdown_scanners_tree::scanners::{scan_autolink_bytes, scan_html_block_inner};
 use std::alloc::Global;
 
-// What the `<` at the place begins, and its length: an autolink, or else raw HTML.
+// What the `<` at the offset begins, and its length: an autolink, or else raw HTML.
 pub(crate) fn angle_at(
     alloc: Global,
     bytes: &[u8],
     searches: &mut Searches,
-    place: usize,
+    offset: usize,
 ) -> Option<(PieceKind, usize)>
-    requires within { place < length bytes.now }
-    requires opens { slice_index bytes.now place ≡ less_than_sign }
+    requires within { offset < length bytes.now }
+    requires opens { slice_index bytes.now offset ≡ less_than_sign }
     requires same { searches.old.html.text ≡ bytes.now }
-    requires searched { IsSearchedTo place searches.old }
+    requires searched { IsSearchedTo offset searches.old }
     ensures found { (asked : Extensions) (from : ℕ)
-        → SomeExactly (λ r. BeginsAt asked bytes.now from place r.0 r.1) result }
+        → SomeExactly (λ r. BeginsAt asked bytes.now from offset r.0 r.1) result }
     ensures counts { IfSome result (λ r. searches.new
-        ≡ kind_searched r.0 bytes.now place (place + r.1) searches.old) }
+        ≡ kind_searched r.0 bytes.now offset (offset + r.1) searches.old) }
     ensures counts_text { IfNone result
-        (searches.new ≡ html_searched bytes.now place searches.old) }
+        (searches.new ≡ html_searched bytes.now offset searches.old) }
     ensures text { searches.new.html.text ≡ searches.old.html.text }
-    ensures stays { (q : ℕ) → place < q → IfSome result (λ r. place + r.1 ≤ q)
+    ensures stays { (q : ℕ) → offset < q → IfSome result (λ r. offset + r.1 ≤ q)
         → IsSearchedTo q searches.new }
 {
-    let rest = &bytes[place..];
+    let rest = &bytes[offset..];
     if let Some(len) = uri_len(rest) {
         return Some((PieceKind::Uri, len));
     }
     if let Some(len) = email_len(rest) {
         return Some((PieceKind::Email, len));
     }
-    match html_len(alloc, bytes, searches, place) {
+    match html_len(alloc, bytes, searches, offset) {
         Some(len) => Some((PieceKind::Html, len)),
         None => None,
     }
@@ -66,22 +66,22 @@ fn email_len(rest: &[u8]) -> Option<usize>
     Some(len + 2)
 }
 
-// The length of the raw HTML at the place, where a `<` stands.
-fn html_len(alloc: Global, bytes: &[u8], searches: &mut Searches, place: usize) -> Option<usize>
-    requires within { place < length bytes.now }
-    requires opens { slice_index bytes.now place ≡ less_than_sign }
+// The length of the raw HTML at the offset, where a `<` stands.
+fn html_len(alloc: Global, bytes: &[u8], searches: &mut Searches, offset: usize) -> Option<usize>
+    requires within { offset < length bytes.now }
+    requires opens { slice_index bytes.now offset ≡ less_than_sign }
     requires same { searches.old.html.text ≡ bytes.now }
-    requires searched { IsSearchedTo place searches.old }
-    ensures found { SomeExactly (IsHtmlPiece bytes.now place) result }
-    ensures counts { searches.new ≡ html_searched bytes.now place searches.old }
+    requires searched { IsSearchedTo offset searches.old }
+    ensures found { SomeExactly (IsHtmlPiece bytes.now offset) result }
+    ensures counts { searches.new ≡ html_searched bytes.now offset searches.old }
     ensures text { searches.new.html.text ≡ searches.old.html.text }
-    ensures stays { (q : ℕ) → place < q → IfSome result (λ n. place + n ≤ q)
+    ensures stays { (q : ℕ) → offset < q → IfSome result (λ n. offset + n ≤ q)
         → IsSearchedTo q searches.new }
 {
-    if let Some(end) = searches.html_end(place) {
-        return Some(end - place);
+    if let Some(end) = searches.html_end(offset) {
+        return Some(end - offset);
     }
-    tag_len(alloc, &bytes[place..])
+    tag_len(alloc, &bytes[offset..])
 }
 
 // The length of the tag at the front. Nothing is skipped in it, so no memory is asked for.

@@ -30,13 +30,13 @@ impl<'a> Backticks<'a> {
         Backticks { bytes }
     }
 
-    // What stands from a place on.
-    pub(crate) fn after(&self, place: usize) -> Backticks<'a>
-        requires { place ≤ length self.now }
-        ensures { result ≡ drop place self.now }
+    // What stands from an offset on.
+    pub(crate) fn after(&self, offset: usize) -> Backticks<'a>
+        requires { offset ≤ length self.now }
+        ensures { result ≡ drop offset self.now }
     {
         Backticks {
-            bytes: &self.bytes[place..],
+            bytes: &self.bytes[offset..],
         }
     }
 
@@ -53,7 +53,7 @@ impl<'a> Backticks<'a> {
         run
     }
 
-    // The place and the length of the first string of backticks from a place on that cuts none. All
+    // The offset and the length of the first string of backticks from an offset on that cuts none. All
     // up to its end is passed over, or up to the end of the text where there is none.
     pub(crate) fn next_string(&self, from: usize, passed: &mut u128) -> Option<(usize, usize)>
         requires within { from ≤ length self.now }

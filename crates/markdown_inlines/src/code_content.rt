@@ -241,11 +241,11 @@ fn push_spaced(out: &mut String, text: &str) -> Result<(), AllocError>
     ensures { OnOk result
         (string_bytes out.new ≡ string_bytes out.old ++ with_spaces text.now) }
 {
-    let mut place = 0;
-    while place < text.len() {
-        let end = place + line_head(&text.as_bytes()[place..]).len();
-        out.push_str(&text[place..end])?;
-        place = end + push_space(out, &text.as_bytes()[end..])?;
+    let mut offset = 0;
+    while offset < text.len() {
+        let end = offset + line_head(&text.as_bytes()[offset..]).len();
+        out.push_str(&text[offset..end])?;
+        offset = end + push_space(out, &text.as_bytes()[end..])?;
     }
     Ok(())
 }

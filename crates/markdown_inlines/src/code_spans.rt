@@ -34,12 +34,12 @@ pub fn scan_code_span(bytes: &[u8]) -> Option<CodeSpan>
     let text = Backticks::new(bytes);
     let mut passed = 0;
     let fence = text.front_len(&mut passed);
-    span_behind(&text, fence, &mut passed)
+    span_after(&text, fence, &mut passed)
 }
 
 // The code span that begins with all the backticks at the front, of which there are so many. All
 // after them up to its end is passed over.
-pub(crate) fn span_behind(text: &Backticks, fence: usize, passed: &mut u128) -> Option<CodeSpan>
+pub(crate) fn span_after(text: &Backticks, fence: usize, passed: &mut u128) -> Option<CodeSpan>
     requires opens { fence ≡ prefix_len is_backtick text.now }
     requires fits { length text.now < 2 ^ 64 }
     requires room { passed.old < 2 ^ 110 }
@@ -62,7 +62,7 @@ pub(crate) fn span_behind(text: &Backticks, fence: usize, passed: &mut u128) -> 
     })
 }
 
-// The place of the first string of so many backticks after one of them at the front.
+// The offset of the first string of so many backticks after one of them at the front.
 fn find_string(text: &Backticks, fence: usize, passed: &mut u128) -> Option<usize>
     requires some { 0 < fence }
     requires opens { fence ≡ prefix_len is_backtick text.now }
@@ -74,12 +74,12 @@ fn find_string(text: &Backticks, fence: usize, passed: &mut u128) -> Option<usiz
     ensures none { IfNone result ((to : ℕ) → HasNone text.now fence fence to) }
     ensures counts { IfSome result (λ close. passed.new ≡ passed.old + close) }
 {
-    let mut place = fence;
-    while let Some((start, run)) = text.next_string(place, passed) {
+    let mut offset = fence;
+    while let Some((start, run)) = text.next_string(offset, passed) {
         if run == fence {
             return Some(start);
         }
-        place = start + run;
+        offset = start + run;
     }
     None
 }

@@ -10,7 +10,7 @@ ghost use Rattle.markdown_inlines.specs.Written.{have_runs, is_run, piece_of, pi
 
 use crate::emphasis::Emphasis;
 use crate::inlines::Inline;
-use crate::links::{Labels, Link};
+use crate::links::{Labels, Links};
 use crate::piece_scanner::PieceScanner;
 use crate::pieces::{Piece, PieceKind};
 use crate::reading::Reader;
@@ -23,7 +23,7 @@ pub struct Cut {
     /// The pieces, one after another: joined, they are the text.
     pub pieces: Vec<Piece>,
     /// Of each opener among them, in order, the link or image that it begins, if it begins one.
-    pub links: Vec<Option<Link>>,
+    pub links: Links,
     /// The emphasis: that of a link text where its link ends, and all other at the end. Each is in
     /// the order of `find_emphasis`.
     pub emphasis: Vec<Emphasis>,
@@ -50,7 +50,7 @@ pub fn cut_inlines<L: Labels>(
     // It is cut as the definition has it.
     ensures cut { IfOk result (λ cut.
         IsCut text.now (record { asked = extensions; known = L.known labels.now })
-        cut.pieces.items cut.links.items cut.emphasis.items) }
+        cut.pieces.items cut.links cut.emphasis.items) }
 
     // Each piece has some bytes of the text, which may be cut on both sides of it; joined, they are
     // the text.
@@ -58,7 +58,7 @@ pub fn cut_inlines<L: Labels>(
         AreSources text.now cut.pieces.items (length text.now)) }
 
     // The text may be cut on both sides of each part of a link.
-    ensures links { IfOk result (λ cut. AreLinkSources text.now cut.links.items) }
+    ensures links { IfOk result (λ cut. AreLinkSources text.now cut.links) }
 
     // The ends of code spans and raw HTML are searched for as the definition has it: however many
     // begin, at most ten bytes are passed over for each of the text.
@@ -118,7 +118,7 @@ impl CutBuffers {
     // Nothing is cut yet.
     pub(crate) fn new(alloc: Global) -> CutBuffers
         ensures inlines { result.inlines.items ≡ [] }
-        ensures links { result.reader.links.items ≡ [] }
+        ensures links { result.reader.links ≡ [] }
     {
         CutBuffers {
             inlines: Vec::new(alloc),
@@ -140,15 +140,15 @@ pub(crate) fn cut_within<L: Labels>(
 ) -> Result<bool, AllocError>
     ensures cut { OnOk result (
         IsCut text.now (record { asked = extensions; known = L.known labels.now })
-        (pieces_of buffers.new.inlines.items) buffers.new.reader.links.items
+        (pieces_of buffers.new.inlines.items) buffers.new.reader.links
         buffers.new.reader.emphasis.items) }
     ensures written { OnOk result (buffers.new.inlines.items
-        ≡ written buffers.new.reader.links.items (pieces_of buffers.new.inlines.items)) }
+        ≡ written buffers.new.reader.links (pieces_of buffers.new.inlines.items)) }
     ensures runs { IfOk result (λ has_runs.
         has_runs ≡ have_runs (pieces_of buffers.new.inlines.items)) }
     ensures sources { OnOk result (
         AreSources text.now (pieces_of buffers.new.inlines.items) (length text.now)) }
-    ensures links { OnOk result (AreLinkSources text.now buffers.new.reader.links.items) }
+    ensures links { OnOk result (AreLinkSources text.now buffers.new.reader.links) }
     ensures passed { OnOk result (buffers.new.passed
         ≡ bytes_searched text.now (pieces_of buffers.new.inlines.items)) }
     ensures budget { OnOk result (buffers.new.passed ≤ 10 * length text.now) }
@@ -157,14 +157,14 @@ pub(crate) fn cut_within<L: Labels>(
     buffers.reader.restart();
     buffers.inlines.clear();
     let mut has_runs = false;
-    let mut place = 0;
+    let mut offset = 0;
     while let Some(piece) = scanner.next(alloc)? {
-        push_text(&mut buffers.inlines, place, piece.start)?;
+        push_text(&mut buffers.inlines, offset, piece.start)?;
         has_runs = or_is_run(has_runs, &piece.kind);
-        place = read_piece(alloc, text, labels, extensions, buffers, piece)?;
-        scanner.read_to(place);
+        offset = read_piece(alloc, text, labels, extensions, buffers, piece)?;
+        scanner.read_to(offset);
     }
-    push_text(&mut buffers.inlines, place, text.len())?;
+    push_text(&mut buffers.inlines, offset, text.len())?;
     buffers.reader.finish(alloc)?;
     buffers.passed = scanner.passed();
     Ok(has_runs)
@@ -177,7 +177,7 @@ fn or_is_run(has_runs: bool, kind: &PieceKind) -> bool
     has_runs || matches!(kind, PieceKind::Delimiters(_))
 }
 
-// Adds the text from one place up to another, if there is any.
+// Adds the text from one offset up to another, if there is any.
 fn push_text(inlines: &mut Vec<Inline>, from: usize, to: usize) -> Result<(), AllocError>
     ensures { OnOk result (inlines.new.items
         ≡ inlines.old.items ++ written [] (text_between from to)) }
@@ -205,15 +205,15 @@ fn read_piece<L: Labels>(
     requires source { IsSource text.now piece }
     requires before { AreBefore (reading_of text.now buffers.old.reader).openers piece.start }
     requires kept { IsKept (reading_of text.now buffers.old.reader) }
-    requires free { AreFree buffers.old.reader.links.items
+    requires free { AreFree buffers.old.reader.links
         (reading_of text.now buffers.old.reader).openers }
-    requires new { ends_link buffers.old.reader.links.items piece.start ≡ false }
+    requires new { ends_link buffers.old.reader.links piece.start ≡ false }
     ensures read { IfOk result (λ end. IsRead piece.kind
         (record { asked = extensions; known = L.known labels.now })
         (reading_of text.now buffers.old.reader) (record piece { end = end })
         (reading_of text.now buffers.new.reader)) }
     ensures written { IfOk result (λ end. buffers.new.inlines.items ≡ buffers.old.inlines.items
-        ++ written_as piece.kind buffers.new.reader.links.items (record piece { end = end }) ∷ []) }
+        ++ written_as piece.kind buffers.new.reader.links (record piece { end = end }) ∷ []) }
     ensures kept { OnOk result (IsKept (reading_of text.now buffers.new.reader)) }
     ensures searched { IfOk result (λ end. (text : List ℕ) (searched : Searched)
         → kind_searched piece.kind text piece.start end searched

@@ -23,26 +23,26 @@ pub struct DelimiterRun {
     pub can_close: bool,
 }
 
-/// The delimiter run that begins at a place of the text between two characters, before which no
+/// The delimiter run that begins at an offset of the text between two characters, before which no
 /// unescaped byte of the same kind stands.
-pub fn scan_delimiter_run(text: &str, place: usize) -> Option<DelimiterRun>
-    requires { 0 < place → IsCharBoundary text.now place }
+pub fn scan_delimiter_run(text: &str, offset: usize) -> Option<DelimiterRun>
+    requires { 0 < offset → IsCharBoundary text.now offset }
 
     // The one run that begins there is answered.
-    ensures found { SomeExactly (IsDelimiterRun text.now place) result }
-    ensures only { IsOnly (IsDelimiterRun text.now place) result }
+    ensures found { SomeExactly (IsDelimiterRun text.now offset) result }
+    ensures only { IsOnly (IsDelimiterRun text.now offset) result }
 
     // After it a text may be cut.
-    ensures within { IfSome result (λ run. place + run.count ≤ length text.now) }
-    ensures boundary { IfSome result (λ run. IsCharBoundary text.now (place + run.count)) }
+    ensures within { IfSome result (λ run. offset + run.count ≤ length text.now) }
+    ensures boundary { IfSome result (λ run. IsCharBoundary text.now (offset + run.count)) }
 {
     let bytes = text.as_bytes();
-    if place == bytes.len() || !is_delimiter(bytes[place]) {
+    if offset == bytes.len() || !is_delimiter(bytes[offset]) {
         return None;
     }
-    let byte = bytes[place];
-    let count = scan_ch_repeat(&bytes[place..], byte);
-    let (before, after) = sides(text, place, count);
+    let byte = bytes[offset];
+    let count = scan_ch_repeat(&bytes[offset..], byte);
+    let (before, after) = sides(text, offset, count);
     Some(DelimiterRun {
         byte,
         count,
@@ -51,14 +51,14 @@ pub fn scan_delimiter_run(text: &str, place: usize) -> Option<DelimiterRun>
     })
 }
 
-// The run of tildes at a place of the text, where one stands, before which no unescaped tilde does.
-pub(crate) fn scan_tilde_run(text: &str, place: usize) -> Option<DelimiterRun>
-    requires within { place < length text.now }
-    requires opens { slice_index text.now place ≡ tilde }
-    ensures found { SomeExactly (IsTildeRun text.now place) result }
+// The run of tildes at an offset of the text, where one stands, before which no unescaped tilde does.
+pub(crate) fn scan_tilde_run(text: &str, offset: usize) -> Option<DelimiterRun>
+    requires within { offset < length text.now }
+    requires opens { slice_index text.now offset ≡ tilde }
+    ensures found { SomeExactly (IsTildeRun text.now offset) result }
 {
-    let count = scan_ch_repeat(&text.as_bytes()[place..], b'~');
-    let (before, after) = sides(text, place, count);
+    let count = scan_ch_repeat(&text.as_bytes()[offset..], b'~');
+    let (before, after) = sides(text, offset, count);
     Some(DelimiterRun {
         byte: b'~',
         count,
@@ -67,16 +67,16 @@ pub(crate) fn scan_tilde_run(text: &str, place: usize) -> Option<DelimiterRun>
     })
 }
 
-// The characters on both sides of a part of the text that begins at a place.
-fn sides(text: &str, place: usize, count: usize) -> (Option<char>, Option<char>)
-    requires begins { IsCharBoundary text.now place }
-    requires ends { IsCharBoundary text.now (place + count) }
-    requires within { place + count ≤ length text.now }
-    ensures before { result.0 ≡ char_before text.now place }
-    ensures after { result.1 ≡ char_after text.now (place + count) }
+// The characters on both sides of a part of the text that begins at an offset.
+fn sides(text: &str, offset: usize, count: usize) -> (Option<char>, Option<char>)
+    requires begins { IsCharBoundary text.now offset }
+    requires ends { IsCharBoundary text.now (offset + count) }
+    requires within { offset + count ≤ length text.now }
+    ensures before { result.0 ≡ char_before text.now offset }
+    ensures after { result.1 ≡ char_after text.now (offset + count) }
 {
-    let before = text[..place].chars().next_back();
-    let after = text[place + count..].chars().next();
+    let before = text[..offset].chars().next_back();
+    let after = text[offset + count..].chars().next();
     (before, after)
 }
 

@@ -27,7 +27,7 @@ pub fn scan_email_autolink_bytes(bytes: &[u8]) -> Option<usize>
     ensures within { IfSome result (λ n. n < length bytes.now) }
     ensures cut { IfSome result (λ n. slice_index bytes.now n ≡ greater_than_sign) }
     ensures before { IfSome result (λ n. IsUtf8 bytes.now → IsCharBoundary bytes.now n) }
-    ensures behind { IfSome result (λ n. IsUtf8 bytes.now → IsCharBoundary bytes.now (n + 1)) }
+    ensures after { IfSome result (λ n. IsUtf8 bytes.now → IsCharBoundary bytes.now (n + 1)) }
 {
     let local = local_len(bytes);
     if local == 0 || local == bytes.len() || bytes[local] != b'@' {
@@ -41,8 +41,8 @@ pub fn scan_email_autolink_bytes(bytes: &[u8]) -> Option<usize>
     Some(end)
 }
 
-/// The email address from `start` on that `>` ends: the place after the `>`, and the text before it.
-/// `start` is a place between two characters.
+/// The email address from `start` on that `>` ends: the offset after the `>`, and the text before it.
+/// `start` is an offset between two characters.
 pub fn scan_email_autolink<'a>(text: &'a str, start: usize) -> Option<(usize, CowStr<'a>, LinkType)>
     requires { 0 < start → IsCharBoundary text.now start }
 
@@ -52,8 +52,8 @@ pub fn scan_email_autolink<'a>(text: &'a str, start: usize) -> Option<(usize, Co
     ensures only { IsOnly (IsEmailAutolink (drop start text.now))
         (option_map (λ r. cow_text r.1) result) }
 
-    // It is borrowed from the text, and the answered place is after its `>`.
-    ensures place { IfSome result (λ r. r.0 ≡ start + length (cow_text r.1) + 1) }
+    // It is borrowed from the text, and the answered offset is after its `>`.
+    ensures offset { IfSome result (λ r. r.0 ≡ start + length (cow_text r.1) + 1) }
     ensures slice { IfSome result (λ r. cow_text r.1 ≡ slice_range text.now start (r.0 - 1)) }
     ensures boundary { IfSome result (λ r. IsCharBoundary text.now r.0) }
     ensures borrowed { IfSome result (λ r. IsBorrowed r.1) }

@@ -58,7 +58,7 @@ impl Model for Openers {
     ghost invariant = { λ o. AreLeft o.stack.items × ArePassed o.passed o.stack.items };
 }
 
-/// The emphasis of a text with these delimiter runs, in the order of the text: of each its place,
+/// The emphasis of a text with these delimiter runs, in the order of the text: of each its offset,
 /// with all its delimiters left. It is answered in the order in which it ends, so that emphasis in
 /// other emphasis comes before that.
 ///

@@ -1,4 +1,4 @@
-//! Code spans at many places of one text. (CommonMark 0.31.2, section 6.1)
+//! Code spans at many offsets of one text. (CommonMark 0.31.2, section 6.1)
 ghost use Rattle.std.specs.Prelude.{ℕ, ◌≡◌, ◌==◌, ◌+◌, ◌-◌, ◌<◌, ◌≤◌, ◌^◌, length, drop, slice_index, IfSome, IfNone, IfOk, OnOk, if◌then◌else◌};
 ghost use Rattle.std.specs.List.{prefix_len};
 ghost use Rattle.markdown_scanners_tree.specs.Ascii.{backtick};
@@ -7,7 +7,7 @@ ghost use Rattle.markdown_inlines.specs.CodeSpans.{IsCodeSpan, is_backtick};
 ghost use Rattle.markdown_inlines.specs.LastStrings.{AreLastStrings};
 
 use crate::backticks::Backticks;
-use crate::code_spans::{CodeSpan, span_behind};
+use crate::code_spans::{CodeSpan, span_after};
 use std::alloc::{AllocError, Global};
 use std::marker::Model;
 
@@ -43,133 +43,133 @@ impl<'a> CodeSpans<'a> {
         ensures { IfOk result (λ spans. spans ≡ bytes.now) }
     {
         let text = Backticks::new(bytes);
-        let lasts = last_places(alloc, &text)?;
+        let lasts = last_offsets(alloc, &text)?;
         Ok(CodeSpans { text, lasts })
     }
 
-    /// The code span that begins at a place of the text, before which no backtick stands: what
+    /// The code span that begins at an offset of the text, before which no backtick stands: what
     /// `scan_code_span` finds there. No memory is asked for.
-    pub fn scan(&self, place: usize) -> Option<CodeSpan>
-        requires { place ≤ length self.now }
+    pub fn scan(&self, offset: usize) -> Option<CodeSpan>
+        requires { offset ≤ length self.now }
 
         // The one span that stands there is answered.
-        ensures found { SomeExactly (IsCodeSpan (drop place self.now)) result }
-        ensures only { IsOnly (IsCodeSpan (drop place self.now)) result }
+        ensures found { SomeExactly (IsCodeSpan (drop offset self.now)) result }
+        ensures only { IsOnly (IsCodeSpan (drop offset self.now)) result }
 
         // Its content stands between strings of one length.
-        ensures within { IfSome result (λ span. place + span.len ≤ length self.now) }
+        ensures within { IfSome result (λ span. offset + span.len ≤ length self.now) }
         ensures content { IfSome result (λ span. (0 < span.content.start)
             × (span.content.start < span.content.end)
             × (span.content.end + span.content.start ≡ span.len)) }
     {
-        span_at(&self.text, &self.lasts, place, &mut 0)
+        span_at(&self.text, &self.lasts, offset, &mut 0)
     }
 }
 
-// The code span that begins at a place, where the last strings after a place before it are known. The
+// The code span that begins at an offset, where the last strings after an offset before it are known. The
 // bytes that are passed over are added to a count.
 pub(crate) fn span_at(
     text: &Backticks,
     lasts: &[usize],
-    place: usize,
+    offset: usize,
     passed: &mut u128,
 ) -> Option<CodeSpan>
-    requires within { place ≤ length text.now }
-    requires known { (from : ℕ) × (from ≤ place) × AreLastStrings text.now from lasts.now }
+    requires within { offset ≤ length text.now }
+    requires known { (from : ℕ) × (from ≤ offset) × AreLastStrings text.now from lasts.now }
     requires room { passed.old < 2 ^ 100 }
 
     // The one span that stands there is answered.
-    ensures found { SomeExactly (IsCodeSpan (drop place text.now)) result }
-    ensures only { IsOnly (IsCodeSpan (drop place text.now)) result }
+    ensures found { SomeExactly (IsCodeSpan (drop offset text.now)) result }
+    ensures only { IsOnly (IsCodeSpan (drop offset text.now)) result }
 
     // Its content stands between strings of one length.
-    ensures within { IfSome result (λ span. place + span.len ≤ length text.now) }
+    ensures within { IfSome result (λ span. offset + span.len ≤ length text.now) }
     ensures content { IfSome result (λ span. (0 < span.content.start)
         × (span.content.start < span.content.end)
         × (span.content.end + span.content.start ≡ span.len)) }
 
-    // A span is passed over once; where there is none, no more than the backticks at the place.
+    // A span is passed over once; where there is none, no more than the backticks at the offset.
     ensures counts_span { IfSome result (λ span. passed.new ≡ passed.old + span.len) }
     ensures counts_string { IfNone result
-        (passed.new ≡ passed.old + prefix_len is_backtick (drop place text.now)) }
+        (passed.new ≡ passed.old + prefix_len is_backtick (drop offset text.now)) }
 {
-    let rest = text.after(place);
+    let rest = text.after(offset);
     let fence = rest.front_len(passed);
-    if last_place(lasts, fence) <= place {
+    if last_offset(lasts, fence) <= offset {
         return None;
     }
-    span_behind(&rest, fence, passed)
+    span_after(&rest, fence, passed)
 }
 
-// The code span that begins with the backtick at a place. Where there is none, all after the place has
+// The code span that begins with the backtick at an offset. Where there is none, all after the offset has
 // been read, and the last strings there are put in. Nothing depends on what is in the buffer.
 pub(crate) fn first_span(
     text: &Backticks,
     lasts: &mut Vec<usize>,
-    place: usize,
+    offset: usize,
     passed: &mut u128,
 ) -> Result<Option<CodeSpan>, AllocError>
-    requires within { place < length text.now }
-    requires opens { slice_index text.now place ≡ backtick }
+    requires within { offset < length text.now }
+    requires opens { slice_index text.now offset ≡ backtick }
     requires fits { length text.now < 2 ^ 64 }
     requires room { passed.old < 2 ^ 100 }
-    ensures found { IfOk result (SomeExactly (IsCodeSpan (drop place text.now))) }
+    ensures found { IfOk result (SomeExactly (IsCodeSpan (drop offset text.now))) }
     ensures within { IfOk result (λ found.
-        IfSome found (λ span. place + span.len ≤ length text.now)) }
+        IfSome found (λ span. offset + span.len ≤ length text.now)) }
     ensures counts_span { IfOk result (λ found.
         IfSome found (λ span. passed.new ≡ passed.old + span.len)) }
     ensures counts_rest { IfOk result (λ found.
-        IfNone found (passed.new ≡ passed.old + (length text.now - place))) }
+        IfNone found (passed.new ≡ passed.old + (length text.now - offset))) }
     ensures lasts { IfOk result (λ found.
-        IfNone found (AreLastStrings text.now place lasts.new.items)) }
+        IfNone found (AreLastStrings text.now offset lasts.new.items)) }
 {
-    let rest = text.after(place);
+    let rest = text.after(offset);
     let fence = rest.front_len(passed);
     lasts.clear();
-    let mut offset = fence;
-    while let Some((start, run)) = rest.next_string(offset, passed) {
+    let mut from = fence;
+    while let Some((start, run)) = rest.next_string(from, passed) {
         if run == fence {
             return Ok(Some(CodeSpan {
                 content: fence..start,
                 len: start + fence,
             }));
         }
-        put_last(lasts, run, place + start)?;
-        offset = start + run;
+        put_last(lasts, run, offset + start)?;
+        from = start + run;
     }
     Ok(None)
 }
 
 // Where the last string of so many backticks stands, or 0.
-fn last_place(lasts: &[usize], fence: usize) -> usize
+fn last_offset(lasts: &[usize], fence: usize) -> usize
     ensures { result ≡ slice_index lasts.now fence }
 {
     lasts.get(fence).copied().unwrap_or(0)
 }
 
 // Where the last string of each length stands.
-fn last_places(alloc: Global, text: &Backticks) -> Result<Vec<usize>, AllocError>
+fn last_offsets(alloc: Global, text: &Backticks) -> Result<Vec<usize>, AllocError>
     requires { length text.now < 2 ^ 64 }
     ensures { IfOk result (λ lasts. AreLastStrings text.now 0 lasts.items) }
 {
     let mut lasts = Vec::new(alloc);
     let mut passed = 0;
-    let mut place = 0;
-    while let Some((start, run)) = text.next_string(place, &mut passed) {
+    let mut offset = 0;
+    while let Some((start, run)) = text.next_string(offset, &mut passed) {
         put_last(&mut lasts, run, start)?;
-        place = start + run;
+        offset = start + run;
     }
     Ok(lasts)
 }
 
-// Puts a place in for a length.
-fn put_last(lasts: &mut Vec<usize>, run: usize, place: usize) -> Result<(), AllocError>
+// Puts an offset in for a length.
+fn put_last(lasts: &mut Vec<usize>, run: usize, offset: usize) -> Result<(), AllocError>
     ensures { OnOk result ((k : ℕ) → slice_index lasts.new.items k
-        ≡ (if k == run then place else slice_index lasts.old.items k)) }
+        ≡ (if k == run then offset else slice_index lasts.old.items k)) }
 {
     while lasts.len() <= run {
         lasts.push(0)?;
     }
-    lasts[run] = place;
+    lasts[run] = offset;
     Ok(())
 }

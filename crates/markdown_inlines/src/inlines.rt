@@ -10,7 +10,8 @@ ghost use Rattle.markdown_inlines.specs.Written.{IsWithin, counted_in, is_opener
 
 use crate::cut::{CutBuffers, cut_within};
 use crate::emphasis::Emphasis;
-use crate::links::{Labels, Link};
+use crate::links::{Labels, Links};
+use crate::long_texts::give_back;
 use crate::marks::{Mark, put_marks};
 use crate::pieces::{Piece, PieceKind};
 use markdown_values::values::Extensions;
@@ -24,13 +25,13 @@ pub enum Inline {
     /// A piece that holds no others. A bracket that is part of no link is text, and so is a
     /// delimiter in no emphasis, which has a piece of its own.
     Leaf(Piece),
-    /// At this place emphasis begins with one delimiter, or strong emphasis with two.
+    /// At this offset emphasis begins with one delimiter, or strong emphasis with two.
     StartEmphasis(usize, usize),
-    /// At this place it ends with as many.
+    /// At this offset it ends with as many.
     EndEmphasis(usize, usize),
-    /// At this place strikethrough begins with one tilde or two.
+    /// At this offset strikethrough begins with one tilde or two.
     StartStrikethrough(usize, usize),
-    /// At this place it ends with as many.
+    /// At this offset it ends with as many.
     EndStrikethrough(usize, usize),
     /// The link or image begins that has this number among `Inlines::links`.
     StartLink(usize),
@@ -45,7 +46,7 @@ pub struct Inlines {
     pub inlines: Vec<Inline>,
     /// Of each bracket that may begin a link or image, in order, the one that it begins, if it
     /// begins one.
-    pub links: Vec<Option<Link>>,
+    pub links: Links,
 }
 
 /// The inlines of the content of a block, with the extensions that are asked for. The labels say
@@ -66,17 +67,17 @@ pub fn find_inlines<L: Labels>(
 ) -> Result<Inlines, AllocError>
     ensures inlines { IfOk result (λ r.
         AreInlines text.now (record { asked = extensions; known = L.known labels.now })
-        r.inlines.items r.links.items) }
+        r.inlines.items r.links) }
 
     // What begins ends, the innermost first.
-    ensures nested { IfOk result (λ r. Nest r.links.items r.inlines.items) }
+    ensures nested { IfOk result (λ r. Nest r.links r.inlines.items) }
 
     // Each inline begins where the one before it ends, and all together are the text.
     ensures sources { IfOk result (λ r.
-        StandFrom r.links.items 0 r.inlines.items (length text.now)) }
+        StandFrom r.links 0 r.inlines.items (length text.now)) }
 
     // The text may be cut on both sides of each part of a link.
-    ensures links { IfOk result (λ r. AreLinkSources text.now r.links.items) }
+    ensures links { IfOk result (λ r. AreLinkSources text.now r.links) }
 {
     let mut finder = InlineFinder::new(alloc);
     finder.find(alloc, text, labels, extensions)?;
@@ -100,7 +101,7 @@ impl Model for InlineFinder {
 
     ghost Value = { FoundInlines };
 
-    ghost view = { λ f. record { inlines = f.cut.inlines.items; links = f.cut.reader.links.items } };
+    ghost view = { λ f. record { inlines = f.cut.inlines.items; links = f.cut.reader.links } };
 }
 
 impl InlineFinder {
@@ -182,6 +183,7 @@ impl InlineFinder {
             return Ok(());
         }
         put_delimiters(
+            alloc,
             &mut self.cut.inlines,
             &mut self.spare,
             &mut self.marks,
@@ -207,7 +209,7 @@ impl InlineFinder {
     }
 
     /// Its links, as in `Inlines::links`.
-    pub fn links(&self) -> &[Option<Link>]
+    pub fn links(&self) -> &Links
         ensures { result.now ≡ self.now.links }
     {
         &self.cut.reader.links
@@ -216,7 +218,7 @@ impl InlineFinder {
     // What has been found, without the memory for more.
     fn into_inlines(self) -> Inlines
         ensures inlines { result.inlines.items ≡ self.inlines }
-        ensures links { result.links.items ≡ self.links }
+        ensures links { result.links ≡ self.links }
     {
         let InlineFinder { cut, .. } = self;
         let CutBuffers {
@@ -232,7 +234,7 @@ impl InlineFinder {
 }
 
 // Puts in the starts of the links.
-fn put_starts(inlines: &mut [Inline], links: &[Option<Link>])
+fn put_starts(inlines: &mut [Inline], links: &Links)
     ensures { inlines.new ≡ with_starts links.now 0 inlines.old }
 {
     if links.is_empty() {
@@ -246,7 +248,7 @@ fn put_starts(inlines: &mut [Inline], links: &[Option<Link>])
 
 // Makes an opener with this number the start of its link, if it begins one, and answers the number of
 // the next one.
-fn put_start(inline: &mut Inline, links: &[Option<Link>], number: usize) -> usize
+fn put_start(inline: &mut Inline, links: &Links, number: usize) -> usize
     requires { number + 1 < 2 ^ 64 }
     ensures inline { inline.new ≡ started links.now number inline.old }
     ensures next { result ≡ counted_in inline.old number }
@@ -254,7 +256,7 @@ fn put_start(inline: &mut Inline, links: &[Option<Link>], number: usize) -> usiz
     if !is_opener(inline) {
         return number;
     }
-    if let Some(Some(_)) = links.get(number) {
+    if links.get(number).is_some() {
         *inline = Inline::StartLink(number);
     }
     number + 1
@@ -273,8 +275,9 @@ fn is_opener(inline: &Inline) -> bool
 }
 
 // Puts in the delimiters of the runs of a text of this length and emphasis. Nothing depends on what is
-// in the spare memory.
+// in the spare memory, which is given back if the text is long, as that of the marks is.
 fn put_delimiters(
+    alloc: Global,
     inlines: &mut Vec<Inline>,
     spare: &mut Vec<Inline>,
     marks: &mut Vec<Mark>,
@@ -289,6 +292,8 @@ fn put_delimiters(
     spare.clear();
     push_spread(spare, inlines, marks)?;
     mem::swap(inlines, spare);
+    give_back(alloc, spare);
+    give_back(alloc, marks);
     Ok(())
 }
 
@@ -335,7 +340,7 @@ fn push_leaf(inlines: &mut Vec<Inline>, marks: &[Mark], piece: &Piece) -> Result
     Ok(())
 }
 
-// Adds what the delimiters from one place up to another are.
+// Adds what the delimiters from one offset up to another are.
 fn push_delimiters(
     inlines: &mut Vec<Inline>,
     marks: &[Mark],
@@ -348,31 +353,31 @@ fn push_delimiters(
         → AreMarks emphasis (length marks.now) marks.now
         → inlines.new.items ≡ inlines.old.items ++ delimiters_between emphasis from to) }
 {
-    for place in from..to {
-        push_delimiter(inlines, marks[place], place)?;
+    for offset in from..to {
+        push_delimiter(inlines, marks[offset], offset)?;
     }
     Ok(())
 }
 
 // Adds what the delimiter with this mark is.
-fn push_delimiter(inlines: &mut Vec<Inline>, mark: Mark, place: usize) -> Result<(), AllocError>
-    requires { place + 1 < 2 ^ 64 }
-    ensures { OnOk result (inlines.new.items ≡ inlines.old.items ++ delimiter_with mark place) }
+fn push_delimiter(inlines: &mut Vec<Inline>, mark: Mark, offset: usize) -> Result<(), AllocError>
+    requires { offset + 1 < 2 ^ 64 }
+    ensures { OnOk result (inlines.new.items ≡ inlines.old.items ++ delimiter_with mark offset) }
 {
     let inline = match mark {
-        Mark::OpensEmphasis => Inline::StartEmphasis(place, 1),
-        Mark::OpensStrong => Inline::StartEmphasis(place, 2),
-        Mark::ClosesEmphasis => Inline::EndEmphasis(place, 1),
-        Mark::ClosesStrong => Inline::EndEmphasis(place, 2),
-        Mark::OpensStrikethrough => Inline::StartStrikethrough(place, 1),
-        Mark::OpensStrikethroughOfTwo => Inline::StartStrikethrough(place, 2),
-        Mark::ClosesStrikethrough => Inline::EndStrikethrough(place, 1),
-        Mark::ClosesStrikethroughOfTwo => Inline::EndStrikethrough(place, 2),
+        Mark::OpensEmphasis => Inline::StartEmphasis(offset, 1),
+        Mark::OpensStrong => Inline::StartEmphasis(offset, 2),
+        Mark::ClosesEmphasis => Inline::EndEmphasis(offset, 1),
+        Mark::ClosesStrong => Inline::EndEmphasis(offset, 2),
+        Mark::OpensStrikethrough => Inline::StartStrikethrough(offset, 1),
+        Mark::OpensStrikethroughOfTwo => Inline::StartStrikethrough(offset, 2),
+        Mark::ClosesStrikethrough => Inline::EndStrikethrough(offset, 1),
+        Mark::ClosesStrikethroughOfTwo => Inline::EndStrikethrough(offset, 2),
         Mark::Second => return Ok(()),
         Mark::Nothing => Inline::Leaf(Piece {
             kind: PieceKind::Text,
-            start: place,
-            end: place + 1,
+            start: offset,
+            end: offset + 1,
         }),
     };
     inlines.push(inline)?;

@@ -16,6 +16,7 @@ pub mod line_breaks;
 pub mod link_tails;
 pub mod link_targets;
 pub mod links;
+mod long_texts;
 pub mod marks;
 mod piece_at;
 mod piece_scanner;

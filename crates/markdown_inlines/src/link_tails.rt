@@ -13,7 +13,7 @@ use markdown_scanners_tree::scanners::{
 };
 use std::ops::Range;
 
-/// Where the parts of a link's tail stand, by their places in the text that it begins.
+/// Where the parts of a link's tail stand, by their offsets in the text that it begins.
 #[derive(Debug, Drop, PartialEq)]
 pub struct LinkTail {
     /// The raw text of its destination, without angle brackets. It is empty where there is none.
@@ -102,40 +102,40 @@ fn scan_filled(bytes: &[u8], max_next: usize) -> Option<LinkTail>
     })
 }
 
-// How a tail ends whose destination ends at the place: the title, if it has one, and its length.
-fn scan_end(bytes: &[u8], place: usize) -> Option<(Option<Range<usize>>, usize)>
-    requires { place ≤ length bytes.now }
-    ensures found { SomeExactly (λ r. IsTailEnd bytes.now place r.0 r.1) result }
-    ensures within { IfSome result (λ r. (place < r.1) × (r.1 ≤ length bytes.now)) }
-    ensures title { IfSome result (λ r. IfSome r.0 (λ title. (place < title.start)
+// How a tail ends whose destination ends at the offset: the title, if it has one, and its length.
+fn scan_end(bytes: &[u8], offset: usize) -> Option<(Option<Range<usize>>, usize)>
+    requires { offset ≤ length bytes.now }
+    ensures found { SomeExactly (λ r. IsTailEnd bytes.now offset r.0 r.1) result }
+    ensures within { IfSome result (λ r. (offset < r.1) × (r.1 ≤ length bytes.now)) }
+    ensures title { IfSome result (λ r. IfSome r.0 (λ title. (offset < title.start)
         × (title.start ≤ title.end) × (title.end + 1 < r.1))) }
     ensures title_cut { IfSome result (λ r. IfSome r.0 (λ title. IsUtf8 bytes.now
-        → IsCharBoundary bytes.now place → IsCutAt bytes.now title)) }
-    ensures after { IfSome result (λ r. IsUtf8 bytes.now → IsCharBoundary bytes.now place
+        → IsCharBoundary bytes.now offset → IsCutAt bytes.now title)) }
+    ensures after { IfSome result (λ r. IsUtf8 bytes.now → IsCharBoundary bytes.now offset
         → IsCharBoundary bytes.now r.1) }
 {
-    match scan_closing(&bytes[place..]) {
-        Some(closing) => Some((None, place + closing)),
+    match scan_closing(&bytes[offset..]) {
+        Some(closing) => Some((None, offset + closing)),
         None => {
-            let (title, len) = scan_titled_end(bytes, place)?;
+            let (title, len) = scan_titled_end(bytes, offset)?;
             Some((Some(title), len))
         }
     }
 }
 
-// The title after the destination that ends at the place, and the length of the tail that it ends.
-fn scan_titled_end(bytes: &[u8], place: usize) -> Option<(Range<usize>, usize)>
-    requires { place ≤ length bytes.now }
-    ensures found { SomeExactly (λ r. IsTitledEnd bytes.now place r.0 r.1) result }
+// The title after the destination that ends at the offset, and the length of the tail that it ends.
+fn scan_titled_end(bytes: &[u8], offset: usize) -> Option<(Range<usize>, usize)>
+    requires { offset ≤ length bytes.now }
+    ensures found { SomeExactly (λ r. IsTitledEnd bytes.now offset r.0 r.1) result }
     ensures within { IfSome result (λ r. r.1 ≤ length bytes.now) }
-    ensures title { IfSome result (λ r. (place < r.0.start) × (r.0.start ≤ r.0.end)
+    ensures title { IfSome result (λ r. (offset < r.0.start) × (r.0.start ≤ r.0.end)
         × (r.0.end + 1 < r.1)) }
-    ensures title_cut { IfSome result (λ r. IsUtf8 bytes.now → IsCharBoundary bytes.now place
+    ensures title_cut { IfSome result (λ r. IsUtf8 bytes.now → IsCharBoundary bytes.now offset
         → IsCutAt bytes.now r.0) }
-    ensures after { IfSome result (λ r. IsUtf8 bytes.now → IsCharBoundary bytes.now place
+    ensures after { IfSome result (λ r. IsUtf8 bytes.now → IsCharBoundary bytes.now offset
         → IsCharBoundary bytes.now r.1) }
 {
-    let title = scan_separated_title(bytes, place)?;
+    let title = scan_separated_title(bytes, offset)?;
     let end = title.end + 1;
     let closing = scan_closing(&bytes[end..])?;
     Some((title, end + closing))

@@ -22,7 +22,7 @@ use std::ops::Range;
 // How deep parentheses in a destination may nest below the outermost.
 const MOST_NESTED: usize = 31;
 
-// Where a link leads whose text stands from a place up to the right bracket at another, and the place after
+// Where a link leads whose text stands from an offset up to the right bracket at another, and the offset after
 // the link; none where it is no link.
 pub(crate) fn scan_target<L: Labels>(
     alloc: Global,
@@ -50,30 +50,30 @@ pub(crate) fn scan_target<L: Labels>(
     }
 }
 
-// Where an inline link leads whose tail stands at a place, and the place after that.
-fn scan_inline_target(bytes: &[u8], place: usize) -> Option<(LinkTarget, usize)>
-    requires { place ≤ length bytes.now }
+// Where an inline link leads whose tail stands at an offset, and the offset after that.
+fn scan_inline_target(bytes: &[u8], offset: usize) -> Option<(LinkTarget, usize)>
+    requires { offset ≤ length bytes.now }
     ensures found { IfSome result (λ r. (tail : LinkTail)
-        × IsLinkTail 32 (drop place bytes.now) tail
-        × (r.0 ≡ inline_target place tail) × (r.1 ≡ place + tail.len)) }
-    ensures none { IfNone result (HasNoTail bytes.now place) }
-    ensures within { IfSome result (λ r. (place ≤ r.1) × (r.1 ≤ length bytes.now)) }
-    ensures boundary { IfSome result (λ r. IsUtf8 bytes.now → IsCharBoundary bytes.now place
+        × IsLinkTail 32 (drop offset bytes.now) tail
+        × (r.0 ≡ inline_target offset tail) × (r.1 ≡ offset + tail.len)) }
+    ensures none { IfNone result (HasNoTail bytes.now offset) }
+    ensures within { IfSome result (λ r. (offset ≤ r.1) × (r.1 ≤ length bytes.now)) }
+    ensures boundary { IfSome result (λ r. IsUtf8 bytes.now → IsCharBoundary bytes.now offset
         → IsCharBoundary bytes.now r.1) }
-    ensures source { IfSome result (λ r. IsUtf8 bytes.now → IsCharBoundary bytes.now place
+    ensures source { IfSome result (λ r. IsUtf8 bytes.now → IsCharBoundary bytes.now offset
         → IsTargetSource bytes.now r.0) }
 {
-    let tail = scan_link_tail(&bytes[place..], MOST_NESTED)?;
+    let tail = scan_link_tail(&bytes[offset..], MOST_NESTED)?;
     let title = match tail.title {
-        Some(title) => Some(place + title.start..place + title.end),
+        Some(title) => Some(offset + title.start..offset + title.end),
         None => None,
     };
-    let destination = place + tail.destination.start..place + tail.destination.end;
-    Some((LinkTarget::Inline(destination, title), place + tail.len))
+    let destination = offset + tail.destination.start..offset + tail.destination.end;
+    Some((LinkTarget::Inline(destination, title), offset + tail.len))
 }
 
-// Where a full reference link leads whose label stands from its left bracket at a place up to its right
-// bracket at another, and the place after that.
+// Where a full reference link leads whose label stands from its left bracket at an offset up to its right
+// bracket at another, and the offset after that.
 fn full_target<L: Labels>(
     labels: &L,
     start: usize,
@@ -91,7 +91,7 @@ fn full_target<L: Labels>(
     }
 }
 
-// Where a collapsed or a shortcut reference link leads, which no tail and no label follows, and the place
+// Where a collapsed or a shortcut reference link leads, which no tail and no label follows, and the offset
 // after it.
 fn scan_reference<L: Labels>(
     alloc: Global,
@@ -121,7 +121,7 @@ fn scan_reference<L: Labels>(
     }
 }
 
-// Whether what stands from a place up to the right bracket at another is a label that is defined.
+// Whether what stands from an offset up to the right bracket at another is a label that is defined.
 fn is_known<L: Labels>(
     alloc: Global,
     text: &str,
@@ -139,31 +139,31 @@ fn is_known<L: Labels>(
     }
 }
 
-// The label whose left bracket stands at a place: the place of its right bracket, and its text.
+// The label whose left bracket stands at an offset: the offset of its right bracket, and its text.
 fn scan_label_after<'t>(
     alloc: Global,
     text: &'t str,
-    place: usize,
+    offset: usize,
 ) -> Result<Option<(usize, CowStr<'t>)>, AllocError>
-    requires { IsCharBoundary text.now place }
+    requires { IsCharBoundary text.now offset }
     ensures found { IfOk result (λ found. IfSome found (λ r.
-        (occurs_at text.entry.now (codes "[") place ≡ true)
-        × IsLabelAt text.entry.now (place + 1) r.0 (cow_text r.1))) }
-    ensures none { IfOk result (λ found. IfNone found (HasNoLabelAfter text.entry.now place)) }
+        (occurs_at text.entry.now (codes "[") offset ≡ true)
+        × IsLabelAt text.entry.now (offset + 1) r.0 (cow_text r.1))) }
+    ensures none { IfOk result (λ found. IfNone found (HasNoLabelAfter text.entry.now offset)) }
     ensures within { IfOk result (λ found. IfSome found (λ r.
-        (place < r.0) × (r.0 < length text.entry.now))) }
+        (offset < r.0) × (r.0 < length text.entry.now))) }
     ensures boundary { IfOk result (λ found. IfSome found (λ r.
         IsCharBoundary text.entry.now (r.0 + 1))) }
 {
-    let (_, rest) = text.split_at(place);
+    let (_, rest) = text.split_at(offset);
     if !rest.as_bytes().starts_with(b"[") {
         return Ok(None);
     }
-    scan_label(alloc, text, place + 1)
+    scan_label(alloc, text, offset + 1)
 }
 
-/// The label that stands in a text from a place, before which its left bracket is, up to its right
-/// bracket: the place of that, and the label's text.
+/// The label that stands in a text from an offset, before which its left bracket is, up to its right
+/// bracket: the offset of that, and the label's text.
 ///
 /// The text is a part of the given one, unless its white space is not one space each.
 ///

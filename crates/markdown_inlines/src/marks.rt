@@ -112,13 +112,13 @@ fn closing_mark(emphasis: Emphasis) -> Mark
     }
 }
 
-// Puts a mark at a place, if it is within them.
-fn put(marks: &mut [Mark], place: usize, mark: Mark)
+// Puts a mark at an offset, if it is within them.
+fn put(marks: &mut [Mark], offset: usize, mark: Mark)
     ensures put { (k : ℕ) → k < length marks.old → get_or marks.new k Nothing
-        ≡ (if k == place then mark else get_or marks.old k Nothing) }
+        ≡ (if k == offset then mark else get_or marks.old k Nothing) }
     ensures length { length marks.new ≡ length marks.old }
 {
-    if place < marks.len() {
-        marks[place] = mark;
+    if offset < marks.len() {
+        marks[offset] = mark;
     }
 }

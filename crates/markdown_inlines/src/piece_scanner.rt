@@ -25,12 +25,12 @@ const NEITHER_PLAIN_NOR_SPACE: ByteSet = ByteSet {
     high: [1, 0, 2, 4, 0, 8, 16, 32, 0, 0, 0, 0, 0, 0, 0, 0],
 };
 
-// A text with its extensions, the place up to which it has been read, and the searches for the ends of code spans and HTML.
+// A text with its extensions, the offset up to which it has been read, and the searches for the ends of code spans and HTML.
 #[derive(Drop)]
 pub(crate) struct PieceScanner<'a> {
     text: &'a str,
     extensions: Extensions,
-    place: usize,
+    offset: usize,
     searches: Searches<'a>,
 }
 
@@ -40,12 +40,12 @@ impl<'a> Model for PieceScanner<'a> {
     ghost view = { λ s. record {
       text = s.text.now;
       asked = s.extensions;
-      place = s.place;
+      offset = s.offset;
       searched = s.searches;
     } };
 
-    ghost invariant = { λ s. (s.searches.html.text ≡ s.text.now) × (s.place ≤ length s.text.now)
-        × IsSearchedTo s.place s.searches };
+    ghost invariant = { λ s. (s.searches.html.text ≡ s.text.now) × (s.offset ≤ length s.text.now)
+        × IsSearchedTo s.offset s.searches };
 }
 
 impl<'a> PieceScanner<'a> {
@@ -58,24 +58,24 @@ impl<'a> PieceScanner<'a> {
         ensures start { result ≡ record {
           text = text.now;
           asked = extensions;
-          place = 0;
+          offset = 0;
           searched = unsearched text.now;
         } }
     {
         PieceScanner {
             text,
             extensions,
-            place: 0,
+            offset: 0,
             searches: Searches::within(buffer, text.as_bytes()),
         }
     }
 
-    // The place up to which the text has been read.
-    pub(crate) fn place(&self) -> usize
-        ensures place { result ≡ self.now.place }
+    // The offset up to which the text has been read.
+    pub(crate) fn offset(&self) -> usize
+        ensures offset { result ≡ self.now.offset }
         ensures within { result ≤ length self.now.text }
     {
-        self.place
+        self.offset
     }
 
     // How many bytes the searches for the ends of code spans and HTML passed over.
@@ -86,13 +86,13 @@ impl<'a> PieceScanner<'a> {
         self.searches.passed()
     }
 
-    // Reads up to a later place.
-    pub(crate) fn read_to(&mut self, place: usize)
-        requires later { self.old.place ≤ place }
-        requires within { place ≤ length self.old.text }
-        ensures { self.new ≡ record self.old { place = place } }
+    // Reads up to a later offset.
+    pub(crate) fn read_to(&mut self, offset: usize)
+        requires later { self.old.offset ≤ offset }
+        requires within { offset ≤ length self.old.text }
+        ensures { self.new ≡ record self.old { offset = offset } }
     {
-        self.place = place;
+        self.offset = offset;
     }
 
     // Reads up to the end of the next piece that isn't text, or to the end of the text where there
@@ -101,11 +101,11 @@ impl<'a> PieceScanner<'a> {
     pub(crate) fn next(&mut self, alloc: Global) -> Result<Option<Piece>, AllocError>
         // The next piece is answered, and the text is read up to its end.
         ensures found { IfOk result (λ found.
-            IfSome found (IsNext self.old.asked self.old.text self.old.place)) }
+            IfSome found (IsNext self.old.asked self.old.text self.old.offset)) }
         ensures read { IfOk result (λ found. IfSome found (λ piece.
             self.new ≡ record self.old {
-              place = piece.end;
-              searched = next_searched self.old.text self.old.place piece self.old.searched;
+              offset = piece.end;
+              searched = next_searched self.old.text self.old.offset piece self.old.searched;
             })) }
 
         // It is part of the text, which may be cut on both sides of it.
@@ -116,12 +116,12 @@ impl<'a> PieceScanner<'a> {
 
         // Else all that is left is text.
         ensures none { IfOk result (λ found. IfNone found
-            (HasOnlyText self.old.asked self.old.text self.old.place (length self.old.text))) }
+            (HasOnlyText self.old.asked self.old.text self.old.offset (length self.old.text))) }
         ensures all { IfOk result (λ found. IfNone found
             (self.new ≡ record self.old {
-              place = length self.old.text;
-              searched = text_searched self.old.text self.old.place
-                  (length self.old.text - self.old.place) self.old.searched;
+              offset = length self.old.text;
+              searched = text_searched self.old.text self.old.offset
+                  (length self.old.text - self.old.offset) self.old.searched;
             })) }
     {
         let piece = next_piece(
@@ -129,9 +129,9 @@ impl<'a> PieceScanner<'a> {
             self.text,
             self.extensions,
             &mut self.searches,
-            self.place,
+            self.offset,
         );
-        self.place = match &piece {
+        self.offset = match &piece {
             Ok(Some(piece)) => piece.end,
             _ => self.text.len(),
         };
@@ -139,7 +139,7 @@ impl<'a> PieceScanner<'a> {
     }
 }
 
-// The next piece from a place on that isn't text.
+// The next piece from an offset on that isn't text.
 #[inline(always)]
 fn next_piece(
     alloc: Global,
@@ -170,38 +170,38 @@ fn next_piece(
     ensures refused { OnErr result (IsSearchedTo (length text.now) searches.new) }
 {
     let bytes = text.as_bytes();
-    let mut place = from + plain_len(&bytes[from..]);
-    while place < bytes.len() {
-        let found = piece_at(alloc, text, extensions, searches, place)?;
+    let mut offset = from + plain_len(&bytes[from..]);
+    while offset < bytes.len() {
+        let found = piece_at(alloc, text, extensions, searches, offset)?;
         if let Some((kind, len)) = found {
             return Ok(Some(Piece {
                 kind,
-                start: place,
-                end: place + len,
+                start: offset,
+                end: offset + len,
             }));
         }
-        place = past_text(bytes, place);
+        offset = past_text(bytes, offset);
     }
     Ok(None)
 }
 
-// The next place at which a piece may begin, after one at which none does.
-fn past_text(bytes: &[u8], place: usize) -> usize
-    requires within { place < length bytes.now }
-    ensures later { place < result }
+// The next offset at which a piece may begin, after one at which none does.
+fn past_text(bytes: &[u8], offset: usize) -> usize
+    requires within { offset < length bytes.now }
+    ensures later { offset < result }
     ensures within { result ≤ length bytes.now }
-    ensures text { (asked : Extensions) (from : ℕ) → from ≤ place
-        → HasOnlyText asked bytes.now from place
-        → ((kind : PieceKind) (len : ℕ) → ¬ BeginsAt asked bytes.now from place kind len)
+    ensures text { (asked : Extensions) (from : ℕ) → from ≤ offset
+        → HasOnlyText asked bytes.now from offset
+        → ((kind : PieceKind) (len : ℕ) → ¬ BeginsAt asked bytes.now from offset kind len)
         → HasOnlyText asked bytes.now from result }
     ensures apart { get_or bytes.now result 0 ≡ backtick
         → get_or bytes.now (result - 1) 0 ≢ backtick }
     ensures unsearched { (before : Searched)
-        → text_searched bytes.now place (result - place) before
-        ≡ text_searched bytes.now place (run_length (drop place bytes.now)) before }
-    ensures past_run { place + run_length (drop place bytes.now) ≤ result }
+        → text_searched bytes.now offset (result - offset) before
+        ≡ text_searched bytes.now offset (run_length (drop offset bytes.now)) before }
+    ensures past_run { offset + run_length (drop offset bytes.now) ≤ result }
 {
-    let next = place + run_len(&bytes[place..]);
+    let next = offset + run_len(&bytes[offset..]);
     next + plain_len(&bytes[next..])
 }
 

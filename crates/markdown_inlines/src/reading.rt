@@ -15,7 +15,8 @@ ghost use Rattle.markdown_inlines.specs.Sources.{IsSource, IsTargetSource};
 use crate::delimiter_runs::DelimiterRun;
 use crate::emphasis::{Delimiters, Emphasis, push_emphasis};
 use crate::link_targets::scan_target;
-use crate::links::{Labels, Link, LinkTarget};
+use crate::links::{Labels, Link, LinkTarget, Links};
+use crate::long_texts::give_back;
 use crate::pieces::{Piece, PieceKind};
 use crate::wiki_links::scan_wiki_target;
 use std::alloc::{AllocError, Global};
@@ -42,21 +43,21 @@ pub(crate) struct Reader {
     run_openers: Vec<Delimiters>,
     last_link: usize,
     // Of each opener the link that it begins.
-    pub(crate) links: Vec<Option<Link>>,
+    pub(crate) links: Links,
     pub(crate) emphasis: Vec<Emphasis>,
 }
 
 impl Reader {
     // Nothing is read yet.
     pub(crate) fn new(alloc: Global) -> Reader
-        ensures { result.links.items ≡ [] }
+        ensures { result.links ≡ [] }
     {
         Reader {
             openers: Vec::new(alloc),
             runs: Vec::new(alloc),
             run_openers: Vec::new(alloc),
             last_link: 0,
-            links: Vec::new(alloc),
+            links: Links::new(alloc),
             emphasis: Vec::new(alloc),
         }
     }
@@ -103,12 +104,12 @@ impl Reader {
             runs: self.runs.len(),
             number: self.links.len(),
         };
-        self.links.push(None)?;
+        self.links.push_none()?;
         self.openers.push(opener)?;
         Ok(())
     }
 
-    // Reads a right bracket of the text, and answers the place after the link that it ends, if it ends
+    // Reads a right bracket of the text, and answers the offset after the link that it ends, if it ends
     // one.
     pub(crate) fn close<L: Labels>(
         &mut self,
@@ -121,14 +122,14 @@ impl Reader {
         requires source { IsSource text.now bracket }
         requires before { AreBefore (reading_of text.now self.old).openers bracket.start }
         requires kept { IsKept (reading_of text.now self.old) }
-        requires free { AreFree self.old.links.items (reading_of text.now self.old).openers }
-        requires new { ends_link self.old.links.items bracket.start ≡ false }
+        requires free { AreFree self.old.links (reading_of text.now self.old).openers }
+        requires new { ends_link self.old.links bracket.start ≡ false }
         ensures closed { IfOk result (λ found.
             IsClosed (L.known labels.now) (reading_of text.now self.old).openers
             (reading_of text.now self.old) bracket.start (unwrap_or found bracket.end)
             (reading_of text.now self.new)) }
         ensures ends { IfOk result (λ found.
-            ends_link self.new.links.items bracket.start ≡ is_some found) }
+            ends_link self.new.links bracket.start ≡ is_some found) }
         ensures within { IfOk result (λ found. IfSome found (λ end.
             (bracket.start < end) × (end ≤ length text.now))) }
         ensures boundary { IfOk result (λ found.
@@ -179,7 +180,7 @@ impl Reader {
     // Reads the end of a link. Its opener is no longer among the others.
     fn end_link(&mut self, alloc: Global, opener: Opener, link: Link) -> Result<(), AllocError>
         requires few { opener.runs ≤ length self.old.runs.items }
-        requires known { opener.number < length self.old.links.items }
+        requires known { opener.number < length self.old.links }
         requires delimiters { AreOfDelimiters self.old.runs.items }
         ensures { OnOk result ((text : List ℕ) → reading_of text self.new
             ≡ with_link link opener (reading_of text self.old).openers (reading_of text self.old)) }
@@ -192,22 +193,27 @@ impl Reader {
         } else {
             link.source.start
         };
-        self.links[opener.number] = Some(link);
+        self.links.put(opener.number, link)?;
         Ok(())
     }
 
-    // Adds the emphasis that is in no link text.
+    // Adds the emphasis that is in no link text. Of a long text the memory is given back that is for its
+    // reading alone.
     pub(crate) fn finish(&mut self, alloc: Global) -> Result<(), AllocError>
         requires { AreOfDelimiters self.old.runs.items }
-        ensures links { OnOk result (self.new.links.items ≡ self.old.links.items) }
+        ensures links { OnOk result (self.new.links ≡ self.old.links) }
         ensures emphasis { OnOk result (self.new.emphasis.items
             ≡ self.old.emphasis.items ++ emphasis_of self.old.runs.items) }
     {
-        push_emphasis(alloc, &mut self.run_openers, &self.runs, &mut self.emphasis)
+        push_emphasis(alloc, &mut self.run_openers, &self.runs, &mut self.emphasis)?;
+        give_back(alloc, &mut self.openers);
+        give_back(alloc, &mut self.runs);
+        give_back(alloc, &mut self.run_openers);
+        Ok(())
     }
 }
 
-// Where the link of an opener leads whose link text ends at a right bracket, and the place after the
+// Where the link of an opener leads whose link text ends at a right bracket, and the offset after the
 // link; none where it begins none.
 fn opener_target<L: Labels>(
     alloc: Global,

@@ -1,4 +1,4 @@
-//! The searches for the ends of code spans and of raw HTML, at rising places of one text. (CommonMark 0.31.2, sections 6.1
+//! The searches for the ends of code spans and of raw HTML, at rising offsets of one text. (CommonMark 0.31.2, sections 6.1
 //! and 6.6)
 ghost use Rattle.std.specs.Prelude.{ℕ, ◌≡◌, ◌+◌, ◌*◌, ◌<◌, ◌≤◌, ◌^◌, length, drop, slice_index, IfOk, OnErr, IfSome, IfNone, Some};
 ghost use Rattle.std.specs.List.{prefix_len};
@@ -59,70 +59,70 @@ impl<'a> Searches<'a> {
 
     // How many bytes the searches passed over.
     pub(crate) fn passed(&self) -> u128
-        requires searched { (place : ℕ) × (place ≤ length self.now.html.text)
-            × IsSearchedTo place self.now }
+        requires searched { (offset : ℕ) × (offset ≤ length self.now.html.text)
+            × IsSearchedTo offset self.now }
         ensures value { result ≡ bytes_passed self.now }
         ensures budget { result ≤ 10 * length self.now.html.text }
     {
         self.codes_passed + self.html.passed()
     }
 
-    // The code span that begins with the backtick at the place. Memory is asked for once, where there is
+    // The code span that begins with the backtick at the offset. Memory is asked for once, where there is
     // none for the first time.
-    pub(crate) fn code_span(&mut self, place: usize) -> Result<Option<CodeSpan>, AllocError>
-        requires within { place < length self.old.html.text }
-        requires opens { slice_index self.old.html.text place ≡ backtick }
-        requires searched { IsSearchedTo place self.old }
-        ensures found { IfOk result (SomeExactly (IsCodeSpan (drop place self.old.html.text))) }
+    pub(crate) fn code_span(&mut self, offset: usize) -> Result<Option<CodeSpan>, AllocError>
+        requires within { offset < length self.old.html.text }
+        requires opens { slice_index self.old.html.text offset ≡ backtick }
+        requires searched { IsSearchedTo offset self.old }
+        ensures found { IfOk result (SomeExactly (IsCodeSpan (drop offset self.old.html.text))) }
         ensures within { IfOk result (λ found.
-            IfSome found (λ span. place + span.len ≤ length self.old.html.text)) }
+            IfSome found (λ span. offset + span.len ≤ length self.old.html.text)) }
         ensures counts_span { IfOk result (λ found. IfSome found (λ span.
             self.new ≡ record self.old { codes = self.old.codes + span.len })) }
         ensures counts_string { IfOk result (λ found. IfNone found (self.new
-            ≡ backticks_searched self.old.html.text place
-            (prefix_len is_backtick (drop place self.old.html.text)) self.old)) }
+            ≡ backticks_searched self.old.html.text offset
+            (prefix_len is_backtick (drop offset self.old.html.text)) self.old)) }
         ensures refused { OnErr result (self.new ≡ self.old) }
     {
         if self.read_from.is_some() {
-            return Ok(self.known_span(place));
+            return Ok(self.known_span(offset));
         }
         let mut passed = 0;
-        let found = first_span(&self.text, self.lasts, place, &mut passed)?;
+        let found = first_span(&self.text, self.lasts, offset, &mut passed)?;
         self.codes_passed += passed;
         if found.is_some() {
             return Ok(found);
         }
-        self.read_from = Some(place);
-        Ok(self.known_span(place))
+        self.read_from = Some(offset);
+        Ok(self.known_span(offset))
     }
 
-    // The code span that begins at the place, where all after a place before it has been read.
-    fn known_span(&mut self, place: usize) -> Option<CodeSpan>
-        requires within { place ≤ length self.old.html.text }
+    // The code span that begins at the offset, where all after an offset before it has been read.
+    fn known_span(&mut self, offset: usize) -> Option<CodeSpan>
+        requires within { offset ≤ length self.old.html.text }
         requires fits { self.old.codes < 2 ^ 100 }
-        requires read { (from : ℕ) × (self.old.read ≡ Some from) × (from ≤ place) }
-        ensures found { SomeExactly (IsCodeSpan (drop place self.old.html.text)) result }
-        ensures within { IfSome result (λ span. place + span.len ≤ length self.old.html.text) }
+        requires read { (from : ℕ) × (self.old.read ≡ Some from) × (from ≤ offset) }
+        ensures found { SomeExactly (IsCodeSpan (drop offset self.old.html.text)) result }
+        ensures within { IfSome result (λ span. offset + span.len ≤ length self.old.html.text) }
         ensures counts_span { IfSome result (λ span.
             self.new ≡ record self.old { codes = self.old.codes + span.len }) }
         ensures counts_string { IfNone result (self.new ≡ record self.old {
-          codes = self.old.codes + prefix_len is_backtick (drop place self.old.html.text);
+          codes = self.old.codes + prefix_len is_backtick (drop offset self.old.html.text);
         }) }
     {
-        span_at(&self.text, self.lasts, place, &mut self.codes_passed)
+        span_at(&self.text, self.lasts, offset, &mut self.codes_passed)
     }
 
     // Where the comment, CDATA section, declaration or processing instruction ends whose `<` stands
-    // at the place.
-    pub(crate) fn html_end(&mut self, place: usize) -> Option<usize>
-        requires within { place < length self.old.html.text }
-        requires searched { IsSearchedTo place self.old }
-        ensures found { result ≡ find_at self.old.html.text (place + 2) }
-        ensures after { self.new ≡ html_searched self.old.html.text place self.old }
+    // at the offset.
+    pub(crate) fn html_end(&mut self, offset: usize) -> Option<usize>
+        requires within { offset < length self.old.html.text }
+        requires searched { IsSearchedTo offset self.old }
+        ensures found { result ≡ find_at self.old.html.text (offset + 2) }
+        ensures after { self.new ≡ html_searched self.old.html.text offset self.old }
         ensures text { self.new.html.text ≡ self.old.html.text }
-        ensures later { IfSome result (λ end. place + 2 ≤ end) }
+        ensures later { IfSome result (λ end. offset + 2 ≤ end) }
     {
-        match self.html.step(place + 2) {
+        match self.html.step(offset + 2) {
             Ok(found) => found,
             Err(_) => None,
         }

@@ -12,37 +12,37 @@ use crate::links::LinkTarget;
 use markdown_values::values::Extensions;
 use std::ops::Range;
 
-// How long an opener is from its left bracket on, which stands at the place.
-pub(crate) fn opener_len(bytes: &[u8], extensions: Extensions, place: usize) -> usize
-    requires { place < length bytes.now }
-    ensures ends { IsOpenerEnd extensions bytes.now place (place + result) }
-    ensures within { (0 < result) × (place + result ≤ length bytes.now) }
+// How long an opener is from its left bracket on, which stands at the offset.
+pub(crate) fn opener_len(bytes: &[u8], extensions: Extensions, offset: usize) -> usize
+    requires { offset < length bytes.now }
+    ensures ends { IsOpenerEnd extensions bytes.now offset (offset + result) }
+    ensures within { (0 < result) × (offset + result ≤ length bytes.now) }
 {
     if !extensions.wikilinks {
         return 1;
     }
-    match scan_head(bytes, place) {
-        Some((_, end)) => end - place,
+    match scan_head(bytes, offset) {
+        Some((_, end)) => end - offset,
         None => 1,
     }
 }
 
-// Where a wikilink leads whose left brackets stand at a place, and its link text from another to a
-// right bracket, and the place after the link.
+// Where a wikilink leads whose left brackets stand at an offset, and its link text from another to a
+// right bracket, and the offset after the link.
 pub(crate) fn scan_wiki_target(
     bytes: &[u8],
-    place: usize,
+    offset: usize,
     from: usize,
     close: usize,
 ) -> Option<(LinkTarget, usize)>
-    requires place { place ≤ length bytes.now }
+    requires offset { offset ≤ length bytes.now }
     requires close { close ≤ length bytes.now }
-    ensures found { SomeExactly (λ r. IsWikiTarget bytes.now place from close r.0 r.1) result }
+    ensures found { SomeExactly (λ r. IsWikiTarget bytes.now offset from close r.0 r.1) result }
     ensures within { IfSome result (λ r. (close < r.1) × (r.1 ≤ length bytes.now)) }
     ensures boundary { IfSome result (λ r. IsUtf8 bytes.now → IsCharBoundary bytes.now r.1) }
     ensures source { IfSome result (λ r. IsUtf8 bytes.now → IsTargetSource bytes.now r.0) }
 {
-    let (target, head_end) = scan_head(bytes, place)?;
+    let (target, head_end) = scan_head(bytes, offset)?;
     if head_end == from && bytes[close..].starts_with(b"]]") {
         Some((LinkTarget::Wiki(target), close + 2))
     } else {
@@ -50,16 +50,16 @@ pub(crate) fn scan_wiki_target(
     }
 }
 
-// The head of a wikilink at the place: where its target stands, and the place after the head.
-fn scan_head(bytes: &[u8], place: usize) -> Option<(Range<usize>, usize)>
-    requires { place ≤ length bytes.now }
-    ensures found { SomeExactly (λ r. IsHead bytes.now place r.0 r.1) result }
-    ensures within { IfSome result (λ r. (place < r.1) × (r.1 ≤ length bytes.now)) }
+// The head of a wikilink at the offset: where its target stands, and the offset after the head.
+fn scan_head(bytes: &[u8], offset: usize) -> Option<(Range<usize>, usize)>
+    requires { offset ≤ length bytes.now }
+    ensures found { SomeExactly (λ r. IsHead bytes.now offset r.0 r.1) result }
+    ensures within { IfSome result (λ r. (offset < r.1) × (r.1 ≤ length bytes.now)) }
 {
-    if !bytes[place..].starts_with(b"[[") {
+    if !bytes[offset..].starts_with(b"[[") {
         return None;
     }
-    let start = place + 2;
+    let start = offset + 2;
     let end = start + target_len(&bytes[start..]);
     if start == end {
         None

@@ -11,7 +11,7 @@ use Rattle.std.proofs.lemmas.List.Folds.{length-prefix_len}
 use Rattle.std.proofs.lemmas.Str.{IsCharBoundary-before_ascii, IsCharBoundary-after_ascii, IsCharBoundary-end}
 use Rattle.std.proofs.Math.Seq.{drop-cons, take-append_seam}
 use Rattle.markdown_scanners_tree.specs.Bytes.{begins_with, is_line_ending, line_head}
-use Rattle.markdown_scanners_tree.proofs.PrefixLemmas.{both_true, from_place, split_at}
+use Rattle.markdown_scanners_tree.proofs.PrefixLemmas.{both_true, from_offset, split_at}
 use Rattle.markdown_inlines.specs.CodeContent.{as_space, with_spaces, is_padded, without_padding}
 
 abbrev is_space : ℕ → Bool
@@ -98,7 +98,7 @@ head_ends (b ∷ bs) inside = elim (cases_Bool (b == 10)) [
   ]
 ]
 
--- the same bytes by their places
+-- the same bytes by their offsets
 pair_at : (bytes : List ℕ) → (get_or bytes 0 0 == 13 && get_or bytes 1 0 == 10) ≡ true
     → (2 ≤ length bytes) × (bytes ≡ 13 ∷ 10 ∷ drop 2 bytes)
 pair_at [] pair = cc
@@ -338,58 +338,58 @@ pub kept_between : (bytes : List ℕ) (start last : ℕ) → with_spaces bytes �
     → with_spaces (slice_range bytes start (length bytes - last)) ≡ without_padding (with_spaces bytes)
 kept_between bytes start last front back padded =
     let rest = drop start bytes in
-    let behind : with_spaces rest ≡ with_spaces (take (length rest - last) rest) ++ 32 ∷ [] =
-    subst (λ t. with_spaces t ≡ with_spaces (take (length t - last) t) ++ 32 ∷ []) (from_place bytes start) back in
+    let after : with_spaces rest ≡ with_spaces (take (length rest - last) rest) ++ 32 ∷ [] =
+    subst (λ t. with_spaces t ≡ with_spaces (take (length t - last) t) ++ 32 ∷ []) (from_offset bytes start) back in
     let size : length bytes - last - start ≡ length rest - last = omega (arith, length-drop start bytes) in
     ap (λ n. with_spaces (take n rest)) size
-    ∙ padding_left_out (with_spaces bytes) (with_spaces (take (length rest - last) rest)) (front ∙ ap (λ t. 32 ∷ t) behind) padded
+    ∙ padding_left_out (with_spaces bytes) (with_spaces (take (length rest - last) rest)) (front ∙ ap (λ t. 32 ∷ t) after) padded
 
 -- the length of a head that is found in the bytes of a text
-pub head_size : (bytes text head : List ℕ) (place : ℕ) → bytes ≡ text
-    → head ≡ line_head (take (length bytes - place) (drop place bytes)) → length head ≡ length (line_head (drop place text))
-head_size bytes text head place same is = ap length (is ∙ ap line_head (from_place bytes place ∙ ap (drop place) same))
+pub head_size : (bytes text head : List ℕ) (offset : ℕ) → bytes ≡ text
+    → head ≡ line_head (take (length bytes - offset) (drop offset bytes)) → length head ≡ length (line_head (drop offset text))
+head_size bytes text head offset same is = ap length (is ∙ ap line_head (from_offset bytes offset ∙ ap (drop offset) same))
 
 pub rest_of : (bytes text : List ℕ) (end : ℕ) → bytes ≡ text → take (length bytes - end) (drop end bytes) ≡ drop end text
-rest_of bytes text end same = from_place bytes end ∙ ap (drop end) same
+rest_of bytes text end same = from_offset bytes end ∙ ap (drop end) same
 
--- The line from a place on: where its head ends,
-module _ (text : List ℕ) (place head : ℕ) (within : place ≤ length text) (size : head ≡ length (line_head (drop place text))) where
-  byte_behind : place + head < length text → as_space (get_or text (place + head) 0) ≡ 32
-  byte_behind inside =
-      let rest = drop place text in
-      ap (λ k. as_space (get_or text (place + k) 0)) size ∙ sym (ap as_space (get_or-drop place text (length (line_head rest)) 0))
-      ∙ head_ends rest (omega (arith, inside, size, length-drop place text))
+-- The line from an offset on: where its head ends,
+module _ (text : List ℕ) (offset head : ℕ) (within : offset ≤ length text) (size : head ≡ length (line_head (drop offset text))) where
+  byte_after : offset + head < length text → as_space (get_or text (offset + head) 0) ≡ 32
+  byte_after inside =
+      let rest = drop offset text in
+      ap (λ k. as_space (get_or text (offset + k) 0)) size ∙ sym (ap as_space (get_or-drop offset text (length (line_head rest)) 0))
+      ∙ head_ends rest (omega (arith, inside, size, length-drop offset text))
 
-  pub head_within : place + head ≤ length text
+  pub head_within : offset + head ≤ length text
   head_within =
-      let rest = drop place text in
-      omega (arith, within, size, length-drop place text, length-take (prefix_len (λ b. not (is_line_ending b)) rest) rest)
+      let rest = drop offset text in
+      omega (arith, within, size, length-drop offset text, length-take (prefix_len (λ b. not (is_line_ending b)) rest) rest)
 
-  pub head_cut : IsCharBoundary text (place + head)
-  head_cut = elim (cases_lt (place + head) (length text)) [
-    | inl inside ↦ IsCharBoundary-before_ascii text (place + head) inside (space_low (get_or text (place + head) 0) (byte_behind inside))
+  pub head_cut : IsCharBoundary text (offset + head)
+  head_cut = elim (cases_lt (offset + head) (length text)) [
+    | inl inside ↦ IsCharBoundary-before_ascii text (offset + head) inside (space_low (get_or text (offset + head) 0) (byte_after inside))
     | inr past ↦ subst (IsCharBoundary text) (omega (arith, past, head_within)) (IsCharBoundary-end text)
   ]
 
   -- what follows it,
-  pub ending_there : (rest : List ℕ) → rest ≡ drop (place + head) text → 0 < length rest → as_space (get_or rest 0 0) ≡ 32
+  pub ending_there : (rest : List ℕ) → rest ≡ drop (offset + head) text → 0 < length rest → as_space (get_or rest 0 0) ≡ 32
   ending_there rest is some =
-      ap (λ t. as_space (get_or t 0 0)) is ∙ ap as_space (get_or-drop (place + head) text 0 0)
+      ap (λ t. as_space (get_or t 0 0)) is ∙ ap as_space (get_or-drop (offset + head) text 0 0)
       ∙ ap (λ k. as_space (get_or text k 0)) (omega arith)
-      ∙ byte_behind (omega (arith, some, ap length is, length-drop (place + head) text))
+      ∙ byte_after (omega (arith, some, ap length is, length-drop (offset + head) text))
 
   -- and what is appended of it.
-  pub line_pushed : (n : ℕ) (rest before middle after : List ℕ) → rest ≡ drop (place + head) text
-      → middle ≡ before ++ take (place + head - place) (drop place text)
+  pub line_pushed : (n : ℕ) (rest before middle after : List ℕ) → rest ≡ drop (offset + head) text
+      → middle ≡ before ++ take (offset + head - offset) (drop offset text)
       → after ++ with_spaces (drop n rest) ≡ middle ++ with_spaces rest
-      → after ++ with_spaces (drop (place + head + n) text) ≡ before ++ with_spaces (drop place text)
+      → after ++ with_spaces (drop (offset + head + n) text) ≡ before ++ with_spaces (drop offset text)
   line_pushed n rest before middle after is first second =
-      let line = drop place text in
-      let front : take (place + head - place) line ≡ line_head line =
+      let line = drop offset text in
+      let front : take (offset + head - offset) line ≡ line_head line =
       ap (λ k. take k line) (omega (arith, size)) ∙ ap (λ k. take k line) (length-prefix_len (λ b. not (is_line_ending b)) line) in
       let kept : line_head line ++ with_spaces rest ≡ with_spaces line =
-      ap (λ t. line_head line ++ with_spaces t) (is ∙ sym (drop-drop head place text) ∙ ap (λ k. drop k line) size) ∙ sym (head_kept line) in
-      ap (λ t. after ++ with_spaces t) (sym (drop-drop n (place + head) text) ∙ ap (drop n) (sym is))
+      ap (λ t. line_head line ++ with_spaces t) (is ∙ sym (drop-drop head offset text) ∙ ap (λ k. drop k line) size) ∙ sym (head_kept line) in
+      ap (λ t. after ++ with_spaces t) (sym (drop-drop n (offset + head) text) ∙ ap (drop n) (sym is))
       ∙ second ∙ ap (λ m. m ++ with_spaces rest) (first ∙ ap (λ t. before ++ t) front)
       ∙ append_assoc before (line_head line) (with_spaces rest)
       ∙ ap (λ t. before ++ t) kept

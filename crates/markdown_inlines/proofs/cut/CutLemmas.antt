@@ -13,28 +13,28 @@ use Rattle.markdown_inlines.specs.declared.pieces.Piece.{Piece}
 use Rattle.markdown_inlines.specs.declared.pieces.PieceKind.{PieceKind}
 use Rattle.markdown_inlines.specs.declared.pieces.PieceKind.TheVariants as K
 
--- What is read on from a place, with these pieces before it, is read from the beginning.
+-- What is read on from an offset, with these pieces before it, is read from the beginning.
 abbrev pub ReadsOn : Setting → List ℕ → ℕ → Reading → List Piece → Type 0
-ReadsOn setting text place reading pieces =
-    (later : List Piece) (last : Reading) → AreRead setting place reading later last
+ReadsOn setting text offset reading pieces =
+    (later : List Piece) (last : Reading) → AreRead setting offset reading later last
     → AreRead setting 0 (at_start text) (pieces ++ later) last
 
--- a piece that begins at a place begins there where the text before it has been read
-begins_here : (asked : Extensions) (text : List ℕ) (from place : ℕ) (kind : PieceKind) (len : ℕ) → BeginsAt asked text from place kind len
-    → BeginsAt asked text place place kind len
-begins_here asked text from place K.Text len is = is
-begins_here asked text from place K.Escape len is = is
-begins_here asked text from place K.HardBreak len is = is
-begins_here asked text from place K.SoftBreak len is = is
-begins_here asked text from place K.Reference len is = is
-begins_here asked text from place (K.Code backticks) len is = (λ before. absurd (omega (arith, before)), is.1)
-begins_here asked text from place K.Uri len is = is
-begins_here asked text from place K.Email len is = is
-begins_here asked text from place K.Html len is = is
-begins_here asked text from place (K.Delimiters run) len is = is
-begins_here asked text from place K.LinkOpener len is = is
-begins_here asked text from place K.ImageOpener len is = is
-begins_here asked text from place K.Closer len is = is
+-- a piece that begins at an offset begins there where the text before it has been read
+begins_here : (asked : Extensions) (text : List ℕ) (from offset : ℕ) (kind : PieceKind) (len : ℕ) → BeginsAt asked text from offset kind len
+    → BeginsAt asked text offset offset kind len
+begins_here asked text from offset K.Text len is = is
+begins_here asked text from offset K.Escape len is = is
+begins_here asked text from offset K.HardBreak len is = is
+begins_here asked text from offset K.SoftBreak len is = is
+begins_here asked text from offset K.Reference len is = is
+begins_here asked text from offset (K.Code backticks) len is = (λ before. absurd (omega (arith, before)), is.1)
+begins_here asked text from offset K.Uri len is = is
+begins_here asked text from offset K.Email len is = is
+begins_here asked text from offset K.Html len is = is
+begins_here asked text from offset (K.Delimiters run) len is = is
+begins_here asked text from offset K.LinkOpener len is = is
+begins_here asked text from offset K.ImageOpener len is = is
+begins_here asked text from offset K.Closer len is = is
 
 pub next_piece_at : (asked : Extensions) (text : List ℕ) (from : ℕ) (piece : Piece) → IsNext asked text from piece → IsPieceAt asked text piece
 next_piece_at asked text from piece is = record {
@@ -109,20 +109,20 @@ pub added : (pieces between later : List Piece) (piece : Piece) (all : List Piec
 added pieces between later piece all is =
     ap (λ (l : List Piece). l ++ later) is ∙ (append_assoc (pieces ++ between) (piece ∷ []) later ∙ append_assoc pieces between (piece ∷ later))
 
--- openers that begin at a place or before it begin at a later one or before it
-pub before_later : (openers : List Opener) (place later : ℕ) → place ≤ later → AreBefore openers place → AreBefore openers later
-before_later [] place later is before = tt
-before_later (opener ∷ outer) place later is before = (omega (arith, is, before.0), before_later outer place later is before.1)
+-- openers that begin at an offset or before it begin at a later one or before it
+pub before_later : (openers : List Opener) (offset later : ℕ) → offset ≤ later → AreBefore openers offset → AreBefore openers later
+before_later [] offset later is before = tt
+before_later (opener ∷ outer) offset later is before = (omega (arith, is, before.0), before_later outer offset later is before.1)
 
-closed_before : (known : Known) (openers : List Opener) (reading next : Reading) (close end place : ℕ)
-    → IsClosed known openers reading close end next → AreBefore openers place → AreBefore reading.openers place
-    → AreBefore next.openers place
-closed_before known [] reading next close end place is before all =
-    subst (λ (r : Reading). AreBefore r.openers place) (sym is.1) all
-closed_before known (opener ∷ outer) reading next close end place (inl link) before all =
-    subst (λ (r : Reading). AreBefore r.openers place) (sym link.next_is) before.1
-closed_before known (opener ∷ outer) reading next close end place (inr none) before all =
-    subst (λ (r : Reading). AreBefore r.openers place) (sym none.next_is) before.1
+closed_before : (known : Known) (openers : List Opener) (reading next : Reading) (close end offset : ℕ)
+    → IsClosed known openers reading close end next → AreBefore openers offset → AreBefore reading.openers offset
+    → AreBefore next.openers offset
+closed_before known [] reading next close end offset is before all =
+    subst (λ (r : Reading). AreBefore r.openers offset) (sym is.1) all
+closed_before known (opener ∷ outer) reading next close end offset (inl link) before all =
+    subst (λ (r : Reading). AreBefore r.openers offset) (sym link.next_is) before.1
+closed_before known (opener ∷ outer) reading next close end offset (inr none) before all =
+    subst (λ (r : Reading). AreBefore r.openers offset) (sym none.next_is) before.1
 
 module _ (setting : Setting) (reading next : Reading) (piece : Piece) (some : piece.start ≤ piece.end)
     (before : AreBefore reading.openers piece.start) where

@@ -48,45 +48,45 @@ added_in (x ∷ links) (suc n) a is = added_in links n a is
 abbrev IsOutside : List (Option Link) → Opener → Type 0
 IsOutside links opener = (n : ℕ) (a : Link) → IsLinkOf links n a → (opener.start < a.source.start) ⊎ (a.source.end ≤ opener.start)
 
--- so it is for these, which begin before a place, the innermost last
+-- so it is for these, which begin before an offset, the innermost last
 abbrev AreOutside : List (Option Link) → ℕ → List Opener → Type 0
-AreOutside links place [] = ⊤
-AreOutside links place (opener ∷ outer) = (opener.start < place) × IsOutside links opener × AreOutside links opener.start outer
+AreOutside links offset [] = ⊤
+AreOutside links offset (opener ∷ outer) = (opener.start < offset) × IsOutside links opener × AreOutside links opener.start outer
 
-record Holds (reading : Reading) (place : ℕ) : Type 0 where
+record Holds (reading : Reading) (offset : ℕ) : Type 0 where
   apart : HoldNoLinks reading.links
-  begun : (n : ℕ) (a : Link) → IsLinkOf reading.links n a → (a.source.start ≤ reading.last_link) × (a.source.end ≤ place)
-  still_open : AreOutside reading.links place reading.openers
+  begun : (n : ℕ) (a : Link) → IsLinkOf reading.links n a → (a.source.start ≤ reading.last_link) × (a.source.end ≤ offset)
+  still_open : AreOutside reading.links offset reading.openers
 
-further : (links : List (Option Link)) (openers : List Opener) (place place' : ℕ) → place ≤ place' → AreOutside links place openers
-    → AreOutside links place' openers
-further links [] place place' later are = tt
-further links (opener ∷ outer) place place' later are = (omega (arith, later, are.0), are.1, are.2)
+further : (links : List (Option Link)) (openers : List Opener) (offset offset' : ℕ) → offset ≤ offset' → AreOutside links offset openers
+    → AreOutside links offset' openers
+further links [] offset offset' later are = tt
+further links (opener ∷ outer) offset offset' later are = (omega (arith, later, are.0), are.1, are.2)
 
 -- with links that begin after the openers
-with_later : (links links' : List (Option Link)) (openers : List Opener) (place : ℕ)
-    → ((n : ℕ) (a : Link) → IsLinkOf links' n a → (place ≤ a.source.start) ⊎ IsLinkOf links n a) → AreOutside links place openers
-    → AreOutside links' place openers
-with_later links links' [] place each are = tt
-with_later links links' (opener ∷ outer) place each are =
+with_later : (links links' : List (Option Link)) (openers : List Opener) (offset : ℕ)
+    → ((n : ℕ) (a : Link) → IsLinkOf links' n a → (offset ≤ a.source.start) ⊎ IsLinkOf links n a) → AreOutside links offset openers
+    → AreOutside links' offset openers
+with_later links links' [] offset each are = tt
+with_later links links' (opener ∷ outer) offset each are =
     (are.0, λ n a is. this n a (each n a is), with_later links links' outer opener.start (λ n a is. before n a (each n a is)) are.2)
   where
-    this : (n : ℕ) (a : Link) → (place ≤ a.source.start) ⊎ IsLinkOf links n a → (opener.start < a.source.start) ⊎ (a.source.end ≤ opener.start)
+    this : (n : ℕ) (a : Link) → (offset ≤ a.source.start) ⊎ IsLinkOf links n a → (opener.start < a.source.start) ⊎ (a.source.end ≤ opener.start)
     this n a (inl later) = inl (omega (arith, later, are.0))
     this n a (inr old) = are.1 n a old
 
-    before : (n : ℕ) (a : Link) → (place ≤ a.source.start) ⊎ IsLinkOf links n a → (opener.start ≤ a.source.start) ⊎ IsLinkOf links n a
+    before : (n : ℕ) (a : Link) → (offset ≤ a.source.start) ⊎ IsLinkOf links n a → (opener.start ≤ a.source.start) ⊎ IsLinkOf links n a
     before n a (inl later) = inl (omega (arith, later, are.0))
     before n a (inr old) = inr old
 
 -- ---- pieces that are no right bracket
 
 module _ (piece : Piece) (reading : Reading) (holds : Holds reading piece.start) where
-  moved : (place : ℕ) → piece.start ≤ place → Holds reading place
-  moved place later = record {
+  moved : (offset : ℕ) → piece.start ≤ offset → Holds reading offset
+  moved offset later = record {
     apart = holds.apart;
     begun = λ n a is. let was = holds.begun n a is in (was.0, omega (arith, was.1, later));
-    still_open = further reading.links reading.openers piece.start place later holds.still_open;
+    still_open = further reading.links reading.openers piece.start offset later holds.still_open;
   }
 
   opened : (is_image : Bool) → piece.start < piece.end → Holds (with_opener is_image piece reading) piece.end
@@ -253,10 +253,10 @@ read_holds setting reading piece next (inr (inr is)) holds =
     subst (λ r. Holds r piece.end) (sym is.next_is)
     (with_piece_holds piece reading holds setting.asked reading.text piece.kind is.at.len is.at.begins is.at.end_is)
 
-all_hold : (setting : Setting) (place : ℕ) (reading : Reading) (pieces : List Piece) (last : Reading) → AreRead setting place reading pieces last
-    → Holds reading place → HoldNoLinks last.links
-all_hold setting place reading [] last is holds = subst (λ (r : Reading). HoldNoLinks r.links) (sym is.1) holds.apart
-all_hold setting place reading (piece ∷ later) last is holds =
+all_hold : (setting : Setting) (offset : ℕ) (reading : Reading) (pieces : List Piece) (last : Reading) → AreRead setting offset reading pieces last
+    → Holds reading offset → HoldNoLinks last.links
+all_hold setting offset reading [] last is holds = subst (λ (r : Reading). HoldNoLinks r.links) (sym is.1) holds.apart
+all_hold setting offset reading (piece ∷ later) last is holds =
     let view = read_as setting reading piece is.1 piece.kind refl is.2 in
     let after = read_holds setting reading piece is.1 view (subst (Holds reading) (sym is.0) holds) in
     all_hold setting piece.end is.1 later last is.3 after

@@ -25,11 +25,11 @@ use Rattle.markdown_inlines.proofs.pieces.Openings.{begins_class, byte_class, no
 use Rattle.markdown_inlines.proofs.wiki_links.WikiLinkLemmas.{head_ends, one_head}
 
 -- a piece begins within the text
-pub begins_within : (asked : Extensions) (text : List ℕ) (from place : ℕ) (kind : PieceKind) (len : ℕ)
-    → BeginsAt asked text from place kind len → place < length text
-begins_within asked text from place kind len begins = elim (cases_lt place (length text)) [
+pub begins_within : (asked : Extensions) (text : List ℕ) (from offset : ℕ) (kind : PieceKind) (len : ℕ)
+    → BeginsAt asked text from offset kind len → offset < length text
+begins_within asked text from offset kind len begins = elim (cases_lt offset (length text)) [
   | inl inside ↦ inside
-  | inr past ↦ absurd (no_kind kind (sym (ap byte_class (get_or-eq_default text 0 past)) ∙ begins_class asked text from place kind len begins))
+  | inr past ↦ absurd (no_kind kind (sym (ap byte_class (get_or-eq_default text 0 past)) ∙ begins_class asked text from offset kind len begins))
 ]
 
 -- ---- what a right bracket does
@@ -237,20 +237,20 @@ one_as setting reading p p' n n' start (inr (inr is)) (inr (inr is')) = both_oth
 -- ---- the whole text
 
 -- at the end of the text no piece is read
-none_at_end : (setting : Setting) (place : ℕ) (reading : Reading) (piece : Piece) (later : List Piece) (last : Reading)
-    → place ≡ length reading.text → ¬ AreRead setting place reading (piece ∷ later) last
-none_at_end setting place reading piece later last end is =
+none_at_end : (setting : Setting) (offset : ℕ) (reading : Reading) (piece : Piece) (later : List Piece) (last : Reading)
+    → offset ≡ length reading.text → ¬ AreRead setting offset reading (piece ∷ later) last
+none_at_end setting offset reading piece later last end is =
     let within = as_within setting reading piece is.1 (read_as setting reading piece is.1 piece.kind refl is.2) in
     omega (arith, end, is.0, within)
 
-one_read : (setting : Setting) (place : ℕ) (reading : Reading) (pieces pieces' : List Piece) (last last' : Reading)
-    → AreRead setting place reading pieces last → AreRead setting place reading pieces' last' → (pieces ≡ pieces') × (last ≡ last')
-one_read setting place reading [] [] last last' is is' = (refl, is.1 ∙ sym is'.1)
-one_read setting place reading [] (piece ∷ later) last last' is is' =
-    absurd (none_at_end setting place reading piece later last' is.0 is')
-one_read setting place reading (piece ∷ later) [] last last' is is' =
-    absurd (none_at_end setting place reading piece later last is'.0 is)
-one_read setting place reading (piece ∷ later) (piece' ∷ later') last last' is is' =
+one_read : (setting : Setting) (offset : ℕ) (reading : Reading) (pieces pieces' : List Piece) (last last' : Reading)
+    → AreRead setting offset reading pieces last → AreRead setting offset reading pieces' last' → (pieces ≡ pieces') × (last ≡ last')
+one_read setting offset reading [] [] last last' is is' = (refl, is.1 ∙ sym is'.1)
+one_read setting offset reading [] (piece ∷ later) last last' is is' =
+    absurd (none_at_end setting offset reading piece later last' is.0 is')
+one_read setting offset reading (piece ∷ later) [] last last' is is' =
+    absurd (none_at_end setting offset reading piece later last is'.0 is)
+one_read setting offset reading (piece ∷ later) (piece' ∷ later') last last' is is' =
     let view = read_as setting reading piece is.1 piece.kind refl is.2 in
     let view' = read_as setting reading piece' is'.1 piece'.kind refl is'.2 in
     let same = one_as setting reading piece piece' is.1 is'.1 (is.0 ∙ sym is'.0) view view' in

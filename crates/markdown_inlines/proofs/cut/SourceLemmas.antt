@@ -11,7 +11,7 @@ use Rattle.markdown_inlines.specs.Sources.{AreSources, IsSource, source_of}
 use Rattle.markdown_inlines.specs.declared.pieces.Piece.{Piece}
 use Rattle.markdown_inlines.specs.declared.pieces.PieceKind.TheVariants as K
 
--- what stands before a place, and from there up to a later one
+-- what stands before an offset, and from there up to a later one
 joined_to : (text : List ℕ) (from to : ℕ) → from ≤ to → take from text ++ slice_range text from to ≡ take to text
 joined_to text from to later =
     let to_is : from + (to - from) ≡ to = omega (arith, later) in

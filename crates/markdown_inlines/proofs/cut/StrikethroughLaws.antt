@@ -50,12 +50,12 @@ record Holds (reading : Reading) : Type 0 where
   emphasis : HasNoStrikethrough reading.emphasis
 
 module _ (setting : Setting) (none : ¬ IsTrue setting.asked.strikethrough) where
-  plain_run : (text : List ℕ) (place : ℕ) (run : DelimiterRun) → IsRunOf setting.asked text place run → ¬ (run.byte ≡ tilde)
-  plain_run text place run (inl is) there = elim is.delimiter [
+  plain_run : (text : List ℕ) (offset : ℕ) (run : DelimiterRun) → IsRunOf setting.asked text offset run → ¬ (run.byte ≡ tilde)
+  plain_run text offset run (inl is) there = elim is.delimiter [
     | inl star ↦ omega (arith, star, there)
     | inr line ↦ omega (arith, line, there)
   ]
-  plain_run text place run (inr is) there = none is.0
+  plain_run text offset run (inr is) there = none is.0
 
   with_piece_holds : (piece : Piece) (reading : Reading) → Holds reading → (kind : PieceKind) (len : ℕ)
       → BeginsAt setting.asked reading.text piece.start piece.start kind len → Holds (with_piece kind piece reading)
@@ -97,10 +97,10 @@ module _ (setting : Setting) (none : ¬ IsTrue setting.asked.strikethrough) wher
   read_holds reading piece next (inr (inr is)) holds =
       subst Holds (sym is.next_is) (with_piece_holds piece reading holds piece.kind is.at.len is.at.begins)
 
-  all_hold : (place : ℕ) (reading : Reading) (pieces : List Piece) (last : Reading) → AreRead setting place reading pieces last → Holds reading
+  all_hold : (offset : ℕ) (reading : Reading) (pieces : List Piece) (last : Reading) → AreRead setting offset reading pieces last → Holds reading
       → Holds last
-  all_hold place reading [] last is holds = subst Holds (sym is.1) holds
-  all_hold place reading (piece ∷ later) last is holds =
+  all_hold offset reading [] last is holds = subst Holds (sym is.1) holds
+  all_hold offset reading (piece ∷ later) last is holds =
       all_hold piece.end is.1 later last is.3
       (read_holds reading piece is.1 (read_as setting reading piece is.1 piece.kind refl is.2) holds)
 

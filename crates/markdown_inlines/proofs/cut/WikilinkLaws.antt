@@ -96,10 +96,10 @@ module _ (setting : Setting) (none : ¬ IsTrue setting.asked.wikilinks) where
   read_holds reading piece next (inr (inr is)) holds =
       subst Holds (sym is.next_is) (with_piece_holds piece reading holds piece.kind is.at.len is.at.begins is.at.end_is)
 
-  all_hold : (place : ℕ) (reading : Reading) (pieces : List Piece) (last : Reading) → AreRead setting place reading pieces last → Holds reading
+  all_hold : (offset : ℕ) (reading : Reading) (pieces : List Piece) (last : Reading) → AreRead setting offset reading pieces last → Holds reading
       → Holds last
-  all_hold place reading [] last is holds = subst Holds (sym is.1) holds
-  all_hold place reading (piece ∷ later) last is holds =
+  all_hold offset reading [] last is holds = subst Holds (sym is.1) holds
+  all_hold offset reading (piece ∷ later) last is holds =
       all_hold piece.end is.1 later last is.3
       (read_holds reading piece is.1 (read_as setting reading piece is.1 piece.kind refl is.2) holds)
 

@@ -70,98 +70,98 @@ last_from_steps text None front T utf8 steps = none_is text steps.0
 last_from_steps text (Some c) front T utf8 steps = last_is text front c utf8 steps
 
 -- a run of one of the bytes there
-module _ (text : List ℕ) (place count byte : ℕ) (counted : count ≡ prefix_len (λ b. b == byte) (drop place text)) where
-  pub some_counted : place < length text → get_or text place 0 ≡ byte → 0 < count
-  some_counted inside here = omega (arith, counted, prefix_len-drop_yes (λ b. b == byte) text place 0 inside (eq-eqb (get_or text place 0) byte here))
+module _ (text : List ℕ) (offset count byte : ℕ) (counted : count ≡ prefix_len (λ b. b == byte) (drop offset text)) where
+  pub some_counted : offset < length text → get_or text offset 0 ≡ byte → 0 < count
+  some_counted inside here = omega (arith, counted, prefix_len-drop_yes (λ b. b == byte) text offset 0 inside (eq-eqb (get_or text offset 0) byte here))
 
-  pub run_ends : 0 < count → byte < 128 → place + count ≤ length text → IsUtf8 text → IsCharBoundary text (place + count)
+  pub run_ends : 0 < count → byte < 128 → offset + count ≤ length text → IsUtf8 text → IsCharBoundary text (offset + count)
   run_ends some ascii fits utf8 =
-      let last : get_or text (place + (count - 1)) 0 ≡ byte =
-      sym (get_or-drop place text (count - 1) 0)
-      ∙ eqb-true (get_or (drop place text) (count - 1) 0) byte
-      (prefix_len_passes (λ b. b == byte) (drop place text) (count - 1) 0 (omega (arith, counted, some))) in
+      let last : get_or text (offset + (count - 1)) 0 ≡ byte =
+      sym (get_or-drop offset text (count - 1) 0)
+      ∙ eqb-true (get_or (drop offset text) (count - 1) 0) byte
+      (prefix_len_passes (λ b. b == byte) (drop offset text) (count - 1) 0 (omega (arith, counted, some))) in
       subst (IsCharBoundary text) (omega (arith, some))
-      (IsCharBoundary-after_ascii text (place + (count - 1)) utf8 (omega (arith, some, fits)) (omega (arith, last, ascii)))
+      (IsCharBoundary-after_ascii text (offset + (count - 1)) utf8 (omega (arith, some, fits)) (omega (arith, last, ascii)))
 
-pub counted_from : (bytes text : List ℕ) (place byte count : ℕ) → bytes ≡ text
-    → count ≡ prefix_len (λ b. b == byte) (take (length bytes - place) (drop place bytes))
-    → count ≡ prefix_len (λ b. b == byte) (drop place text)
-counted_from bytes text place byte count same counted = counted ∙ ap (prefix_len (λ b. b == byte)) (take_rest bytes place ∙ ap (drop place) same)
+pub counted_from : (bytes text : List ℕ) (offset byte count : ℕ) → bytes ≡ text
+    → count ≡ prefix_len (λ b. b == byte) (take (length bytes - offset) (drop offset bytes))
+    → count ≡ prefix_len (λ b. b == byte) (drop offset text)
+counted_from bytes text offset byte count same counted = counted ∙ ap (prefix_len (λ b. b == byte)) (take_rest bytes offset ∙ ap (drop offset) same)
 
--- after a run of a byte that stands at a place a text may be cut
-module _ (bytes text : List ℕ) (place byte count : ℕ) (same : bytes ≡ text) (inside : place < length text) (there : get_or text place 0 ≡ byte)
-    (counted : count ≡ prefix_len (λ b. b == byte) (take (length bytes - place) (drop place bytes))) where
+-- after a run of a byte that stands at an offset a text may be cut
+module _ (bytes text : List ℕ) (offset byte count : ℕ) (same : bytes ≡ text) (inside : offset < length text) (there : get_or text offset 0 ≡ byte)
+    (counted : count ≡ prefix_len (λ b. b == byte) (take (length bytes - offset) (drop offset bytes))) where
   pub some_there : 0 < count
-  some_there = some_counted text place count byte (counted_from bytes text place byte count same counted) inside there
+  some_there = some_counted text offset count byte (counted_from bytes text offset byte count same counted) inside there
 
-  pub ends_there : byte < 128 → IsUtf8 text → count ≤ length (take (length bytes - place) (drop place bytes)) → IsCharBoundary text (place + count)
+  pub ends_there : byte < 128 → IsUtf8 text → count ≤ length (take (length bytes - offset) (drop offset bytes)) → IsCharBoundary text (offset + count)
   ends_there ascii utf8 fits =
-      run_ends text place count byte (counted_from bytes text place byte count same counted) some_there ascii
-      (omega (arith, fits, inside, ap length (take_rest bytes place ∙ ap (drop place) same), length-drop place text)) utf8
+      run_ends text offset count byte (counted_from bytes text offset byte count same counted) some_there ascii
+      (omega (arith, fits, inside, ap length (take_rest bytes offset ∙ ap (drop offset) same), length-drop offset text)) utf8
 
 same_run : {byte byte' count count' : ℕ} {opens opens' closes closes' : Bool} → byte ≡ byte' → count ≡ count' → opens ≡ opens' → closes ≡ closes'
     → ◌≡◌ {A = DelimiterRun} (record { byte = byte; count = count; can_open = opens; can_close = closes })
     (record { byte = byte'; count = count'; can_open = opens'; can_close = closes' })
 same_run b n o c = λ i. record { byte = b i; count = n i; can_open = o i; can_close = c i }
 
--- the byte of a run stands at its place
-byte_there : (text : List ℕ) (place byte count : ℕ) → 0 < count → count ≡ prefix_len (λ b. b == byte) (drop place text)
-    → byte ≡ get_or text place 0
-byte_there text place byte count some longest =
+-- the byte of a run stands at its offset
+byte_there : (text : List ℕ) (offset byte count : ℕ) → 0 < count → count ≡ prefix_len (λ b. b == byte) (drop offset text)
+    → byte ≡ get_or text offset 0
+byte_there text offset byte count some longest =
     subst (λ k. byte ≡ get_or text k 0) (omega arith)
-    (sym (eqb-true (get_or (drop place text) 0 0) byte
-    (prefix_len_passes (λ b. b == byte) (drop place text) 0 0 (omega (arith, longest, some))))
-    ∙ get_or-drop place text 0 0)
+    (sym (eqb-true (get_or (drop offset text) 0 0) byte
+    (prefix_len_passes (λ b. b == byte) (drop offset text) 0 0 (omega (arith, longest, some))))
+    ∙ get_or-drop offset text 0 0)
 
-pub byte_at : (text : List ℕ) (place : ℕ) (run : DelimiterRun) → IsDelimiterRun text place run → run.byte ≡ get_or text place 0
-byte_at text place run is = byte_there text place run.byte run.count is.some is.longest
+pub byte_at : (text : List ℕ) (offset : ℕ) (run : DelimiterRun) → IsDelimiterRun text offset run → run.byte ≡ get_or text offset 0
+byte_at text offset run is = byte_there text offset run.byte run.count is.some is.longest
 
-pub tilde_at : (text : List ℕ) (place : ℕ) (run : DelimiterRun) → IsTildeRun text place run → run.byte ≡ get_or text place 0
-tilde_at text place run is = byte_there text place run.byte run.count is.some is.longest
+pub tilde_at : (text : List ℕ) (offset : ℕ) (run : DelimiterRun) → IsTildeRun text offset run → run.byte ≡ get_or text offset 0
+tilde_at text offset run is = byte_there text offset run.byte run.count is.some is.longest
 
--- one run begins at a place
-pub one_delimiter_run : (text : List ℕ) (place : ℕ) (a b : DelimiterRun) → IsDelimiterRun text place a → IsDelimiterRun text place b → a ≡ b
-one_delimiter_run text place a b is_a is_b =
-    let byte : a.byte ≡ b.byte = byte_at text place a is_a ∙ sym (byte_at text place b is_b) in
-    let count : a.count ≡ b.count = is_a.longest ∙ ap (λ c. prefix_len (λ x. x == c) (drop place text)) byte ∙ sym is_b.longest in
+-- one run begins at an offset
+pub one_delimiter_run : (text : List ℕ) (offset : ℕ) (a b : DelimiterRun) → IsDelimiterRun text offset a → IsDelimiterRun text offset b → a ≡ b
+one_delimiter_run text offset a b is_a is_b =
+    let byte : a.byte ≡ b.byte = byte_at text offset a is_a ∙ sym (byte_at text offset b is_b) in
+    let count : a.count ≡ b.count = is_a.longest ∙ ap (λ c. prefix_len (λ x. x == c) (drop offset text)) byte ∙ sym is_b.longest in
     same_run byte count
-    (is_a.opens ∙ ap (λ c. can_open c (char_before text place) (char_after text (place + a.count))) byte
-    ∙ ap (λ n. can_open b.byte (char_before text place) (char_after text (place + n))) count ∙ sym is_b.opens)
-    (is_a.closes ∙ ap (λ c. can_close c (char_before text place) (char_after text (place + a.count))) byte
-    ∙ ap (λ n. can_close b.byte (char_before text place) (char_after text (place + n))) count ∙ sym is_b.closes)
+    (is_a.opens ∙ ap (λ c. can_open c (char_before text offset) (char_after text (offset + a.count))) byte
+    ∙ ap (λ n. can_open b.byte (char_before text offset) (char_after text (offset + n))) count ∙ sym is_b.opens)
+    (is_a.closes ∙ ap (λ c. can_close c (char_before text offset) (char_after text (offset + a.count))) byte
+    ∙ ap (λ n. can_close b.byte (char_before text offset) (char_after text (offset + n))) count ∙ sym is_b.closes)
 
-one_tilde_run : (text : List ℕ) (place : ℕ) (a b : DelimiterRun) → IsTildeRun text place a → IsTildeRun text place b → a ≡ b
-one_tilde_run text place a b is_a is_b =
+one_tilde_run : (text : List ℕ) (offset : ℕ) (a b : DelimiterRun) → IsTildeRun text offset a → IsTildeRun text offset b → a ≡ b
+one_tilde_run text offset a b is_a is_b =
     let byte : a.byte ≡ b.byte = is_a.delimiter ∙ sym is_b.delimiter in
-    let count : a.count ≡ b.count = is_a.longest ∙ ap (λ c. prefix_len (λ x. x == c) (drop place text)) byte ∙ sym is_b.longest in
+    let count : a.count ≡ b.count = is_a.longest ∙ ap (λ c. prefix_len (λ x. x == c) (drop offset text)) byte ∙ sym is_b.longest in
     same_run byte count
-    (is_a.opens ∙ ap (λ n. is_left_flanking (char_before text place) (char_after text (place + n))) count ∙ sym is_b.opens)
-    (is_a.closes ∙ ap (λ n. is_right_flanking (char_before text place) (char_after text (place + n))) count ∙ sym is_b.closes)
+    (is_a.opens ∙ ap (λ n. is_left_flanking (char_before text offset) (char_after text (offset + n))) count ∙ sym is_b.opens)
+    (is_a.closes ∙ ap (λ n. is_right_flanking (char_before text offset) (char_after text (offset + n))) count ∙ sym is_b.closes)
 
 -- where one of the two delimiters stands no run of tildes does
-pub no_tilde_run : (text : List ℕ) (place : ℕ) (run : DelimiterRun) → (get_or text place 0 ≡ asterisk) ⊎ (get_or text place 0 ≡ underscore)
-    → ¬ IsTildeRun text place run
-no_tilde_run text place run (inl there) is = omega (arith, there, tilde_at text place run is, is.delimiter)
-no_tilde_run text place run (inr there) is = omega (arith, there, tilde_at text place run is, is.delimiter)
+pub no_tilde_run : (text : List ℕ) (offset : ℕ) (run : DelimiterRun) → (get_or text offset 0 ≡ asterisk) ⊎ (get_or text offset 0 ≡ underscore)
+    → ¬ IsTildeRun text offset run
+no_tilde_run text offset run (inl there) is = omega (arith, there, tilde_at text offset run is, is.delimiter)
+no_tilde_run text offset run (inr there) is = omega (arith, there, tilde_at text offset run is, is.delimiter)
 
-delimiter_there : (text : List ℕ) (place : ℕ) (run : DelimiterRun) → IsDelimiterRun text place run
-    → (get_or text place 0 ≡ asterisk) ⊎ (get_or text place 0 ≡ underscore)
-delimiter_there text place run is = elim is.delimiter [
-  | inl star ↦ inl (sym (byte_at text place run is) ∙ star)
-  | inr line ↦ inr (sym (byte_at text place run is) ∙ line)
+delimiter_there : (text : List ℕ) (offset : ℕ) (run : DelimiterRun) → IsDelimiterRun text offset run
+    → (get_or text offset 0 ≡ asterisk) ⊎ (get_or text offset 0 ≡ underscore)
+delimiter_there text offset run is = elim is.delimiter [
+  | inl star ↦ inl (sym (byte_at text offset run is) ∙ star)
+  | inr line ↦ inr (sym (byte_at text offset run is) ∙ line)
 ]
 
 -- where a tilde stands no other run does
-pub no_other_run : (text : List ℕ) (place : ℕ) (run : DelimiterRun) → get_or text place 0 ≡ tilde → ¬ IsDelimiterRun text place run
-no_other_run text place run there is = elim (delimiter_there text place run is) [
+pub no_other_run : (text : List ℕ) (offset : ℕ) (run : DelimiterRun) → get_or text offset 0 ≡ tilde → ¬ IsDelimiterRun text offset run
+no_other_run text offset run there is = elim (delimiter_there text offset run is) [
   | inl star ↦ omega (arith, there, star)
   | inr line ↦ omega (arith, there, line)
 ]
 
--- whatever is asked for, one run begins at a place
-pub one_run_of : (asked : Extensions) (text : List ℕ) (place : ℕ) (a b : DelimiterRun) → IsRunOf asked text place a → IsRunOf asked text place b
+-- whatever is asked for, one run begins at an offset
+pub one_run_of : (asked : Extensions) (text : List ℕ) (offset : ℕ) (a b : DelimiterRun) → IsRunOf asked text offset a → IsRunOf asked text offset b
     → a ≡ b
-one_run_of asked text place a b (inl is_a) (inl is_b) = one_delimiter_run text place a b is_a is_b
-one_run_of asked text place a b (inl is_a) (inr is_b) = absurd (no_tilde_run text place b (delimiter_there text place a is_a) is_b.1)
-one_run_of asked text place a b (inr is_a) (inl is_b) = absurd (no_tilde_run text place a (delimiter_there text place b is_b) is_a.1)
-one_run_of asked text place a b (inr is_a) (inr is_b) = one_tilde_run text place a b is_a.1 is_b.1
+one_run_of asked text offset a b (inl is_a) (inl is_b) = one_delimiter_run text offset a b is_a is_b
+one_run_of asked text offset a b (inl is_a) (inr is_b) = absurd (no_tilde_run text offset b (delimiter_there text offset a is_a) is_b.1)
+one_run_of asked text offset a b (inr is_a) (inl is_b) = absurd (no_tilde_run text offset a (delimiter_there text offset b is_b) is_a.1)
+one_run_of asked text offset a b (inr is_a) (inr is_b) = one_tilde_run text offset a b is_a.1 is_b.1

@@ -52,17 +52,17 @@ address_in_parts first local domain rest all is =
     let start = first ∷ local in
     let end = greater_than_sign ∷ rest in
     let text = start ++ at_sign ∷ (domain ++ end) in
-    let behind : drop (length start + 1) text ≡ domain ++ end = sym (drop-drop 1 (length start) text)
+    let after : drop (length start + 1) text ≡ domain ++ end = sym (drop-drop 1 (length start) text)
     ∙ ap (drop 1) (drop_at start (at_sign ∷ (domain ++ end)) (length start) refl) in
     record {
       local_is = sym (prefix_len-parts is_local_byte start (at_sign ∷ (domain ++ end)) all refl);
-      domain_is = rw behind (sym (prefix_len-parts is_domain_byte domain end (domain_bytes domain is) refl));
+      domain_is = rw after (sym (prefix_len-parts is_domain_byte domain end (domain_bytes domain is) refl));
       some = omega arith;
       inside = omega (arith, length-append start (at_sign ∷ (domain ++ end)), length-append domain end);
       at = get_or_at start at_sign (domain ++ end) 0 (length start) refl;
-      closed = sym (get_or-drop (length start + 1) text (length domain) 0) ∙ ap (λ t. get_or t (length domain) 0) behind
+      closed = sym (get_or-drop (length start + 1) text (length domain) 0) ∙ ap (λ t. get_or t (length domain) 0) after
           ∙ get_or_at domain greater_than_sign rest 0 (length domain) refl;
-      is_domain = rw (behind, take_at domain end (length domain) refl) is;
+      is_domain = rw (after, take_at domain end (length domain) refl) is;
     }
 
 address_from : (local domain rest text address : List ℕ) → text ≡ address ++ greater_than_sign ∷ rest → address ≡ local ++ at_sign ∷ domain
@@ -80,7 +80,7 @@ address_from (first ∷ others) domain rest text address parts spelled some all 
       sym (take_at address (greater_than_sign ∷ rest) (length local + 1 + length domain) size) ∙ ap (take (length local + 1 + length domain)) (sym parts),
     )
 
--- an address at the front has its places there
+-- an address at the front has its offsets there
 pub address_at : (text address : List ℕ) → IsEmailAutolink text address → (m : ℕ) × (n : ℕ) × IsAddressAt text m n × (address ≡ take (m + 1 + n) text)
 address_at text address e = address_from e.local e.domain e.rest text address e.parts e.spelled e.not_empty e.local_bytes e.is_domain
 

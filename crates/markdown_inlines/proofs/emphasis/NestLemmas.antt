@@ -81,11 +81,11 @@ module _ (a b : ℕ) where
 
   made_outside : (o closer : Delimiters) → Beside o → b ≤ closer.start → IsOutside a b (made_of o closer)
   made_outside o closer (fit, inl before) after = inl (omega (arith, fit, before), after)
-  made_outside o closer (fit, inr behind) after = inr (omega (arith, fit, behind))
+  made_outside o closer (fit, inr following) after = inr (omega (arith, fit, following))
 
   beside_less : (o : Delimiters) (count : ℕ) → count ≤ left o → Beside o → Beside (record o { end = o.end - count })
   beside_less o count few (fit, inl before) = (omega (arith, few, fit), inl (omega (arith, before)))
-  beside_less o count few (fit, inr behind) = (omega (arith, few, fit), inr behind)
+  beside_less o count few (fit, inr following) = (omega (arith, few, fit), inr following)
 
   ended_outside : (n : ℕ) (closer : Delimiters) (openers : List Delimiters) → closer.start ≤ closer.end → b ≤ closer.start
       → AllByRecursion Beside openers
@@ -119,7 +119,7 @@ module _ (a b : ℕ) where
       (emphasis_outside (opened (ended run openers).closer (ended run openers).openers) later
       (opened_all Beside (ended run openers).closer (ended run openers).openers (λ _ _. (now.2, inr now.3)) now.1) each.1)
 
--- the openers stand one after another, the innermost first, and end at a place at most
+-- the openers stand one after another, the innermost first, and end at an offset at most
 abbrev Stacked : ℕ → List Delimiters → Type 0
 Stacked most [] = ⊤
 Stacked most (o ∷ outer) = (o.start ≤ o.end) × (o.end ≤ most) × Stacked o.start outer
@@ -167,7 +167,7 @@ abbrev whole : Ended → List Delimiters → List Emphasis
 whole e later = e.emphasis ++ emphasis_from (opened e.closer e.openers) later
 
 abbrev Begins : ℕ → Delimiters → Type 0
-Begins place run = (run.start ≤ run.end) × (place ≤ run.start)
+Begins offset run = (run.start ≤ run.end) × (offset ≤ run.start)
 
 outside_whole : (a b n : ℕ) (closer : Delimiters) (openers later : List Delimiters) → closer.start ≤ closer.end → b ≤ closer.start
     → AllByRecursion (Beside a b) openers → AllByRecursion (Begins b) later → AllByRecursion (IsOutside a b) (whole (ended_by n closer openers) later)
@@ -202,15 +202,15 @@ nested_step (suc n) closer openers later fit stacked each rest =
               (stacked_more (r.0.end - count) (closer.start + count) (openers_left r.0 count r.1) (omega (arith, one.1)) less) each rest,
         )
 
-in_order : (place : ℕ) (runs : List Delimiters) → AllByRecursion (λ other. place ≤ other.start) runs → AreInOrder runs → AllByRecursion (Begins place) runs
-in_order place [] all order = tt
-in_order place (run ∷ later) all order = ((order.0, all.0), in_order place later all.1 order.2)
+in_order : (offset : ℕ) (runs : List Delimiters) → AllByRecursion (λ other. offset ≤ other.start) runs → AreInOrder runs → AllByRecursion (Begins offset) runs
+in_order offset [] all order = tt
+in_order offset (run ∷ later) all order = ((order.0, all.0), in_order offset later all.1 order.2)
 
-nested_from : (runs openers : List Delimiters) (place : ℕ) → Stacked place openers → AllByRecursion (λ run. place ≤ run.start) runs → AreInOrder runs
+nested_from : (runs openers : List Delimiters) (offset : ℕ) → Stacked offset openers → AllByRecursion (λ run. offset ≤ run.start) runs → AreInOrder runs
     → AreNested (emphasis_from openers runs)
-nested_from [] openers place stacked all order = tt
-nested_from (run ∷ later) openers place stacked all order =
-    nested_step (if run.run.can_close then left run else 0) run openers later order.0 (stacked_more place run.start openers all.0 stacked)
+nested_from [] openers offset stacked all order = tt
+nested_from (run ∷ later) openers offset stacked all order =
+    nested_step (if run.run.can_close then left run else 0) run openers later order.0 (stacked_more offset run.start openers all.0 stacked)
     (in_order run.end later order.1 order.2)
     (λ c os fit ends below. nested_from later (opened c os) run.end (subst (λ n. Stacked n (opened c os)) ends (stacked_opened c os fit below))
     order.1 order.2)

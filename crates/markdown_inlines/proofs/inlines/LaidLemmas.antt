@@ -36,25 +36,25 @@ dropped_all (y ∷ ys) x is = dropped_all ys x is
 -- ---- openers
 
 module _ (all : List (ℕ × Piece)) where
-  -- An opener stands before a place. So many runs at most stand before it; the others, and the spans, stand before it or after it.
-  record IsOpenerBefore (IsOne : Span → Type 0) (runs : List Delimiters) (place count : ℕ) (opener : Opener) : Type 0 where
+  -- An opener stands before an offset. So many runs at most stand before it; the others, and the spans, stand before it or after it.
+  record IsOpenerBefore (IsOne : Span → Type 0) (runs : List Delimiters) (offset count : ℕ) (opener : Opener) : Type 0 where
     has : HasOpener all opener.number opener.is_image opener.start opener.text
     some : opener.start < opener.text
-    before : opener.text ≤ place
+    before : opener.text ≤ offset
     few : opener.runs ≤ count
     spans : (s : Span) → IsOne s → (opener.text ≤ start s) ⊎ (end s ≤ opener.start)
     first : (d : Delimiters) → IsIn d (take opener.runs runs) → d.end ≤ opener.start
     rest : (d : Delimiters) → IsIn d (drop opener.runs runs) → opener.text ≤ d.start
 
   abbrev AreOpeners : (Span → Type 0) → List Delimiters → ℕ → ℕ → List Opener → Type 0
-  AreOpeners IsOne runs place count [] = ⊤
-  AreOpeners IsOne runs place count (opener ∷ outer) =
-      IsOpenerBefore IsOne runs place count opener × AreOpeners IsOne runs opener.start opener.runs outer
+  AreOpeners IsOne runs offset count [] = ⊤
+  AreOpeners IsOne runs offset count (opener ∷ outer) =
+      IsOpenerBefore IsOne runs offset count opener × AreOpeners IsOne runs opener.start opener.runs outer
 
-  openers_later : (IsOne : Span → Type 0) (runs : List Delimiters) (place place' count count' : ℕ) (openers : List Opener)
-      → place ≤ place' → count ≤ count' → AreOpeners IsOne runs place count openers → AreOpeners IsOne runs place' count' openers
-  openers_later IsOne runs place place' count count' [] later more are = tt
-  openers_later IsOne runs place place' count count' (opener ∷ outer) later more (is, are) = (
+  openers_later : (IsOne : Span → Type 0) (runs : List Delimiters) (offset offset' count count' : ℕ) (openers : List Opener)
+      → offset ≤ offset' → count ≤ count' → AreOpeners IsOne runs offset count openers → AreOpeners IsOne runs offset' count' openers
+  openers_later IsOne runs offset offset' count count' [] later more are = tt
+  openers_later IsOne runs offset offset' count count' (opener ∷ outer) later more (is, are) = (
     record {
       has = is.has;
       some = is.some;
@@ -68,13 +68,13 @@ module _ (all : List (ℕ × Piece)) where
   )
 
   -- with spans and runs that begin after the openers
-  openers_with : (IsOne IsOne' : Span → Type 0) (runs runs' : List Delimiters) (place count : ℕ) (openers : List Opener)
-      → ((s : Span) → IsOne' s → (place ≤ start s) ⊎ IsOne s)
+  openers_with : (IsOne IsOne' : Span → Type 0) (runs runs' : List Delimiters) (offset count : ℕ) (openers : List Opener)
+      → ((s : Span) → IsOne' s → (offset ≤ start s) ⊎ IsOne s)
       → ((n : ℕ) (d : Delimiters) → n ≤ count → IsIn d (take n runs') → IsIn d (take n runs))
-      → ((n : ℕ) (d : Delimiters) → n ≤ count → IsIn d (drop n runs') → (place ≤ d.start) ⊎ IsIn d (drop n runs))
-      → AreOpeners IsOne runs place count openers → AreOpeners IsOne' runs' place count openers
-  openers_with IsOne IsOne' runs runs' place count [] each first rest are = tt
-  openers_with IsOne IsOne' runs runs' place count (opener ∷ outer) each first rest (is, are) = (
+      → ((n : ℕ) (d : Delimiters) → n ≤ count → IsIn d (drop n runs') → (offset ≤ d.start) ⊎ IsIn d (drop n runs))
+      → AreOpeners IsOne runs offset count openers → AreOpeners IsOne' runs' offset count openers
+  openers_with IsOne IsOne' runs runs' offset count [] each first rest are = tt
+  openers_with IsOne IsOne' runs runs' offset count (opener ∷ outer) each first rest (is, are) = (
     record {
       has = is.has;
       some = is.some;
@@ -96,37 +96,37 @@ module _ (all : List (ℕ × Piece)) where
         (λ n d few inside. earlier d.start (IsIn d (drop n runs)) (rest n d (omega (arith, few, is.few)) inside)) are,
   )
     where
-      earlier : (at : ℕ) (Old : Type 0) → (place ≤ at) ⊎ Old → (opener.start ≤ at) ⊎ Old
+      earlier : (at : ℕ) (Old : Type 0) → (offset ≤ at) ⊎ Old → (opener.start ≤ at) ⊎ Old
       earlier at Old (inl later) = inl (omega (arith, later, is.before, is.some))
       earlier at Old (inr old) = inr old
 
   -- ---- what holds while a text is read
 
-  record IsKept (reading : Reading) (place number : ℕ) : Type 0 where
+  record IsKept (reading : Reading) (offset number : ℕ) : Type 0 where
     numbers : length reading.links ≡ number
-    settled : AreSettled all place reading.links reading.emphasis
+    past_first_line : AreSettled all offset reading.links reading.emphasis
     order : AreInOrder reading.runs
-    runs : (d : Delimiters) → IsIn d reading.runs → IsRunBefore all place d
+    runs : (d : Delimiters) → IsIn d reading.runs → IsRunBefore all offset d
     beside : (d : Delimiters) → IsIn d reading.runs → (s : Span) → IsSpan reading.links reading.emphasis s → Beside d s
-    openers : AreOpeners (IsSpan reading.links reading.emphasis) reading.runs place (length reading.runs) reading.openers
+    openers : AreOpeners (IsSpan reading.links reading.emphasis) reading.runs offset (length reading.runs) reading.openers
 
   -- ---- pieces that are no right bracket
 
   module _ (piece : Piece) (reading : Reading) (number : ℕ) (is_in : IsIn (number, piece) all) (kept : IsKept reading piece.start number) where
-    moved : (place : ℕ) → piece.start ≤ place → IsKept reading place number
-    moved place later = record {
+    moved : (offset : ℕ) → piece.start ≤ offset → IsKept reading offset number
+    moved offset later = record {
       numbers = kept.numbers;
-      settled = all_later all piece.start place reading.links reading.emphasis later kept.settled;
+      past_first_line = all_later all piece.start offset reading.links reading.emphasis later kept.past_first_line;
       order = kept.order;
-      runs = λ d is. run_later all piece.start place d later (kept.runs d is);
+      runs = λ d is. run_later all piece.start offset d later (kept.runs d is);
       beside = kept.beside;
-      openers = openers_later (IsSpan reading.links reading.emphasis) reading.runs piece.start place _ _ reading.openers later (omega arith) kept.openers;
+      openers = openers_later (IsSpan reading.links reading.emphasis) reading.runs piece.start offset _ _ reading.openers later (omega arith) kept.openers;
     }
 
     run_kept : (run : DelimiterRun) → piece.kind ≡ K.Delimiters run → piece.start ≤ piece.end → IsKept (with_run run piece reading) piece.end number
     run_kept run kind later = record {
       numbers = kept.numbers;
-      settled = (moved piece.end later).settled;
+      past_first_line = (moved piece.end later).past_first_line;
       order = order_added reading.runs added kept.order (λ d is. (kept.runs d is).before) later;
       runs = λ d is. runs d (in_both d reading.runs (added ∷ []) is);
       beside = λ d is s one. beside d (in_both d reading.runs (added ∷ []) is) s one;
@@ -154,7 +154,7 @@ module _ (all : List (ℕ × Piece)) where
         beside : (d : Delimiters) → IsIn d reading.runs ⊎ IsIn d (added ∷ []) → (s : Span) → IsSpan reading.links reading.emphasis s → Beside d s
         beside d (inl old) s is = kept.beside d old s is
         beside d (inr (inl same)) s is =
-            inr (omega (arith, (kept.settled.each s is).before, ap (λ (o : Delimiters). o.start) same))
+            inr (omega (arith, (kept.past_first_line.each s is).before, ap (λ (o : Delimiters). o.start) same))
         beside d (inr (inr none)) s is = absurd none
 
         rest : (n : ℕ) (d : Delimiters) → n ≤ length reading.runs → IsIn d (drop n (reading.runs ++ added ∷ []))
@@ -168,9 +168,9 @@ module _ (all : List (ℕ × Piece)) where
         → IsKept (with_opener is_image piece reading) piece.end (number + 1)
     opener_kept is_image kind some = record {
       numbers = length-append reading.links (None ∷ []) ∙ ap (λ n. n + 1) kept.numbers;
-      settled = record {
-        fit = λ s t is is'. here.settled.fit s t (old s is) (old t is');
-        each = λ s is. here.settled.each s (old s is);
+      past_first_line = record {
+        fit = λ s t is is'. here.past_first_line.fit s t (old s is) (old t is');
+        each = λ s is. here.past_first_line.each s (old s is);
       };
       order = kept.order;
       runs = here.runs;
@@ -182,7 +182,7 @@ module _ (all : List (ℕ × Piece)) where
           some = some;
           before = omega arith;
           few = omega arith;
-          spans = λ s is. inr (kept.settled.each s (old s is)).before;
+          spans = λ s is. inr (kept.past_first_line.each s (old s is)).before;
           first = λ d inside. (kept.runs d (in_taken (length reading.runs) reading.runs d inside)).before;
           rest = λ d inside. absurd (dropped_all reading.runs d inside);
         },
@@ -225,7 +225,7 @@ module _ (all : List (ℕ × Piece)) where
     none_kept : (end : ℕ) → close ≤ end → IsKept (record reading { openers = outer }) end number
     none_kept end later = record {
       numbers = kept.numbers;
-      settled = all_later all close end reading.links reading.emphasis later kept.settled;
+      past_first_line = all_later all close end reading.links reading.emphasis later kept.past_first_line;
       order = kept.order;
       runs = λ d is. run_later all close end d later (kept.runs d is);
       beside = kept.beside;
@@ -252,15 +252,15 @@ module _ (all : List (ℕ × Piece)) where
 
       with_inner : AreSettled all close reading.links emphasis'
       with_inner =
-          with_emphasis all close reading.links reading.emphasis inner kept.settled inner_order inner_runs inner_beside
+          with_emphasis all close reading.links reading.emphasis inner kept.past_first_line inner_order inner_runs inner_beside
 
       -- each is old, or begins after the opener
       old_or_inner : (s : Span) → IsSpan reading.links emphasis' s → IsSpan reading.links reading.emphasis s ⊎ (opener.text ≤ start s)
-      old_or_inner s is = elim (old_or_new all close reading.links reading.emphasis inner kept.settled inner_order inner_runs inner_beside s is) [
+      old_or_inner s is = elim (old_or_new all close reading.links reading.emphasis inner kept.past_first_line inner_order inner_runs inner_beside s is) [
         | inl old ↦ inl old
         | inr new ↦ inr (omega (
           arith,
-          new_from all close reading.links reading.emphasis inner kept.settled inner_order inner_runs inner_beside opener.text are.0.rest new.0 new.2,
+          new_from all close reading.links reading.emphasis inner kept.past_first_line inner_order inner_runs inner_beside opener.text are.0.rest new.0 new.2,
           ap start new.1,
         ))
       ]
@@ -313,7 +313,7 @@ module _ (all : List (ℕ × Piece)) where
       link_kept =
           let after = link_ends_after reading.text known opener close link.target link.source.end is_link.target in record {
             numbers = length-set reading.links opener.number (Some link) ∙ kept.numbers;
-            settled = ended_settled;
+            past_first_line = ended_settled;
             order = order_taken opener.runs reading.runs kept.order;
             runs = λ d is. run_later all close link.source.end d (omega (arith, after)) (kept.runs d (in_taken opener.runs reading.runs d is));
             beside = beside;
@@ -377,13 +377,13 @@ module _ (all : List (ℕ × Piece)) where
         (with_piece_kept piece reading number is_in kept setting.asked reading.text piece.kind is.at.len refl is.at.begins is.at.end_is),
   )
 
-  all_kept : (setting : Setting) (place : ℕ) (reading : Reading) (pieces : List Piece) (last : Reading) (number : ℕ)
-      → AreRead setting place reading pieces last → ((x : ℕ × Piece) → IsIn x (numbered number pieces) → IsIn x all) → IsKept reading place number
-      → Follow place pieces (length last.text) × (number' : ℕ) × IsKept last (length last.text) number'
-  all_kept setting place reading [] last number is are_in kept =
-      let same : place ≡ length last.text = is.0 ∙ ap (λ (r : Reading). length r.text) (sym is.1) in
-      (same, number, subst (λ n. IsKept last n number) same (subst (λ r. IsKept r place number) (sym is.1) kept))
-  all_kept setting place reading (piece ∷ later) last number is are_in kept =
+  all_kept : (setting : Setting) (offset : ℕ) (reading : Reading) (pieces : List Piece) (last : Reading) (number : ℕ)
+      → AreRead setting offset reading pieces last → ((x : ℕ × Piece) → IsIn x (numbered number pieces) → IsIn x all) → IsKept reading offset number
+      → Follow offset pieces (length last.text) × (number' : ℕ) × IsKept last (length last.text) number'
+  all_kept setting offset reading [] last number is are_in kept =
+      let same : offset ≡ length last.text = is.0 ∙ ap (λ (r : Reading). length r.text) (sym is.1) in
+      (same, number, subst (λ n. IsKept last n number) same (subst (λ r. IsKept r offset number) (sym is.1) kept))
+  all_kept setting offset reading (piece ∷ later) last number is are_in kept =
       let view = read_as setting reading piece is.1 piece.kind refl is.2 in
       let after = read_kept setting reading piece is.1 number view (are_in (number, piece) (inl refl))
       (subst (λ n. IsKept reading n number) (sym is.0) kept) in
@@ -419,17 +419,17 @@ read_text setting reading piece next (inr (inl is)) = closed_text setting.known 
 read_text setting reading piece next (inr (inr is)) =
     ap (λ (r : Reading). r.text) is.next_is ∙ with_piece_text piece.kind piece reading
 
-all_text : (setting : Setting) (place : ℕ) (reading : Reading) (pieces : List Piece) (last : Reading) → AreRead setting place reading pieces last
+all_text : (setting : Setting) (offset : ℕ) (reading : Reading) (pieces : List Piece) (last : Reading) → AreRead setting offset reading pieces last
     → last.text ≡ reading.text
-all_text setting place reading [] last is = ap (λ (r : Reading). r.text) is.1
-all_text setting place reading (piece ∷ later) last is =
+all_text setting offset reading [] last is = ap (λ (r : Reading). r.text) is.1
+all_text setting offset reading (piece ∷ later) last is =
     all_text setting piece.end is.1 later last is.3
     ∙ read_text setting reading piece is.1 (read_as setting reading piece is.1 piece.kind refl is.2)
 
 start_kept : (text : List ℕ) (all : List (ℕ × Piece)) → IsKept all (at_start text) 0 0
 start_kept text all = record {
   numbers = refl;
-  settled = record { fit = λ s t is is'. absurd (none s is); each = λ s is. absurd (none s is) };
+  past_first_line = record { fit = λ s t is is'. absurd (none s is); each = λ s is. absurd (none s is) };
   order = tt;
   runs = λ d is. absurd is;
   beside = λ d is s one. absurd is;
@@ -447,13 +447,13 @@ cut_is_laid text setting pieces links emphasis is =
     let all = numbered 0 pieces in
     let last = is.last in
     let kept = all_kept all setting 0 (at_start text) pieces last 0 is.read (λ x inside. inside) (start_kept text all) in
-    let settled = with_emphasis all (length last.text) last.links last.emphasis last.runs kept.2.settled kept.2.order kept.2.runs kept.2.beside in
+    let past_first_line = with_emphasis all (length last.text) last.links last.emphasis last.runs kept.2.past_first_line kept.2.order kept.2.runs kept.2.beside in
     let laid : AreLaid last.links (last.emphasis ++ emphasis_of last.runs) pieces (length last.text) = record {
       follow = kept.0;
-      fit = settled.fit;
-      whole = λ s one. (settled.each s one).whole;
-      has = λ s one. (settled.each s one).has;
-      counts = λ e inside. (settled.each (inl e) inside).counts;
+      fit = past_first_line.fit;
+      whole = λ s one. (past_first_line.each s one).whole;
+      has = λ s one. (past_first_line.each s one).has;
+      counts = λ e inside. (past_first_line.each (inl e) inside).counts;
     } in
     subst (λ t. AreLaid links emphasis pieces (length t)) (all_text setting 0 (at_start text) pieces last is.read)
     (subst (λ ls. AreLaid ls emphasis pieces (length last.text)) (sym is.links_are)

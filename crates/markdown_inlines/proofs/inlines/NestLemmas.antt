@@ -69,7 +69,7 @@ module _ (links : List (Option Link)) (emphasis : List Emphasis) (pieces : List 
   all = numbered 0 pieces
 
   abbrev Open : ℕ → List Span → Type 0
-  Open place spans = AreOpenAt links emphasis laid.fit laid.whole place spans
+  Open offset spans = AreOpenAt links emphasis laid.fit laid.whole offset spans
 
   touched : (x : ℕ × Piece) → IsIn x all → (s : Span) → IsSpan links emphasis s → Touches x.1.start x.1.end s → IsTouched x s
   touched x is_in (inl e) is (inl touch) =
@@ -106,34 +106,34 @@ module _ (links : List (Option Link)) (emphasis : List Emphasis) (pieces : List 
       )
 
   -- the first delimiter of two begins or ends what the second might
-  pub second_alone : (place : ℕ) (e : Emphasis) → IsIn e emphasis → IsSecond e place → (d : Emphasis) → IsIn d emphasis
-      → ¬ Touches place (place + 1) (inl d)
-  second_alone place e is (two, inl there) d is' touch =
+  pub second_alone : (offset : ℕ) (e : Emphasis) → IsIn e emphasis → IsSecond e offset → (d : Emphasis) → IsIn d emphasis
+      → ¬ Touches offset (offset + 1) (inl d)
+  second_alone offset e is (two, inl there) d is' touch =
       let same : inl d ≡ inl e =
       begins_alone links emphasis laid.fit laid.whole (inl e) (inl d) e.opening (e.opening + 2) is is' refl (omega (arith, two))
-      (wider e.opening (e.opening + 2) place (place + 1) (inl d) (omega (arith, there)) (omega (arith, there)) touch) in
+      (wider e.opening (e.opening + 2) offset (offset + 1) (inl d) (omega (arith, there)) (omega (arith, there)) touch) in
       apart touch (ap start same) (ap to same) (laid.whole (inl e) is)
     where
-      apart : Touches place (place + 1) (inl d) → d.opening ≡ e.opening → d.closing ≡ e.closing → IsWhole (inl e) → ⊥
+      apart : Touches offset (offset + 1) (inl d) → d.opening ≡ e.opening → d.closing ≡ e.closing → IsWhole (inl e) → ⊥
       apart (inl at) o c w = omega (arith, at.0, o, there)
       apart (inr at) o c w = omega (arith, at.1, c, there, w.in_order, two)
-  second_alone place e is (two, inr there) d is' touch =
+  second_alone offset e is (two, inr there) d is' touch =
       let same : inl d ≡ inl e =
       ends_alone links emphasis laid.fit laid.whole (inl e) (inl d) e.closing (e.closing + 2) is is' refl (omega (arith, two))
-      (wider e.closing (e.closing + 2) place (place + 1) (inl d) (omega (arith, there)) (omega (arith, there)) touch) in
+      (wider e.closing (e.closing + 2) offset (offset + 1) (inl d) (omega (arith, there)) (omega (arith, there)) touch) in
       apart touch (ap start same) (ap to same) (laid.whole (inl e) is)
     where
-      apart : Touches place (place + 1) (inl d) → d.opening ≡ e.opening → d.closing ≡ e.closing → IsWhole (inl e) → ⊥
+      apart : Touches offset (offset + 1) (inl d) → d.opening ≡ e.opening → d.closing ≡ e.closing → IsWhole (inl e) → ⊥
       apart (inl at) o c w = omega (arith, at.0, o, there, w.in_order, two)
       apart (inr at) o c w = omega (arith, at.0, c, there)
 
   module _ (number : ℕ) (piece : Piece) (is_in : IsIn (number, piece) all) (is_run : class piece.kind ≡ 3) where
     -- no link begins or ends within the run
-    no_link : (place : ℕ) → piece.start ≤ place → place < piece.end → (link : ℕ × Link) → IsSpan links emphasis (inr link)
-        → ¬ Touches place (place + 1) (inr link)
-    no_link place least most link is touch =
+    no_link : (offset : ℕ) → piece.start ≤ offset → offset < piece.end → (link : ℕ × Link) → IsSpan links emphasis (inr link)
+        → ¬ Touches offset (offset + 1) (inr link)
+    no_link offset least most link is touch =
         by (touched (number, piece) is_in (inr link) is
-        (wider piece.start piece.end place (place + 1) (inr link) least (omega (arith, most)) touch))
+        (wider piece.start piece.end offset (offset + 1) (inr link) least (omega (arith, most)) touch))
       where
         by : IsTouched (number, piece) (inr link) → ⊥
         by (inl opener) = omega (arith, is_run, opener.0)
@@ -218,56 +218,56 @@ module _ (links : List (Option Link)) (emphasis : List Emphasis) (pieces : List 
     -- ---- delimiter runs
 
     module _ (is_run : class piece.kind ≡ 3) where
-      module _ (place : ℕ) (least : piece.start ≤ place) (most : place < piece.end) (spans' : List Span) (is_open' : Open place spans')
+      module _ (offset : ℕ) (least : piece.start ≤ offset) (most : offset < piece.end) (spans' : List Span) (is_open' : Open offset spans')
           (more : List Inline)
-          (go : (spans'' : List Span) → Open (place + 1) spans'' → AreNestedIn links (map start_of spans'') (more ++ rest)) where
-        clear_by : ((e : Emphasis) → IsIn e emphasis → ¬ Touches place (place + 1) (inl e)) → (s : Span) → IsSpan links emphasis s
-            → ¬ Touches place (place + 1) s
+          (go : (spans'' : List Span) → Open (offset + 1) spans'' → AreNestedIn links (map start_of spans'') (more ++ rest)) where
+        clear_by : ((e : Emphasis) → IsIn e emphasis → ¬ Touches offset (offset + 1) (inl e)) → (s : Span) → IsSpan links emphasis s
+            → ¬ Touches offset (offset + 1) s
         clear_by clear (inl e) is touch = clear e is touch
-        clear_by clear (inr link) is touch = no_link number piece is_in is_run place least most link is touch
+        clear_by clear (inr link) is touch = no_link number piece is_in is_run offset least most link is touch
 
-        goes_on : ((e : Emphasis) → IsIn e emphasis → ¬ Touches place (place + 1) (inl e))
+        goes_on : ((e : Emphasis) → IsIn e emphasis → ¬ Touches offset (offset + 1) (inl e))
             → AreNestedIn links (map start_of spans') (more ++ rest)
         goes_on clear =
-            go spans' (passed links emphasis laid.fit laid.whole place (place + 1) spans' (omega arith)
+            go spans' (passed links emphasis laid.fit laid.whole offset (offset + 1) spans' (omega arith)
             (λ s is touch. clear_by clear s is touch) is_open')
 
-        free : (e : Emphasis) → IsFree e place → ¬ Touches place (place + 1) (inl e)
+        free : (e : Emphasis) → IsFree e offset → ¬ Touches offset (offset + 1) (inl e)
         free e is (inl touch) = is.no_opening (omega (arith, touch.0, touch.1))
         free e is (inr touch) = is.no_closing (omega (arith, touch.0, touch.1))
 
-        opens : (struck : Bool) (count : ℕ) → HasAt struck (λ e. e.opening) emphasis count place
-            → AreNestedIn links (start_with struck place count ∷ map start_of spans') (more ++ rest)
+        opens : (struck : Bool) (count : ℕ) → HasAt struck (λ e. e.opening) emphasis count offset
+            → AreNestedIn links (start_with struck offset count ∷ map start_of spans') (more ++ rest)
         opens struck count (e, is, here, counts, byte) =
             let w = laid.whole (inl e) is in
             let after =
-            begun links emphasis laid.fit laid.whole (inl e) place (place + 1) spans' is here (omega arith) (omega (arith, here, w.opens)) is_open' in
+            begun links emphasis laid.fit laid.whole (inl e) offset (offset + 1) spans' is here (omega arith) (omega (arith, here, w.opens)) is_open' in
             let same = ap (λ b. start_with b e.opening e.count) byte
-            ∙ (ap (λ k. start_with struck k e.count) here ∙ ap (λ k. start_with struck place k) counts) in
+            ∙ (ap (λ k. start_with struck k e.count) here ∙ ap (λ k. start_with struck offset k) counts) in
             subst (λ start. AreNestedIn links (start ∷ map start_of spans') (more ++ rest)) same (go (inl e ∷ spans') after)
 
-        closes : (struck : Bool) (count : ℕ) → HasAt struck (λ e. e.closing) emphasis count place
+        closes : (struck : Bool) (count : ℕ) → HasAt struck (λ e. e.closing) emphasis count offset
             → (e : Emphasis) × (outer : List Inline) × (map start_of spans' ≡ start_with struck e.opening e.count ∷ outer)
             × (count ≡ e.count) × AreNestedIn links outer (more ++ rest)
         closes struck count (e, is, here, counts, byte) =
             let w = laid.whole (inl e) is in
             let after =
-            ended links emphasis laid.fit laid.whole (inl e) place (place + 1) spans' is here (omega arith) (omega (arith, here, w.closes)) is_open' in
+            ended links emphasis laid.fit laid.whole (inl e) offset (offset + 1) spans' is here (omega arith) (omega (arith, here, w.closes)) is_open' in
             let begun_so = ap (λ b. start_with b e.opening e.count ∷ map start_of after.0) byte in
             (e, map start_of after.0, ap (map start_of) after.1 ∙ begun_so, sym counts, go after.0 after.2)
 
-        emphasis_closes : (count : ℕ) → HasAt false (λ e. e.closing) emphasis count place
-            → AreNestedIn links (map start_of spans') (I.EndEmphasis place count ∷ (more ++ rest))
+        emphasis_closes : (count : ℕ) → HasAt false (λ e. e.closing) emphasis count offset
+            → AreNestedIn links (map start_of spans') (I.EndEmphasis offset count ∷ (more ++ rest))
         emphasis_closes count is =
             let end = closes false count is in (I.StartEmphasis end.0.opening end.0.count, end.1, end.2, end.3, end.4)
 
-        strikethrough_closes : (count : ℕ) → HasAt true (λ e. e.closing) emphasis count place
-            → AreNestedIn links (map start_of spans') (I.EndStrikethrough place count ∷ (more ++ rest))
+        strikethrough_closes : (count : ℕ) → HasAt true (λ e. e.closing) emphasis count offset
+            → AreNestedIn links (map start_of spans') (I.EndStrikethrough offset count ∷ (more ++ rest))
         strikethrough_closes count is =
             let end = closes true count is in (I.StartStrikethrough end.0.opening end.0.count, end.1, end.2, end.3, end.4)
 
-        by_mark : (mark : Mark) → MarkedAs emphasis place mark
-            → AreNestedIn links (map start_of spans') ((delimiter_with mark place ++ more) ++ rest)
+        by_mark : (mark : Mark) → MarkedAs emphasis offset mark
+            → AreNestedIn links (map start_of spans') ((delimiter_with mark offset ++ more) ++ rest)
         by_mark M.Nothing is = goes_on (λ e in_all. free e (is e in_all))
         by_mark M.OpensEmphasis is = opens false 1 is
         by_mark M.OpensStrong is = opens false 2 is
@@ -277,17 +277,17 @@ module _ (links : List (Option Link)) (emphasis : List Emphasis) (pieces : List 
         by_mark M.OpensStrikethroughOfTwo is = opens true 2 is
         by_mark M.ClosesStrikethrough is = strikethrough_closes 1 is
         by_mark M.ClosesStrikethroughOfTwo is = strikethrough_closes 2 is
-        by_mark M.Second is = goes_on (second_alone place is.0 is.1 is.2)
+        by_mark M.Second is = goes_on (second_alone offset is.0 is.1 is.2)
 
-        delimiter_step : AreNestedIn links (map start_of spans') ((delimiter_at emphasis place ++ more) ++ rest)
-        delimiter_step = by_mark (marks_by emphasis place) (marked emphasis place laid.counts)
+        delimiter_step : AreNestedIn links (map start_of spans') ((delimiter_at emphasis offset ++ more) ++ rest)
+        delimiter_step = by_mark (marks_by emphasis offset) (marked emphasis offset laid.counts)
 
-      run_step : (n place : ℕ) (spans' : List Span) → piece.start ≤ place → place + n ≡ piece.end → Open place spans'
-          → AreNestedIn links (map start_of spans') (flat_map (delimiter_at emphasis) (range_with_len place n) ++ rest)
-      run_step zero place spans' least last is_open' = next spans' (subst (λ p. Open p spans') (omega (arith, last)) is_open')
-      run_step (suc n) place spans' least last is_open' =
-          delimiter_step place least (omega (arith, last)) spans' is_open' (flat_map (delimiter_at emphasis) (range_with_len (place + 1) n))
-          (λ spans'' is'. run_step n (place + 1) spans'' (omega (arith, least)) (omega (arith, last)) is')
+      run_step : (n offset : ℕ) (spans' : List Span) → piece.start ≤ offset → offset + n ≡ piece.end → Open offset spans'
+          → AreNestedIn links (map start_of spans') (flat_map (delimiter_at emphasis) (range_with_len offset n) ++ rest)
+      run_step zero offset spans' least last is_open' = next spans' (subst (λ p. Open p spans') (omega (arith, last)) is_open')
+      run_step (suc n) offset spans' least last is_open' =
+          delimiter_step offset least (omega (arith, last)) spans' is_open' (flat_map (delimiter_at emphasis) (range_with_len (offset + 1) n))
+          (λ spans'' is'. run_step n (offset + 1) spans'' (omega (arith, least)) (omega (arith, last)) is')
 
     -- ---- any piece
 
@@ -308,12 +308,12 @@ module _ (links : List (Option Link)) (emphasis : List Emphasis) (pieces : List 
     step K.ImageOpener is some = opener_step (ap class is) (ap (λ k. counted k number) is)
     step K.Closer is some = closer_step (ap class is) (some refl)
 
-  nest_from : (rest : List Piece) (number place : ℕ) (spans : List Span) → Follow place rest len
-      → ((x : ℕ × Piece) → IsIn x (numbered number rest) → IsIn x all) → Open place spans
+  nest_from : (rest : List Piece) (number offset : ℕ) (spans : List Span) → Follow offset rest len
+      → ((x : ℕ × Piece) → IsIn x (numbered number rest) → IsIn x all) → Open offset spans
       → AreNestedIn links (map start_of spans) (inlines_from links emphasis number rest)
-  nest_from [] number place spans follow are_in is_open = by spans is_open
+  nest_from [] number offset spans follow are_in is_open = by spans is_open
     where
-      by : (spans : List Span) → Open place spans → map start_of spans ≡ []
+      by : (spans : List Span) → Open offset spans → map start_of spans ≡ []
       by [] is_open = refl
       by (s ∷ outer) is_open = absurd (past s is_open.still.0 is_open.still.2)
         where
@@ -321,9 +321,9 @@ module _ (links : List (Option Link)) (emphasis : List Emphasis) (pieces : List 
           before (inl e) has = omega (arith, has.1.ends, ends_before pieces 0 len 0 _ laid.follow has.1.is_in)
           before (inr link) has = ends_before pieces 0 len 0 _ laid.follow has.1.is_in
 
-          past : (s : Span) → IsSpan links emphasis s → place ≤ to s → ⊥
+          past : (s : Span) → IsSpan links emphasis s → offset ≤ to s → ⊥
           past s is still = omega (arith, still, (laid.whole s is).closes, before s (laid.has s is), follow)
-  nest_from (piece ∷ later) number place spans follow are_in is_open =
+  nest_from (piece ∷ later) number offset spans follow are_in is_open =
       step number piece (are_in (number, piece) (inl refl)) follow.1.0 spans (subst (λ p. Open p spans) (sym follow.0) is_open)
       (inlines_from links emphasis (counted piece.kind number) later)
       (λ spans' is_open'. nest_from later (counted piece.kind number) piece.end spans' follow.2 (λ x is. are_in x (inr is)) is_open')

@@ -15,45 +15,45 @@ numbered number (piece ∷ later) = (number, piece) ∷ numbered (counted piece.
 abbrev pub IsLong : Piece → Type 0
 IsLong piece = (piece.start ≤ piece.end) × (piece.kind ≡ K.Closer → piece.start < piece.end)
 
--- each begins where the one before it ends, the first at a place, and the last ends at another
+-- each begins where the one before it ends, the first at an offset, and the last ends at another
 abbrev pub Follow : ℕ → List Piece → ℕ → Type 0
-Follow place [] last = place ≡ last
-Follow place (piece ∷ later) last = (piece.start ≡ place) × IsLong piece × Follow piece.end later last
+Follow offset [] last = offset ≡ last
+Follow offset (piece ∷ later) last = (piece.start ≡ offset) × IsLong piece × Follow piece.end later last
 
-follow_least : (pieces : List Piece) (place last : ℕ) → Follow place pieces last → place ≤ last
-follow_least [] place last follow = omega (arith, follow)
-follow_least (piece ∷ later) place last follow =
+follow_least : (pieces : List Piece) (offset last : ℕ) → Follow offset pieces last → offset ≤ last
+follow_least [] offset last follow = omega (arith, follow)
+follow_least (piece ∷ later) offset last follow =
     omega (arith, follow_least later piece.end last follow.2, follow.0, follow.1.0)
 
-pub ends_before : (pieces : List Piece) (place last number : ℕ) (x : ℕ × Piece) → Follow place pieces last → IsIn x (numbered number pieces)
+pub ends_before : (pieces : List Piece) (offset last number : ℕ) (x : ℕ × Piece) → Follow offset pieces last → IsIn x (numbered number pieces)
     → x.1.end ≤ last
-ends_before [] place last number x follow is = absurd is
-ends_before (piece ∷ later) place last number x follow (inl here) =
+ends_before [] offset last number x follow is = absurd is
+ends_before (piece ∷ later) offset last number x follow (inl here) =
     omega (arith, ap (λ (y : ℕ × Piece). y.1.end) here, follow_least later piece.end last follow.2)
-ends_before (piece ∷ later) place last number x follow (inr is) =
+ends_before (piece ∷ later) offset last number x follow (inr is) =
     ends_before later piece.end last (counted piece.kind number) x follow.2 is
 
-pub follows : (pieces : List Piece) (place last number : ℕ) (x : ℕ × Piece) → Follow place pieces last → IsIn x (numbered number pieces)
-    → (place ≤ x.1.start) × (x.1.start ≤ x.1.end)
-follows [] place last number x follow is = absurd is
-follows (piece ∷ later) place last number x follow (inl here) =
-    subst (λ (y : ℕ × Piece). (place ≤ y.1.start) × (y.1.start ≤ y.1.end)) (sym here) (omega (arith, follow.0), follow.1.0)
-follows (piece ∷ later) place last number x follow (inr is) =
+pub follows : (pieces : List Piece) (offset last number : ℕ) (x : ℕ × Piece) → Follow offset pieces last → IsIn x (numbered number pieces)
+    → (offset ≤ x.1.start) × (x.1.start ≤ x.1.end)
+follows [] offset last number x follow is = absurd is
+follows (piece ∷ later) offset last number x follow (inl here) =
+    subst (λ (y : ℕ × Piece). (offset ≤ y.1.start) × (y.1.start ≤ y.1.end)) (sym here) (omega (arith, follow.0), follow.1.0)
+follows (piece ∷ later) offset last number x follow (inr is) =
     let more = follows later piece.end last (counted piece.kind number) x follow.2 is in
     (omega (arith, more.0, follow.0, follow.1.0), more.1)
 
 -- two that have a byte in common are one
-pub one_there : (pieces : List Piece) (place last number : ℕ) (x y : ℕ × Piece) → Follow place pieces last → IsIn x (numbered number pieces)
+pub one_there : (pieces : List Piece) (offset last number : ℕ) (x y : ℕ × Piece) → Follow offset pieces last → IsIn x (numbered number pieces)
     → IsIn y (numbered number pieces) → x.1.start < y.1.end → y.1.start < x.1.end → x ≡ y
-one_there [] place last number x y follow is is' less less' = absurd is
-one_there (piece ∷ later) place last number x y follow (inl here) (inl here') less less' = here ∙ sym here'
-one_there (piece ∷ later) place last number x y follow (inl here) (inr is') less less' =
+one_there [] offset last number x y follow is is' less less' = absurd is
+one_there (piece ∷ later) offset last number x y follow (inl here) (inl here') less less' = here ∙ sym here'
+one_there (piece ∷ later) offset last number x y follow (inl here) (inr is') less less' =
     let more = follows later piece.end last (counted piece.kind number) y follow.2 is' in
     absurd (omega (arith, more.0, less', ap (λ (z : ℕ × Piece). z.1.end) here))
-one_there (piece ∷ later) place last number x y follow (inr is) (inl here') less less' =
+one_there (piece ∷ later) offset last number x y follow (inr is) (inl here') less less' =
     let more = follows later piece.end last (counted piece.kind number) x follow.2 is in
     absurd (omega (arith, more.0, less, ap (λ (z : ℕ × Piece). z.1.end) here'))
-one_there (piece ∷ later) place last number x y follow (inr is) (inr is') less less' =
+one_there (piece ∷ later) offset last number x y follow (inr is) (inr is') less less' =
     one_there later piece.end last (counted piece.kind number) x y follow.2 is is' less less'
 
 least_counted : (kind : PieceKind) (number : ℕ) → number ≤ counted kind number
@@ -95,7 +95,7 @@ one_opener (piece ∷ later) number n p q (inr is) (inr is') counts counts' =
 
 -- ---- the pieces of spans
 
--- a delimiter run has what stands between two places
+-- a delimiter run has what stands between two offsets
 pub record HasRun (all : List (ℕ × Piece)) (a b : ℕ) : Type 0 where
   pub number : ℕ
   pub run : DelimiterRun
@@ -108,7 +108,7 @@ pub record HasRun (all : List (ℕ × Piece)) (a b : ℕ) : Type 0 where
 abbrev pub opener_kind : Bool → PieceKind
 opener_kind is_image = if is_image then K.ImageOpener else K.LinkOpener
 
--- an opener has this number, and stands between two places
+-- an opener has this number, and stands between two offsets
 abbrev pub HasOpener : List (ℕ × Piece) → ℕ → Bool → ℕ → ℕ → Type 0
 HasOpener all number is_image a b = IsIn (number, record { kind = opener_kind is_image; start = a; end = b }) all
 

@@ -1,4 +1,4 @@
--- The spans that are open at a place: how a start, an end and what lies between change them.
+-- The spans that are open at an offset: how a start, an end and what lies between change them.
 use Rattle.std.proofs.Common.{ℕ, List, [], ◌∷◌, ◌≡◌, ◌<◌, ◌≤◌, ◌⊎◌, inl, inr, arith, sym, ap, subst, Option}
 use Rattle.std.specs.Prelude.{⊤}
 use Rattle.std.proofs.lemmas.Bool.{cases_lt}
@@ -6,7 +6,7 @@ use Rattle.markdown_inlines.specs.declared.emphasis.Emphasis.{Emphasis}
 use Rattle.markdown_inlines.specs.declared.links.Link.{Link}
 use Rattle.markdown_inlines.proofs.inlines.Spans.{IsIn, Span, start, from, to, end, IsSpan, IsWhole, Fit}
 
--- it begins, or begins to end, between these places
+-- it begins, or begins to end, between these offsets
 abbrev pub Touches : ℕ → ℕ → Span → Type 0
 Touches a b s = ((a ≤ start s) × (start s < b)) ⊎ ((a ≤ to s) × (to s < b))
 
@@ -56,16 +56,16 @@ not_within s t a (inr (inr (inr inside))) w w' here later began still = omega (a
 module _ (links : List (Option Link)) (emphasis : List Emphasis)
     (fit : (s t : Span) → IsSpan links emphasis s → IsSpan links emphasis t → (s ≡ t) ⊎ Fit s t)
     (whole : (s : Span) → IsSpan links emphasis s → IsWhole s) where
-  -- these are spans that end at a place or later, and began before another, the innermost last
+  -- these are spans that end at an offset or later, and began before another, the innermost last
   abbrev pub AreStill : ℕ → ℕ → List Span → Type 0
-  AreStill most place [] = ⊤
-  AreStill most place (s ∷ outer) =
-      IsSpan links emphasis s × (start s < most) × (place ≤ to s) × AreStill (start s) place outer
+  AreStill most offset [] = ⊤
+  AreStill most offset (s ∷ outer) =
+      IsSpan links emphasis s × (start s < most) × (offset ≤ to s) × AreStill (start s) offset outer
 
-  -- These are the spans that are open at a place.
-  pub record AreOpenAt (place : ℕ) (spans : List Span) : Type 0 where
-    pub still : AreStill place place spans
-    pub each : (s : Span) → IsSpan links emphasis s → start s < place → place ≤ to s → IsIn s spans
+  -- These are the spans that are open at an offset.
+  pub record AreOpenAt (offset : ℕ) (spans : List Span) : Type 0 where
+    pub still : AreStill offset offset spans
+    pub each : (s : Span) → IsSpan links emphasis s → start s < offset → offset ≤ to s → IsIn s spans
 
   still_on : (spans : List Span) (most most' a b : ℕ) → most ≤ most'
       → ((t : Span) → IsSpan links emphasis t → start t < most → a ≤ to t → b ≤ to t) → AreStill most a spans → AreStill most' b spans
@@ -78,11 +78,11 @@ module _ (links : List (Option Link)) (emphasis : List Emphasis)
         (λ t is began. on t is (omega (arith, began, still.1))) still.3,
   )
 
-  still_in : (spans : List Span) (most place : ℕ) (s : Span) → AreStill most place spans → IsIn s spans → start s < most
-  still_in [] most place s still is = absurd is
-  still_in (t ∷ outer) most place s still (inl here) = subst (λ x. start x < most) (sym here) still.1
-  still_in (t ∷ outer) most place s still (inr later) =
-      omega (arith, still_in outer (start t) place s still.3 later, still.1)
+  still_in : (spans : List Span) (most offset : ℕ) (s : Span) → AreStill most offset spans → IsIn s spans → start s < most
+  still_in [] most offset s still is = absurd is
+  still_in (t ∷ outer) most offset s still (inl here) = subst (λ x. start x < most) (sym here) still.1
+  still_in (t ∷ outer) most offset s still (inr later) =
+      omega (arith, still_in outer (start t) offset s still.3 later, still.1)
 
   on_by : (a b : ℕ) (t : Span) → ¬ Touches a b t → a ≤ to t → b ≤ to t
   on_by a b t clear still = elim (cases_lt (to t) b) [

@@ -18,21 +18,21 @@ range_more from (suc n) =
     ap (λ (l : List ℕ). from ∷ l) (range_more (from + 1) n ∙ ap (λ k. range_with_len (from + 1) n ++ k ∷ []) same)
 
 -- one delimiter more
-pub delimiter_added : (emphasis : List Emphasis) (marks : List Mark) (from place : ℕ)
-    (inlines next start : List Inline) → AreMarks emphasis (length marks) marks → from ≤ place → place < length marks
-    → inlines ≡ start ++ delimiters_between emphasis from place
-    → next ≡ inlines ++ delimiter_with (get_or marks place Nothing) place
-    → next ≡ start ++ delimiters_between emphasis from (place + 1)
-delimiter_added emphasis marks from place inlines next start are later within before added =
+pub delimiter_added : (emphasis : List Emphasis) (marks : List Mark) (from offset : ℕ)
+    (inlines next start : List Inline) → AreMarks emphasis (length marks) marks → from ≤ offset → offset < length marks
+    → inlines ≡ start ++ delimiters_between emphasis from offset
+    → next ≡ inlines ++ delimiter_with (get_or marks offset Nothing) offset
+    → next ≡ start ++ delimiters_between emphasis from (offset + 1)
+delimiter_added emphasis marks from offset inlines next start are later within before added =
     let show = delimiter_at emphasis in
-    let numbers : range_with_len from (place + 1 - from) ≡ range_with_len from (place - from) ++ place ∷ [] =
-    (let one_more : place + 1 - from ≡ suc (place - from) = omega (arith, later) in
-    let last : from + (place - from) ≡ place = omega (arith, later) in
-    ap (range_with_len from) one_more ∙ (range_more from (place - from) ∙ ap (λ k. range_with_len from (place - from) ++ k ∷ []) last)) in
-    let more : delimiters_between emphasis from (place + 1) ≡ delimiters_between emphasis from place ++ show place =
-    ap (flat_map show) numbers ∙ (flat_map-append show (range_with_len from (place - from)) (place ∷ [])
-    ∙ ap (λ (l : List Inline). delimiters_between emphasis from place ++ l) (append-nil (show place))) in
-    added ∙ (ap (λ (l : List Inline). l ++ delimiter_with (get_or marks place Nothing) place) before
-    ∙ (ap (λ mark. (start ++ delimiters_between emphasis from place) ++ delimiter_with mark place) (are.each place within)
-    ∙ (append_assoc start (delimiters_between emphasis from place) (show place)
+    let numbers : range_with_len from (offset + 1 - from) ≡ range_with_len from (offset - from) ++ offset ∷ [] =
+    (let one_more : offset + 1 - from ≡ suc (offset - from) = omega (arith, later) in
+    let last : from + (offset - from) ≡ offset = omega (arith, later) in
+    ap (range_with_len from) one_more ∙ (range_more from (offset - from) ∙ ap (λ k. range_with_len from (offset - from) ++ k ∷ []) last)) in
+    let more : delimiters_between emphasis from (offset + 1) ≡ delimiters_between emphasis from offset ++ show offset =
+    ap (flat_map show) numbers ∙ (flat_map-append show (range_with_len from (offset - from)) (offset ∷ [])
+    ∙ ap (λ (l : List Inline). delimiters_between emphasis from offset ++ l) (append-nil (show offset))) in
+    added ∙ (ap (λ (l : List Inline). l ++ delimiter_with (get_or marks offset Nothing) offset) before
+    ∙ (ap (λ mark. (start ++ delimiters_between emphasis from offset) ++ delimiter_with mark offset) (are.each offset within)
+    ∙ (append_assoc start (delimiters_between emphasis from offset) (show offset)
     ∙ ap (λ (l : List Inline). start ++ l) (sym more))))

@@ -66,49 +66,49 @@ abbrev pub IsCounted : Span → Type 0
 IsCounted (inl e) = (e.count ≡ 1) ⊎ (e.count ≡ 2)
 IsCounted (inr link) = ⊤
 
--- It stands before a place, and begins and ends with these pieces.
-pub record IsSettled (all : List (ℕ × Piece)) (place : ℕ) (s : Span) : Type 0 where
+-- It stands before an offset, and begins and ends with these pieces.
+pub record IsSettled (all : List (ℕ × Piece)) (offset : ℕ) (s : Span) : Type 0 where
   pub whole : IsWhole s
   pub has : HasPieces all s
-  pub before : end s ≤ place
+  pub before : end s ≤ offset
   pub counts : IsCounted s
 
--- a run is one of these pieces, and stands before a place
-pub record IsRunBefore (all : List (ℕ × Piece)) (place : ℕ) (run : Delimiters) : Type 0 where
+-- a run is one of these pieces, and stands before an offset
+pub record IsRunBefore (all : List (ℕ × Piece)) (offset : ℕ) (run : Delimiters) : Type 0 where
   pub number : ℕ
   pub is_in : IsIn (number, record { kind = K.Delimiters run.run; start = run.start; end = run.end }) all
-  pub before : run.end ≤ place
+  pub before : run.end ≤ offset
 
 -- a run stands before a span, or after it
 abbrev pub Beside : Delimiters → Span → Type 0
 Beside run s = (run.end ≤ start s) ⊎ (end s ≤ run.start)
 
-pub record AreSettled (all : List (ℕ × Piece)) (place : ℕ) (links : List (Option Link)) (emphasis : List Emphasis) : Type 0 where
+pub record AreSettled (all : List (ℕ × Piece)) (offset : ℕ) (links : List (Option Link)) (emphasis : List Emphasis) : Type 0 where
   pub fit : (s t : Span) → IsSpan links emphasis s → IsSpan links emphasis t → (s ≡ t) ⊎ Fit s t
-  pub each : (s : Span) → IsSpan links emphasis s → IsSettled all place s
+  pub each : (s : Span) → IsSpan links emphasis s → IsSettled all offset s
 
-pub settled_later : (all : List (ℕ × Piece)) (place place' : ℕ) (s : Span) → place ≤ place' → IsSettled all place s → IsSettled all place' s
-settled_later all place place' s later is = record {
+pub settled_later : (all : List (ℕ × Piece)) (offset offset' : ℕ) (s : Span) → offset ≤ offset' → IsSettled all offset s → IsSettled all offset' s
+settled_later all offset offset' s later is = record {
   whole = is.whole;
   has = is.has;
   before = omega (arith, is.before, later);
   counts = is.counts;
 }
 
-pub run_later : (all : List (ℕ × Piece)) (place place' : ℕ) (run : Delimiters) → place ≤ place' → IsRunBefore all place run
-    → IsRunBefore all place' run
-run_later all place place' run later is = record { number = is.number; is_in = is.is_in; before = omega (arith, is.before, later) }
+pub run_later : (all : List (ℕ × Piece)) (offset offset' : ℕ) (run : Delimiters) → offset ≤ offset' → IsRunBefore all offset run
+    → IsRunBefore all offset' run
+run_later all offset offset' run later is = record { number = is.number; is_in = is.is_in; before = omega (arith, is.before, later) }
 
-pub all_later : (all : List (ℕ × Piece)) (place place' : ℕ) (links : List (Option Link)) (emphasis : List Emphasis) → place ≤ place'
-    → AreSettled all place links emphasis → AreSettled all place' links emphasis
-all_later all place place' links emphasis later are =
-    record { fit = are.fit; each = λ s is. settled_later all place place' s later (are.each s is) }
+pub all_later : (all : List (ℕ × Piece)) (offset offset' : ℕ) (links : List (Option Link)) (emphasis : List Emphasis) → offset ≤ offset'
+    → AreSettled all offset links emphasis → AreSettled all offset' links emphasis
+all_later all offset offset' links emphasis later are =
+    record { fit = are.fit; each = λ s is. settled_later all offset offset' s later (are.each s is) }
 
 -- ---- emphasis is added
 
-module _ (all : List (ℕ × Piece)) (place : ℕ) (links : List (Option Link)) (emphasis : List Emphasis) (runs : List Delimiters)
-    (settled : AreSettled all place links emphasis) (order : AreInOrder runs)
-    (before : (run : Delimiters) → IsIn run runs → IsRunBefore all place run)
+module _ (all : List (ℕ × Piece)) (offset : ℕ) (links : List (Option Link)) (emphasis : List Emphasis) (runs : List Delimiters)
+    (past_first_line : AreSettled all offset links emphasis) (order : AreInOrder runs)
+    (before : (run : Delimiters) → IsIn run runs → IsRunBefore all offset run)
     (beside : (run : Delimiters) → IsIn run runs → (s : Span) → IsSpan links emphasis s → Beside run s) where
   -- an opener and a closer that emphasis stands between
   record Between (e : Emphasis) : Type 0 where
@@ -143,7 +143,7 @@ module _ (all : List (ℕ × Piece)) (place : ℕ) (links : List (Option Link)) 
   some e (inl one) = omega (arith, one)
   some e (inr two) = omega (arith, two)
 
-  new_settled : (e : Emphasis) → IsIn e (emphasis_of runs) → IsSettled all place (inl e)
+  new_settled : (e : Emphasis) → IsIn e (emphasis_of runs) → IsSettled all offset (inl e)
   new_settled e is =
       let b = between e is in
       let count = some e b.counted in
@@ -205,7 +205,7 @@ module _ (all : List (ℕ × Piece)) (place : ℕ) (links : List (Option Link)) 
   old_or_new (inr link) is = inl is
 
   fit_by : (s t : Span) → IsOldOrNew s → IsOldOrNew t → (s ≡ t) ⊎ Fit s t
-  fit_by s t (inl old) (inl old') = settled.fit s t old old'
+  fit_by s t (inl old) (inl old') = past_first_line.fit s t old old'
   fit_by s t (inl old) (inr (e, same, new)) =
       inr (subst (λ x. Fit s x) (sym same) (fit_turned (inl e) s (new_fits e new s old)))
   fit_by s t (inr (e, same, new)) (inl old) = inr (subst (λ x. Fit x t) (sym same) (new_fits e new t old))
@@ -216,11 +216,11 @@ module _ (all : List (ℕ × Piece)) (place : ℕ) (links : List (Option Link)) 
         | inr fits ↦ inr fits
       ]))
 
-  settled_by : (s : Span) → IsOldOrNew s → IsSettled all place s
-  settled_by s (inl old) = settled.each s old
-  settled_by s (inr (e, same, new)) = subst (IsSettled all place) (sym same) (new_settled e new)
+  settled_by : (s : Span) → IsOldOrNew s → IsSettled all offset s
+  settled_by s (inl old) = past_first_line.each s old
+  settled_by s (inr (e, same, new)) = subst (IsSettled all offset) (sym same) (new_settled e new)
 
-  pub with_emphasis : AreSettled all place links (emphasis ++ emphasis_of runs)
+  pub with_emphasis : AreSettled all offset links (emphasis ++ emphasis_of runs)
   with_emphasis = record {
     fit = λ s t is is'. fit_by s t (old_or_new s is) (old_or_new t is');
     each = λ s is. settled_by s (old_or_new s is);
@@ -228,8 +228,8 @@ module _ (all : List (ℕ × Piece)) (place : ℕ) (links : List (Option Link)) 
 
 -- ---- a link is added
 
-module _ (all : List (ℕ × Piece)) (place : ℕ) (links : List (Option Link)) (emphasis : List Emphasis) (number : ℕ) (link : Link)
-    (settled : AreSettled all place links emphasis) (is : IsSettled all link.source.end (inr (number, link))) (after : place ≤ link.text.end)
+module _ (all : List (ℕ × Piece)) (offset : ℕ) (links : List (Option Link)) (emphasis : List Emphasis) (number : ℕ) (link : Link)
+    (past_first_line : AreSettled all offset links emphasis) (is : IsSettled all link.source.end (inr (number, link))) (after : offset ≤ link.text.end)
     (around : (s : Span) → IsSpan links emphasis s → (link.text.start ≤ start s) ⊎ (end s ≤ link.source.start)) where
   abbrev links' : List (Option Link)
   links' = slice_set links number (Some link)
@@ -243,13 +243,13 @@ module _ (all : List (ℕ × Piece)) (place : ℕ) (links : List (Option Link)) 
 
   link_fits : (s : Span) → IsSpan links emphasis s → Fit (inr (number, link)) s
   link_fits s old = elim (around s old) [
-    | inl within ↦ inr (inr (inl (within, omega (arith, (settled.each s old).before, after))))
+    | inl within ↦ inr (inr (inl (within, omega (arith, (past_first_line.each s old).before, after))))
     | inr apart ↦ inr (inl apart)
   ]
 
   link_fit_by : (s t : Span) → IsSpan links emphasis s ⊎ (s ≡ inr (number, link)) → IsSpan links emphasis t ⊎ (t ≡ inr (number, link))
       → (s ≡ t) ⊎ Fit s t
-  link_fit_by s t (inl old) (inl old') = settled.fit s t old old'
+  link_fit_by s t (inl old) (inl old') = past_first_line.fit s t old old'
   link_fit_by s t (inl old) (inr same) =
       inr (subst (λ x. Fit s x) (sym same) (fit_turned (inr (number, link)) s (link_fits s old)))
   link_fit_by s t (inr same) (inl old) = inr (subst (λ x. Fit x t) (sym same) (link_fits t old))
@@ -257,7 +257,7 @@ module _ (all : List (ℕ × Piece)) (place : ℕ) (links : List (Option Link)) 
 
   link_settled_by : (s : Span) → IsSpan links emphasis s ⊎ (s ≡ inr (number, link)) → IsSettled all link.source.end s
   link_settled_by s (inl old) =
-      settled_later all place link.source.end s (omega (arith, after, is.whole.closes)) (settled.each s old)
+      settled_later all offset link.source.end s (omega (arith, after, is.whole.closes)) (past_first_line.each s old)
   link_settled_by s (inr same) = subst (IsSettled all link.source.end) (sym same) is
 
   pub with_a_link : AreSettled all link.source.end links' emphasis

@@ -104,7 +104,7 @@ end (inr link) = link.1.source.end
 
 -- it begins so
 abbrev pub start_with : Bool → ℕ → ℕ → Inline
-start_with struck place count = if struck then I.StartStrikethrough place count else I.StartEmphasis place count
+start_with struck offset count = if struck then I.StartStrikethrough offset count else I.StartEmphasis offset count
 
 abbrev pub start_of : Span → Inline
 start_of (inl emphasis) = start_with (emphasis.byte == tilde) emphasis.opening emphasis.count

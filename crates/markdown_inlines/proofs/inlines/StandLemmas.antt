@@ -33,43 +33,43 @@ module _ (links : List (Option Link)) (emphasis : List Emphasis) (pieces : List 
   all = numbered 0 pieces
 
   abbrev IsNoSecond : ℕ → Type 0
-  IsNoSecond place = (e : Emphasis) → IsIn e emphasis → ¬ IsSecond e place
+  IsNoSecond offset = (e : Emphasis) → IsIn e emphasis → ¬ IsSecond e offset
 
-  -- two delimiters of one side have no second at the place after one that begins or ends emphasis with one
-  after_one : (place : ℕ) (e : Emphasis) → IsIn e emphasis → e.count ≡ 1 → (e.opening ≡ place) ⊎ (e.closing ≡ place)
-      → IsNoSecond (place + 1)
-  after_one place e is one here d is' (two, at) = by here at
+  -- two delimiters of one side have no second at the offset after one that begins or ends emphasis with one
+  after_one : (offset : ℕ) (e : Emphasis) → IsIn e emphasis → e.count ≡ 1 → (e.opening ≡ offset) ⊎ (e.closing ≡ offset)
+      → IsNoSecond (offset + 1)
+  after_one offset e is one here d is' (two, at) = by here at
     where
-      by : (e.opening ≡ place) ⊎ (e.closing ≡ place) → (place + 1 ≡ d.opening + 1) ⊎ (place + 1 ≡ d.closing + 1) → ⊥
+      by : (e.opening ≡ offset) ⊎ (e.closing ≡ offset) → (offset + 1 ≡ d.opening + 1) ⊎ (offset + 1 ≡ d.closing + 1) → ⊥
       by (inl begins) at =
-          let same = begins_alone links emphasis laid.fit laid.whole (inl e) (inl d) place (place + 1) is is' begins
+          let same = begins_alone links emphasis laid.fit laid.whole (inl e) (inl d) offset (offset + 1) is is' begins
           (omega (arith, begins, one)) (touch at) in
           omega (arith, ap count_of same, one, two)
         where
-          touch : (place + 1 ≡ d.opening + 1) ⊎ (place + 1 ≡ d.closing + 1) → Touches place (place + 1) (inl d)
+          touch : (offset + 1 ≡ d.opening + 1) ⊎ (offset + 1 ≡ d.closing + 1) → Touches offset (offset + 1) (inl d)
           touch (inl first) = inl (omega (arith, first), omega (arith, first))
           touch (inr first) = inr (omega (arith, first), omega (arith, first))
       by (inr ends) at =
-          let same = ends_alone links emphasis laid.fit laid.whole (inl e) (inl d) place (place + 1) is is' ends
+          let same = ends_alone links emphasis laid.fit laid.whole (inl e) (inl d) offset (offset + 1) is is' ends
           (omega (arith, ends, one)) (touch at) in
           omega (arith, ap count_of same, one, two)
         where
-          touch : (place + 1 ≡ d.opening + 1) ⊎ (place + 1 ≡ d.closing + 1) → Touches place (place + 1) (inl d)
+          touch : (offset + 1 ≡ d.opening + 1) ⊎ (offset + 1 ≡ d.closing + 1) → Touches offset (offset + 1) (inl d)
           touch (inl first) = inl (omega (arith, first), omega (arith, first))
           touch (inr first) = inr (omega (arith, first), omega (arith, first))
 
   -- nor after a second, nor after a delimiter that is text
-  touch_before : (place : ℕ) (d : Emphasis) → IsSecond d (place + 1) → Touches place (place + 1) (inl d)
-  touch_before place d (two, inl first) = inl (omega (arith, first), omega (arith, first))
-  touch_before place d (two, inr first) = inr (omega (arith, first), omega (arith, first))
+  touch_before : (offset : ℕ) (d : Emphasis) → IsSecond d (offset + 1) → Touches offset (offset + 1) (inl d)
+  touch_before offset d (two, inl first) = inl (omega (arith, first), omega (arith, first))
+  touch_before offset d (two, inr first) = inr (omega (arith, first), omega (arith, first))
 
-  after_second : (place : ℕ) (e : Emphasis) → IsIn e emphasis → IsSecond e place → IsNoSecond (place + 1)
-  after_second place e is second d is' at =
-      second_alone links emphasis pieces len laid place e is second d is' (touch_before place d at)
+  after_second : (offset : ℕ) (e : Emphasis) → IsIn e emphasis → IsSecond e offset → IsNoSecond (offset + 1)
+  after_second offset e is second d is' at =
+      second_alone links emphasis pieces len laid offset e is second d is' (touch_before offset d at)
 
-  after_text : (place : ℕ) → ((e : Emphasis) → IsIn e emphasis → ¬ (e.opening ≡ place) × ¬ (e.closing ≡ place)) → IsNoSecond (place + 1)
-  after_text place free d is (two, inl first) = (free d is).0 (omega (arith, first))
-  after_text place free d is (two, inr first) = (free d is).1 (omega (arith, first))
+  after_text : (offset : ℕ) → ((e : Emphasis) → IsIn e emphasis → ¬ (e.opening ≡ offset) × ¬ (e.closing ≡ offset)) → IsNoSecond (offset + 1)
+  after_text offset free d is (two, inl first) = (free d is).0 (omega (arith, first))
+  after_text offset free d is (two, inr first) = (free d is).1 (omega (arith, first))
 
   module _ (number : ℕ) (piece : Piece) (is_in : IsIn (number, piece) all) (later : piece.start ≤ piece.end)
       (rest : List Inline) (next : StandFrom links piece.end rest len) where
@@ -121,48 +121,48 @@ module _ (links : List (Option Link)) (emphasis : List Emphasis) (pieces : List 
     no_second_last some e is (two, inr at) =
         omega (arith, (side_within e e.closing (laid.has (inl e) is).1 two (omega (arith, at, some)) (omega (arith, at))).1, at)
 
-    -- up to where the inlines stand when the delimiters before a place are read
+    -- up to where the inlines stand when the delimiters before an offset are read
     abbrev Reached : ℕ → ℕ → Type 0
-    Reached place reached =
-        ((reached ≡ place) × IsNoSecond place)
-        ⊎ ((reached ≡ place + 1) × (piece.start < place) × (e : Emphasis) × IsIn e emphasis × IsSecond e place)
+    Reached offset reached =
+        ((reached ≡ offset) × IsNoSecond offset)
+        ⊎ ((reached ≡ offset + 1) × (piece.start < offset) × (e : Emphasis) × IsIn e emphasis × IsSecond e offset)
 
-    module _ (place : ℕ) (least : piece.start ≤ place) (more : List Inline)
-        (go : (reached : ℕ) → Reached (place + 1) reached → StandFrom links reached (more ++ rest) len) where
+    module _ (offset : ℕ) (least : piece.start ≤ offset) (more : List Inline)
+        (go : (reached : ℕ) → Reached (offset + 1) reached → StandFrom links reached (more ++ rest) len) where
       -- on a side of strikethrough one tilde stands, or two
-      one_tilde : (e : Emphasis) → IsIn e emphasis → (e.opening ≡ place) ⊎ (e.closing ≡ place) → e.count ≡ 1
-          → (to : ℕ) × ((place ≡ place) × (place + 1 ≡ to)) × StandFrom links to (more ++ rest) len
-      one_tilde e is here one = (place + 1, (refl, refl), go (place + 1) (inl (refl, after_one place e is one here)))
+      one_tilde : (e : Emphasis) → IsIn e emphasis → (e.opening ≡ offset) ⊎ (e.closing ≡ offset) → e.count ≡ 1
+          → (to : ℕ) × ((offset ≡ offset) × (offset + 1 ≡ to)) × StandFrom links to (more ++ rest) len
+      one_tilde e is here one = (offset + 1, (refl, refl), go (offset + 1) (inl (refl, after_one offset e is one here)))
 
-      two_tildes : (e : Emphasis) → IsIn e emphasis → (e.opening ≡ place) ⊎ (e.closing ≡ place) → e.count ≡ 2
-          → (to : ℕ) × ((place ≡ place) × (place + 2 ≡ to)) × StandFrom links to (more ++ rest) len
+      two_tildes : (e : Emphasis) → IsIn e emphasis → (e.opening ≡ offset) ⊎ (e.closing ≡ offset) → e.count ≡ 2
+          → (to : ℕ) × ((offset ≡ offset) × (offset + 2 ≡ to)) × StandFrom links to (more ++ rest) len
       two_tildes e is here two =
-          (place + 2, (refl, refl), go (place + 2) (inr (omega arith, omega (arith, least), e, is, (two, second_of here))))
+          (offset + 2, (refl, refl), go (offset + 2) (inr (omega arith, omega (arith, least), e, is, (two, second_of here))))
         where
-          second_of : (e.opening ≡ place) ⊎ (e.closing ≡ place) → (place + 1 ≡ e.opening + 1) ⊎ (place + 1 ≡ e.closing + 1)
+          second_of : (e.opening ≡ offset) ⊎ (e.closing ≡ offset) → (offset + 1 ≡ e.opening + 1) ⊎ (offset + 1 ≡ e.closing + 1)
           second_of (inl opens) = inl (omega (arith, opens))
           second_of (inr closes) = inr (omega (arith, closes))
 
-      first : (mark : Mark) → MarkedAs emphasis place mark → IsNoSecond place
-          → StandFrom links place ((delimiter_with mark place ++ more) ++ rest) len
+      first : (mark : Mark) → MarkedAs emphasis offset mark → IsNoSecond offset
+          → StandFrom links offset ((delimiter_with mark offset ++ more) ++ rest) len
       first M.Nothing is none = (
-        place + 1,
+        offset + 1,
         (refl, refl),
-        go (place + 1) (inl (refl, after_text place (λ e in_all. ((is e in_all).no_opening, (is e in_all).no_closing)))),
+        go (offset + 1) (inl (refl, after_text offset (λ e in_all. ((is e in_all).no_opening, (is e in_all).no_closing)))),
       )
       first M.OpensEmphasis (e, is, here, one, byte) none =
-          (place + 1, (refl, refl), go (place + 1) (inl (refl, after_one place e is one (inl here))))
+          (offset + 1, (refl, refl), go (offset + 1) (inl (refl, after_one offset e is one (inl here))))
       first M.OpensStrong (e, is, here, two, byte) none = (
-        place + 2,
+        offset + 2,
         (refl, refl),
-        go (place + 2) (inr (omega arith, omega (arith, least), e, is, (two, inl (omega (arith, here))))),
+        go (offset + 2) (inr (omega arith, omega (arith, least), e, is, (two, inl (omega (arith, here))))),
       )
       first M.ClosesEmphasis (e, is, here, one, byte) none =
-          (place + 1, (refl, refl), go (place + 1) (inl (refl, after_one place e is one (inr here))))
+          (offset + 1, (refl, refl), go (offset + 1) (inl (refl, after_one offset e is one (inr here))))
       first M.ClosesStrong (e, is, here, two, byte) none = (
-        place + 2,
+        offset + 2,
         (refl, refl),
-        go (place + 2) (inr (omega arith, omega (arith, least), e, is, (two, inr (omega (arith, here))))),
+        go (offset + 2) (inr (omega arith, omega (arith, least), e, is, (two, inr (omega (arith, here))))),
       )
       first M.OpensStrikethrough (e, is, here, one, byte) none = one_tilde e is (inl here) one
       first M.OpensStrikethroughOfTwo (e, is, here, two, byte) none = two_tildes e is (inl here) two
@@ -171,49 +171,49 @@ module _ (links : List (Option Link)) (emphasis : List Emphasis) (pieces : List 
       first M.Second (e, is, second) none = absurd (none e is second)
 
       -- at the second of two delimiters no inline stands
-      later_by : (mark : Mark) → MarkedAs emphasis place mark → (e : Emphasis) → IsIn e emphasis → IsSecond e place
-          → StandFrom links (place + 1) ((delimiter_with mark place ++ more) ++ rest) len
+      later_by : (mark : Mark) → MarkedAs emphasis offset mark → (e : Emphasis) → IsIn e emphasis → IsSecond e offset
+          → StandFrom links (offset + 1) ((delimiter_with mark offset ++ more) ++ rest) len
       later_by M.Nothing is e in_all second = absurd ((is e in_all).no_second second)
       later_by M.OpensEmphasis (d, is, here, one, byte) e in_all second =
-          absurd (second_alone links emphasis pieces len laid place e in_all second d is (inl (omega (arith, here), omega (arith, here))))
+          absurd (second_alone links emphasis pieces len laid offset e in_all second d is (inl (omega (arith, here), omega (arith, here))))
       later_by M.OpensStrong (d, is, here, two, byte) e in_all second =
-          absurd (second_alone links emphasis pieces len laid place e in_all second d is (inl (omega (arith, here), omega (arith, here))))
+          absurd (second_alone links emphasis pieces len laid offset e in_all second d is (inl (omega (arith, here), omega (arith, here))))
       later_by M.ClosesEmphasis (d, is, here, one, byte) e in_all second =
-          absurd (second_alone links emphasis pieces len laid place e in_all second d is (inr (omega (arith, here), omega (arith, here))))
+          absurd (second_alone links emphasis pieces len laid offset e in_all second d is (inr (omega (arith, here), omega (arith, here))))
       later_by M.ClosesStrong (d, is, here, two, byte) e in_all second =
-          absurd (second_alone links emphasis pieces len laid place e in_all second d is (inr (omega (arith, here), omega (arith, here))))
+          absurd (second_alone links emphasis pieces len laid offset e in_all second d is (inr (omega (arith, here), omega (arith, here))))
       later_by M.OpensStrikethrough (d, is, here, counts, byte) e in_all second =
-          absurd (second_alone links emphasis pieces len laid place e in_all second d is (inl (omega (arith, here), omega (arith, here))))
+          absurd (second_alone links emphasis pieces len laid offset e in_all second d is (inl (omega (arith, here), omega (arith, here))))
       later_by M.OpensStrikethroughOfTwo (d, is, here, counts, byte) e in_all second =
-          absurd (second_alone links emphasis pieces len laid place e in_all second d is (inl (omega (arith, here), omega (arith, here))))
+          absurd (second_alone links emphasis pieces len laid offset e in_all second d is (inl (omega (arith, here), omega (arith, here))))
       later_by M.ClosesStrikethrough (d, is, here, counts, byte) e in_all second =
-          absurd (second_alone links emphasis pieces len laid place e in_all second d is (inr (omega (arith, here), omega (arith, here))))
+          absurd (second_alone links emphasis pieces len laid offset e in_all second d is (inr (omega (arith, here), omega (arith, here))))
       later_by M.ClosesStrikethroughOfTwo (d, is, here, counts, byte) e in_all second =
-          absurd (second_alone links emphasis pieces len laid place e in_all second d is (inr (omega (arith, here), omega (arith, here))))
-      later_by M.Second is e in_all second = go (place + 1) (inl (refl, after_second place e in_all second))
+          absurd (second_alone links emphasis pieces len laid offset e in_all second d is (inr (omega (arith, here), omega (arith, here))))
+      later_by M.Second is e in_all second = go (offset + 1) (inl (refl, after_second offset e in_all second))
 
-      delimiter : (reached : ℕ) → Reached place reached → StandFrom links reached ((delimiter_at emphasis place ++ more) ++ rest) len
+      delimiter : (reached : ℕ) → Reached offset reached → StandFrom links reached ((delimiter_at emphasis offset ++ more) ++ rest) len
       delimiter reached (inl (here, none)) =
-          subst (λ n. StandFrom links n ((delimiter_at emphasis place ++ more) ++ rest) len) (sym here)
-          (first (marks_by emphasis place) (marked emphasis place laid.counts) none)
+          subst (λ n. StandFrom links n ((delimiter_at emphasis offset ++ more) ++ rest) len) (sym here)
+          (first (marks_by emphasis offset) (marked emphasis offset laid.counts) none)
       delimiter reached (inr (here, some, e, is, second)) =
-          subst (λ n. StandFrom links n ((delimiter_at emphasis place ++ more) ++ rest) len) (sym here)
-          (later_by (marks_by emphasis place) (marked emphasis place laid.counts) e is second)
+          subst (λ n. StandFrom links n ((delimiter_at emphasis offset ++ more) ++ rest) len) (sym here)
+          (later_by (marks_by emphasis offset) (marked emphasis offset laid.counts) e is second)
 
-    run : (n place reached : ℕ) → piece.start ≤ place → place + n ≡ piece.end → Reached place reached
-        → StandFrom links reached (flat_map (delimiter_at emphasis) (range_with_len place n) ++ rest) len
-    run zero place reached least last at = by at
+    run : (n offset reached : ℕ) → piece.start ≤ offset → offset + n ≡ piece.end → Reached offset reached
+        → StandFrom links reached (flat_map (delimiter_at emphasis) (range_with_len offset n) ++ rest) len
+    run zero offset reached least last at = by at
       where
-        here : place ≡ piece.end
+        here : offset ≡ piece.end
         here = omega (arith, last)
 
-        by : Reached place reached → StandFrom links reached rest len
+        by : Reached offset reached → StandFrom links reached rest len
         by (inl (same, none)) = subst (λ n. StandFrom links n rest len) (sym here ∙ sym same) next
         by (inr (same, some, e, is, second)) =
             absurd (no_second_last (omega (arith, some, here)) e is (subst (IsSecond e) here second))
-    run (suc n) place reached least last at =
-        delimiter place least (flat_map (delimiter_at emphasis) (range_with_len (place + 1) n))
-        (λ reached' at'. run n (place + 1) reached' (omega (arith, least)) (omega (arith, last)) at')
+    run (suc n) offset reached least last at =
+        delimiter offset least (flat_map (delimiter_at emphasis) (range_with_len (offset + 1) n))
+        (λ reached' at'. run n (offset + 1) reached' (omega (arith, least)) (omega (arith, last)) at')
         reached at
 
     -- ---- any piece
@@ -234,10 +234,10 @@ module _ (links : List (Option Link)) (emphasis : List Emphasis) (pieces : List 
     stand_step K.ImageOpener is = opener (ap (λ k. counted k number) is)
     stand_step K.Closer is = closer (ends_link links piece.start)
 
-  stand_from : (rest : List Piece) (number place : ℕ) → Follow place rest len → ((x : ℕ × Piece) → IsIn x (numbered number rest) → IsIn x all)
-      → StandFrom links place (inlines_from links emphasis number rest) len
-  stand_from [] number place follow are_in = follow
-  stand_from (piece ∷ later) number place follow are_in =
+  stand_from : (rest : List Piece) (number offset : ℕ) → Follow offset rest len → ((x : ℕ × Piece) → IsIn x (numbered number rest) → IsIn x all)
+      → StandFrom links offset (inlines_from links emphasis number rest) len
+  stand_from [] number offset follow are_in = follow
+  stand_from (piece ∷ later) number offset follow are_in =
       subst (λ n. StandFrom links n (inlines_from links emphasis number (piece ∷ later)) len) follow.0
       (stand_step number piece (are_in (number, piece) (inl refl)) follow.1.0 (inlines_from links emphasis (counted piece.kind number) later)
       (stand_from later (counted piece.kind number) piece.end follow.2 (λ x is. are_in x (inr is))) piece.kind refl)

@@ -10,9 +10,9 @@ use Rattle.std.proofs.lemmas.List.{length-take, length-drop, take-append-drop, d
 use Rattle.std.proofs.lemmas.List.Folds.{length-prefix_len}
 use Rattle.markdown_scanners_tree.specs.Ascii.{backslash, space}
 use Rattle.markdown_scanners_tree.specs.Bytes.{begins_with, is_space_or_tab, line_ending}
-use Rattle.markdown_scanners_tree.proofs.ForCallers.{first-line_ending, place_of_rest, cut_behind_rest}
-use Rattle.markdown_scanners_tree.proofs.HandlerLemmas.{cut_behind_ascii, cut_behind_front}
-use Rattle.markdown_scanners_tree.proofs.PrefixLemmas.{both_true, from_place, list_all-prefix, list_all-implies}
+use Rattle.markdown_scanners_tree.proofs.ForCallers.{first-line_ending, offset_of_rest, cut_after_rest}
+use Rattle.markdown_scanners_tree.proofs.HandlerLemmas.{cut_after_ascii, cut_after_front}
+use Rattle.markdown_scanners_tree.proofs.PrefixLemmas.{both_true, from_offset, list_all-prefix, list_all-implies}
 use Rattle.markdown_scanners_tree.proofs.RunLemmas.{prefix-only, list_all-replicate, replicate-all}
 use Rattle.markdown_inlines.specs.LineBreaks.{IsBeforeEnding, IsLineBreak}
 use Rattle.markdown_inlines.specs.declared.line_breaks.LineBreak.{LineBreak}
@@ -34,10 +34,10 @@ pub hard_given : (text : List ℕ) (n : ℕ) (is_hard : Bool) → is_hard ≡ (b
     → n ≡ before_length text → is_hard ≡ before_is_hard text
 hard_given text n is_hard given is = given ∙ ap (λ k. begins_with is_backslash text || nat_le 2 k) is
 
--- a place in the rest of a text
+-- an offset in the rest of a text
 pub rest_within : (bytes : List ℕ) (i k : ℕ) → i ≤ length bytes → k ≤ length (take (length bytes - i) (drop i bytes))
     → i + k ≤ length bytes
-rest_within bytes i k within inside = omega (arith, inside, within, ap length (from_place bytes i), length-drop i bytes)
+rest_within bytes i k within inside = omega (arith, inside, within, ap length (from_offset bytes i), length-drop i bytes)
 
 -- spaces before a line ending are no backslash
 not_escaped : (before after : List ℕ) (ending : ℕ) → list_all is_space before ≡ true → line_ending after ≡ Some ending
@@ -95,12 +95,12 @@ module _ (text : List ℕ) (n ending spaces : ℕ) (before : n ≡ before_length
     (ends : Some ending ≡ line_ending (take (length text - n) (drop n text)))
     (run : spaces ≡ prefix_len is_space (take (length text - (n + ending)) (drop (n + ending) text))) where
   ends_there : line_ending (drop n text) ≡ Some ending
-  ends_there = sym (ends ∙ ap line_ending (from_place text n))
+  ends_there = sym (ends ∙ ap line_ending (from_offset text n))
 
   run_there : prefix_len is_space (drop ending (drop n text)) ≡ spaces
   run_there =
       ap (prefix_len is_space) (drop-drop ending n text)
-      ∙ sym (run ∙ ap (prefix_len is_space) (from_place text (n + ending)))
+      ∙ sym (run ∙ ap (prefix_len is_space) (from_offset text (n + ending)))
 
   pub break_found : n + ending + spaces < length text
       → IsLineBreak text (record { is_hard = before_is_hard text; len = n + ending + spaces })
@@ -134,7 +134,7 @@ space_ascii b is = grind (arith, nat_tests)
 
 spaces_cut : (text : List ℕ) (n : ℕ) → n ≡ prefix_len is_space text → n ≤ length text → IsUtf8 text → IsCharBoundary text n
 spaces_cut text n counted within utf8 =
-    cut_behind_front text n utf8 (
+    cut_after_front text n utf8 (
       within,
       list_all-implies is_space (λ b. nat_lt b 128) space_ascii (take n text)
           (ap (λ k. list_all is_space (take k text)) counted ∙ list_all-prefix is_space text),
@@ -147,7 +147,7 @@ cut_before (b ∷ bs) n is within utf8 = elim (cases_Bool (b == 92)) [
   | inl escaped ↦ (
       let one : n ≡ 1 = is ∙ rw escaped refl in
       let byte : get_or (b ∷ bs) (n - 1) 0 ≡ 92 = ap (λ k. get_or (b ∷ bs) (k - 1) 0) one ∙ eqb-true b 92 escaped in
-      cut_behind_ascii (b ∷ bs) n utf8 within (omega (arith, one)) (omega (arith, byte))
+      cut_after_ascii (b ∷ bs) n utf8 within (omega (arith, one)) (omega (arith, byte))
       )
   | inr plain ↦ spaces_cut (b ∷ bs) n (is ∙ rw plain refl) within utf8
 ]
@@ -158,25 +158,25 @@ cut_ending rest ending ends utf8 =
     let none : 0 ≡ prefix_len is_space_or_tab rest =
     no_spaces rest (first-line_ending is_space_or_tab refl refl rest ending ends) in
     subst (IsCharBoundary rest) (omega arith)
-    (cut_behind_rest rest 0 ending none (sym (ap line_ending (from_place rest 0) ∙ ends)) utf8)
+    (cut_after_rest rest 0 ending none (sym (ap line_ending (from_offset rest 0) ∙ ends)) utf8)
   where
     no_spaces : (rest : List ℕ) → begins_with is_space_or_tab rest ≡ false → 0 ≡ prefix_len is_space_or_tab rest
     no_spaces [] none = refl
     no_spaces (b ∷ bs) none = rw none refl
 
 -- and after the break.
-pub cut_behind_break : (text : List ℕ) (n ending spaces : ℕ) → n ≡ before_length text → n ≤ length text
+pub cut_after_break : (text : List ℕ) (n ending spaces : ℕ) → n ≡ before_length text → n ≤ length text
     → Some ending ≡ line_ending (take (length text - n) (drop n text)) → n + ending ≤ length text
     → spaces ≡ prefix_len is_space (take (length text - (n + ending)) (drop (n + ending) text))
     → n + ending + spaces ≤ length text → IsUtf8 text → IsCharBoundary text (n + ending + spaces)
-cut_behind_break text n ending spaces before within ends ends_within run run_within utf8 =
+cut_after_break text n ending spaces before within ends ends_within run run_within utf8 =
     let first : IsCharBoundary text n = cut_before text n before within utf8 in
     let second : IsCharBoundary text (n + ending) =
-    place_of_rest _ text n ending (from_place text n) utf8 (λ _. first)
+    offset_of_rest _ text n ending (from_offset text n) utf8 (λ _. first)
     (cut_ending (take (length text - n) (drop n text)) ending (sym ends)) in
-    place_of_rest _ text (n + ending) spaces (from_place text (n + ending)) utf8 (λ _. second)
+    offset_of_rest _ text (n + ending) spaces (from_offset text (n + ending)) utf8 (λ _. second)
     (spaces_cut (take (length text - (n + ending)) (drop (n + ending) text)) spaces run
-    (omega (arith, run_within, ap length (from_place text (n + ending)), length-drop (n + ending) text)))
+    (omega (arith, run_within, ap length (from_offset text (n + ending)), length-drop (n + ending) text)))
 
 same_break : {hard hard' : Bool} {len len' : ℕ} → hard ≡ hard' → len ≡ len'
     → ◌≡◌ {A = LineBreak} (record { is_hard = hard; len = len }) (record { is_hard = hard'; len = len' })

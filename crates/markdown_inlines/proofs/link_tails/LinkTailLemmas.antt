@@ -15,8 +15,8 @@ use Rattle.markdown_scanners_tree.specs.scanners.links.LinkDestination.{IsLinkDe
 use Rattle.markdown_scanners_tree.specs.scanners.links.LinkDestination.{opening_count, closing_count}
 use Rattle.markdown_scanners_tree.specs.scanners.reference_definitions.ReferenceDefinition.{IsCutAt, IsSeparatedTitle}
 use Rattle.markdown_scanners_tree.specs.scanners.reference_definitions.private.GapLength.{gap_length}
-use Rattle.markdown_scanners_tree.proofs.ForCallers.{IsSolid, destination_solid, gap_only, gap_there, raw_place}
-use Rattle.markdown_scanners_tree.proofs.PrefixLemmas.{from_place}
+use Rattle.markdown_scanners_tree.proofs.ForCallers.{IsSolid, destination_solid, gap_only, gap_there, raw_offset}
+use Rattle.markdown_scanners_tree.proofs.PrefixLemmas.{from_offset}
 use Rattle.markdown_inlines.specs.LinkTails.{IsClosing, IsTitledEnd, IsUntitledEnd, IsTailEnd, IsEmptyTail, IsFilledTail}
 use Rattle.markdown_inlines.specs.LinkTails.{IsLinkTail}
 use Rattle.markdown_inlines.specs.declared.link_tails.LinkTail.{LinkTail}
@@ -53,7 +53,7 @@ module _ (text : List ℕ) (gap : ℕ) (gap_is : gap ≡ gap_length text) where
   pub closing_found : begins_with (λ b. b == 41) (take (length text - gap) (drop gap text)) ≡ true → IsClosing text (gap + 1)
   closing_found begins =
       let rest : drop gap text ≡ 41 ∷ drop 1 (drop gap text) =
-      closed (drop gap text) (ap (begins_with (λ b. b == 41)) (sym (from_place text gap)) ∙ begins) in
+      closed (drop gap text) (ap (begins_with (λ b. b == 41)) (sym (from_offset text gap)) ∙ begins) in
       record {
         gap = take gap text;
         rest = drop 1 (drop gap text);
@@ -70,14 +70,14 @@ module _ (text : List ℕ) (gap : ℕ) (gap_is : gap ≡ gap_length text) where
   pub no_closing : begins_with (λ b. b == 41) (take (length text - gap) (drop gap text)) ≡ false → (n : ℕ) → ¬ IsClosing text n
   no_closing other n is =
       let turned : true ≡ false =
-      sym (ap (begins_with (λ b. b == 41)) (closing_only n is).1) ∙ ap (begins_with (λ b. b == 41)) (sym (from_place text gap)) ∙ other in
+      sym (ap (begins_with (λ b. b == 41)) (closing_only n is).1) ∙ ap (begins_with (λ b. b == 41)) (sym (from_offset text gap)) ∙ other in
       cc
 
   pub cut_closing : begins_with (λ b. b == 41) (take (length text - gap) (drop gap text)) ≡ true → IsUtf8 text
       → IsCharBoundary text (gap + 1)
   cut_closing begins utf8 =
       let rest : drop gap text ≡ 41 ∷ drop 1 (drop gap text) =
-      closed (drop gap text) (ap (begins_with (λ b. b == 41)) (sym (from_place text gap)) ∙ begins) in
+      closed (drop gap text) (ap (begins_with (λ b. b == 41)) (sym (from_offset text gap)) ∙ begins) in
       let byte : get_or text gap 0 ≡ 41 =
       ap (λ k. get_or text k 0) (omega arith) ∙ sym (get_or-drop gap text 0 0) ∙ ap (λ t. get_or t 0 0) rest in
       IsCharBoundary-after_ascii text gap utf8 (omega (arith, ap length rest, length-drop gap text)) (omega (arith, byte))
@@ -114,10 +114,10 @@ module _ (most : ℕ) (bytes : List ℕ) (gap : ℕ) (opens : bytes ≡ 40 ∷ d
   from_destination = take (length bytes - (1 + gap)) (drop (1 + gap) bytes)
 
   gap_length_is : gap ≡ gap_length (drop 1 bytes)
-  gap_length_is = gap_is ∙ ap gap_length (from_place bytes 1)
+  gap_length_is = gap_is ∙ ap gap_length (from_offset bytes 1)
 
   rest_is : from_destination ≡ drop gap (drop 1 bytes)
-  rest_is = from_place bytes (1 + gap) ∙ sym (drop-drop gap 1 bytes)
+  rest_is = from_offset bytes (1 + gap) ∙ sym (drop-drop gap 1 bytes)
 
   at_destination : (tail : LinkTail) → (is : IsFilledTail most bytes tail) → (length is.gap ≡ gap) × (is.rest ≡ from_destination)
   at_destination tail is =
@@ -138,8 +138,8 @@ module _ (most : ℕ) (bytes : List ℕ) (gap : ℕ) (opens : bytes ≡ 40 ∷ d
   no_filled_end taken only none tail is =
       let at = at_destination tail is in
       let same = only is.taken is.raw (subst (λ t. IsLinkDestination most t is.taken is.raw) at.1 is.is_destination) in
-      let place : 1 + length is.gap + is.taken ≡ 1 + gap + taken = omega (arith, at.0, same) in
-      none tail.title tail.len (subst (λ p. IsTailEnd bytes p tail.title tail.len) place is.ends)
+      let offset : 1 + length is.gap + is.taken ≡ 1 + gap + taken = omega (arith, at.0, same) in
+      none tail.title tail.len (subst (λ p. IsTailEnd bytes p tail.title tail.len) offset is.ends)
 
   pub filled_found : (taken start end : ℕ) (title : Option (Range ℕ)) (len : ℕ)
       → IsLinkDestination most from_destination taken (slice_range from_destination start end)
@@ -151,9 +151,9 @@ module _ (most : ℕ) (bytes : List ℕ) (gap : ℕ) (opens : bytes ≡ 40 ∷ d
         len = len;
       })
   filled_found taken start end title len is inside within some gap_within ends =
-      let place = raw_place most from_destination taken start end is inside within some in
+      let offset = raw_offset most from_destination taken start end is inside within some in
       let counted : length (take gap (drop 1 bytes)) ≡ gap =
-      omega (arith, length-take gap (drop 1 bytes), gap_within, ap length (from_place bytes 1)) in
+      omega (arith, length-take gap (drop 1 bytes), gap_within, ap length (from_offset bytes 1)) in
       record {
         after = drop 1 bytes;
         gap = take gap (drop 1 bytes);
@@ -165,53 +165,53 @@ module _ (most : ℕ) (bytes : List ℕ) (gap : ℕ) (opens : bytes ≡ 40 ∷ d
         is_gap = gap_there (drop 1 bytes) gap gap_length_is;
         is_destination = is;
         some = some;
-        destination_begins = omega (arith, counted, place.0);
-        destination_ends = omega (arith, counted, place.1);
+        destination_begins = omega (arith, counted, offset.0);
+        destination_ends = omega (arith, counted, offset.1);
         ends = subst (λ p. IsTailEnd bytes p title len) (omega (arith, counted)) ends;
       }
 
 -- what closes the tail after a title
-pub titled_end : (bytes : List ℕ) (place : ℕ) (title : Range ℕ) (closing : ℕ) → IsSeparatedTitle bytes place title
+pub titled_end : (bytes : List ℕ) (offset : ℕ) (title : Range ℕ) (closing : ℕ) → IsSeparatedTitle bytes offset title
     → IsClosing (take (length bytes - (title.end + 1)) (drop (title.end + 1) bytes)) closing
-    → IsTitledEnd bytes place title (title.end + 1 + closing)
-titled_end bytes place title closing is closes = record {
+    → IsTitledEnd bytes offset title (title.end + 1 + closing)
+titled_end bytes offset title closing is closes = record {
   closing = closing;
   is_titled = is;
-  closes = subst (λ t. IsClosing t closing) (from_place bytes (title.end + 1)) closes;
+  closes = subst (λ t. IsClosing t closing) (from_offset bytes (title.end + 1)) closes;
   len_is = refl;
 }
 
-pub not_closed : (bytes : List ℕ) (place : ℕ) (title : Range ℕ)
-    → ((other : Range ℕ) → IsSeparatedTitle bytes place other → other ≡ title)
+pub not_closed : (bytes : List ℕ) (offset : ℕ) (title : Range ℕ)
+    → ((other : Range ℕ) → IsSeparatedTitle bytes offset other → other ≡ title)
     → ((n : ℕ) → ¬ IsClosing (take (length bytes - (title.end + 1)) (drop (title.end + 1) bytes)) n)
-    → (r : Range ℕ × ℕ) → ¬ IsTitledEnd bytes place r.0 r.1
-not_closed bytes place title only none r is =
+    → (r : Range ℕ × ℕ) → ¬ IsTitledEnd bytes offset r.0 r.1
+not_closed bytes offset title only none r is =
     let here : drop (r.0.end + 1) bytes ≡ take (length bytes - (title.end + 1)) (drop (title.end + 1) bytes) =
-    ap (λ (t : Range ℕ). drop (t.end + 1) bytes) (only r.0 is.is_titled) ∙ sym (from_place bytes (title.end + 1)) in
+    ap (λ (t : Range ℕ). drop (t.end + 1) bytes) (only r.0 is.is_titled) ∙ sym (from_offset bytes (title.end + 1)) in
     none is.closing (subst (λ t. IsClosing t is.closing) here is.closes)
 
--- no title, and what closes the tail at a place
-pub untitled_end : (bytes : List ℕ) (place closing : ℕ) → IsClosing (take (length bytes - place) (drop place bytes)) closing
-    → IsUntitledEnd bytes place (place + closing)
-untitled_end bytes place closing closes = record {
+-- no title, and what closes the tail at an offset
+pub untitled_end : (bytes : List ℕ) (offset closing : ℕ) → IsClosing (take (length bytes - offset) (drop offset bytes)) closing
+    → IsUntitledEnd bytes offset (offset + closing)
+untitled_end bytes offset closing closes = record {
   closing = closing;
-  closes = subst (λ t. IsClosing t closing) (from_place bytes place) closes;
+  closes = subst (λ t. IsClosing t closing) (from_offset bytes offset) closes;
   len_is = refl;
 }
 
-pub no_end : (bytes : List ℕ) (place : ℕ) → ((n : ℕ) → ¬ IsClosing (take (length bytes - place) (drop place bytes)) n)
-    → ((r : Range ℕ × ℕ) → ¬ IsTitledEnd bytes place r.0 r.1) → (title : Option (Range ℕ)) (len : ℕ)
-    → ¬ IsTailEnd bytes place title len
-no_end bytes place unclosed untitled None len is =
-    unclosed is.closing (subst (λ t. IsClosing t is.closing) (sym (from_place bytes place)) is.closes)
-no_end bytes place unclosed untitled (Some title) len is = untitled (title, len) is
+pub no_end : (bytes : List ℕ) (offset : ℕ) → ((n : ℕ) → ¬ IsClosing (take (length bytes - offset) (drop offset bytes)) n)
+    → ((r : Range ℕ × ℕ) → ¬ IsTitledEnd bytes offset r.0 r.1) → (title : Option (Range ℕ)) (len : ℕ)
+    → ¬ IsTailEnd bytes offset title len
+no_end bytes offset unclosed untitled None len is =
+    unclosed is.closing (subst (λ t. IsClosing t is.closing) (sym (from_offset bytes offset)) is.closes)
+no_end bytes offset unclosed untitled (Some title) len is = untitled (title, len) is
 
 -- a title that may be cut out, where a text may be cut before it
-pub title_cut : (bytes : List ℕ) (place : ℕ) (title : Option (Range ℕ))
-    → IfSome title (λ t. IsUtf8 bytes → IsCharBoundary bytes place → IsCutAt bytes t)
-    → (IsUtf8 bytes → IsCharBoundary bytes place) → IfSome title (λ t. IsUtf8 bytes → IsCutAt bytes t)
-title_cut bytes place None cut at = tt
-title_cut bytes place (Some title) cut at = λ utf8. cut utf8 (at utf8)
+pub title_cut : (bytes : List ℕ) (offset : ℕ) (title : Option (Range ℕ))
+    → IfSome title (λ t. IsUtf8 bytes → IsCharBoundary bytes offset → IsCutAt bytes t)
+    → (IsUtf8 bytes → IsCharBoundary bytes offset) → IfSome title (λ t. IsUtf8 bytes → IsCutAt bytes t)
+title_cut bytes offset None cut at = tt
+title_cut bytes offset (Some title) cut at = λ utf8. cut utf8 (at utf8)
 
 -- An empty tail
 pub empty_found : (bytes : List ℕ) (closing : ℕ) → bytes ≡ 40 ∷ drop 1 bytes
@@ -221,7 +221,7 @@ empty_found bytes closing opens closes = record {
   after = drop 1 bytes;
   closing = closing;
   opens = opens;
-  closes = subst (λ t. IsClosing t closing) (from_place bytes 1) closes;
+  closes = subst (λ t. IsClosing t closing) (from_offset bytes 1) closes;
   untitled = refl;
   len_is = refl;
   destination_begins = refl;
@@ -232,7 +232,7 @@ empty_found bytes closing opens closes = record {
 pub no_empty : (bytes : List ℕ) → bytes ≡ 40 ∷ drop 1 bytes
     → ((n : ℕ) → ¬ IsClosing (take (length bytes - 1) (drop 1 bytes)) n) → (tail : LinkTail) → ¬ IsEmptyTail bytes tail
 no_empty bytes opens none tail is =
-    let after : is.after ≡ take (length bytes - 1) (drop 1 bytes) = ap (drop 1) (sym is.opens ∙ opens) ∙ sym (from_place bytes 1) in
+    let after : is.after ≡ take (length bytes - 1) (drop 1 bytes) = ap (drop 1) (sym is.opens ∙ opens) ∙ sym (from_offset bytes 1) in
     none is.closing (subst (λ t. IsClosing t is.closing) after is.closes)
 
 -- So a tail is what has a destination, or none.

@@ -21,10 +21,10 @@ pub one_closing : (text : List ℕ) (n n' : ℕ) → IsClosing text n → IsClos
 one_closing text n n' is is' =
     (closing_only text (gap_length text) refl n is).0 ∙ sym (closing_only text (gap_length text) refl n' is').0
 
-one_titled_end : (text : List ℕ) (place : ℕ) (title : Range ℕ) (len : ℕ) (title' : Range ℕ) (len' : ℕ)
-    → IsTitledEnd text place title len → IsTitledEnd text place title' len' → (title ≡ title') × (len ≡ len')
-one_titled_end text place title len title' len' is is' =
-    let same = one_separated_title text place title title' is.is_titled is'.is_titled in
+one_titled_end : (text : List ℕ) (offset : ℕ) (title : Range ℕ) (len : ℕ) (title' : Range ℕ) (len' : ℕ)
+    → IsTitledEnd text offset title len → IsTitledEnd text offset title' len' → (title ≡ title') × (len ≡ len')
+one_titled_end text offset title len title' len' is is' =
+    let same = one_separated_title text offset title title' is.is_titled is'.is_titled in
     let end : title.end ≡ title'.end = ap (λ (t : Range ℕ). t.end) same in
     let closing =
     one_closing (drop (title.end + 1) text) is.closing is'.closing is.closes
@@ -32,12 +32,12 @@ one_titled_end text place title len title' len' is is' =
     (same, omega (arith, is.len_is, is'.len_is, end, closing))
 
 -- a title does not begin with what closes the tail
-closes_no_title : (text : List ℕ) (place : ℕ) (title : Range ℕ) (len n : ℕ) → IsTitledEnd text place title len
-    → IsClosing (drop place text) n → ⊥
-closes_no_title text place title len n is closes =
+closes_no_title : (text : List ℕ) (offset : ℕ) (title : Range ℕ) (len n : ℕ) → IsTitledEnd text offset title len
+    → IsClosing (drop offset text) n → ⊥
+closes_no_title text offset title len n is closes =
     let titled = is.is_titled in
     let gap =
-    one_gap (drop place text) titled.gap titled.rest closes.gap (41 ∷ closes.rest) titled.parts closes.parts titled.is_gap
+    one_gap (drop offset text) titled.gap titled.rest closes.gap (41 ∷ closes.rest) titled.parts closes.parts titled.is_gap
     closes.is_gap (title_solid titled.rest titled.taken titled.is_title) (closing_solid closes.rest) in
     let front : titled.is_title.opening ∷ titled.is_title.after ≡ 41 ∷ closes.rest = sym titled.is_title.opens ∙ gap.1 in
     let byte : titled.is_title.opening ≡ 41 = cc in
@@ -45,15 +45,15 @@ closes_no_title text place title len n is closes =
     subst (λ b. closing_of b ≡ Some titled.is_title.closing) byte titled.is_title.matching in
     cc
 
-one_tail_end : (text : List ℕ) (place : ℕ) (title title' : Option (Range ℕ)) (len len' : ℕ) → IsTailEnd text place title len
-    → IsTailEnd text place title' len' → (title ≡ title') × (len ≡ len')
-one_tail_end text place None None len len' is is' =
-    let closing = one_closing (drop place text) is.closing is'.closing is.closes is'.closes in
+one_tail_end : (text : List ℕ) (offset : ℕ) (title title' : Option (Range ℕ)) (len len' : ℕ) → IsTailEnd text offset title len
+    → IsTailEnd text offset title' len' → (title ≡ title') × (len ≡ len')
+one_tail_end text offset None None len len' is is' =
+    let closing = one_closing (drop offset text) is.closing is'.closing is.closes is'.closes in
     (refl, omega (arith, is.len_is, is'.len_is, closing))
-one_tail_end text place None (Some title') len len' is is' = absurd (closes_no_title text place title' len' is.closing is' is.closes)
-one_tail_end text place (Some title) None len len' is is' = absurd (closes_no_title text place title len is'.closing is is'.closes)
-one_tail_end text place (Some title) (Some title') len len' is is' =
-    let same = one_titled_end text place title len title' len' is is' in
+one_tail_end text offset None (Some title') len len' is is' = absurd (closes_no_title text offset title' len' is.closing is' is.closes)
+one_tail_end text offset (Some title) None len len' is is' = absurd (closes_no_title text offset title len is'.closing is is'.closes)
+one_tail_end text offset (Some title) (Some title') len len' is is' =
+    let same = one_titled_end text offset title len title' len' is is' in
     (ap (λ t. Some t) same.0, same.1)
 
 one_filled : (most : ℕ) (text : List ℕ) (tail tail' : LinkTail) → IsFilledTail most text tail → IsFilledTail most text tail' → tail ≡ tail'
@@ -68,13 +68,13 @@ one_filled most text tail tail' is is' =
     (subst (λ t. IsLinkDestination most t is'.taken is'.raw) (sym gap.1) is'.is_destination) in
     let taken : is.taken ≡ is'.taken = ap (λ (r : ℕ × List ℕ). r.0) found in
     let bracket : bracket_count is.rest ≡ bracket_count is'.rest = ap bracket_count gap.1 in
-    let place : 1 + length is.gap + is.taken ≡ 1 + length is'.gap + is'.taken = omega (arith, gap.0, taken) in
+    let offset : 1 + length is.gap + is.taken ≡ 1 + length is'.gap + is'.taken = omega (arith, gap.0, taken) in
     let end =
     one_tail_end text (1 + length is'.gap + is'.taken) tail.title tail'.title tail.len tail'.len
-    (subst (λ p. IsTailEnd text p tail.title tail.len) place is.ends) is'.ends in
+    (subst (λ p. IsTailEnd text p tail.title tail.len) offset is.ends) is'.ends in
     same_tail
     (same_range (omega (arith, is.destination_begins, is'.destination_begins, gap.0, bracket))
-    (omega (arith, is.destination_ends, is'.destination_ends, place, bracket)))
+    (omega (arith, is.destination_ends, is'.destination_ends, offset, bracket)))
     end.0 end.1
 
 one_empty : (text : List ℕ) (tail tail' : LinkTail) → IsEmptyTail text tail → IsEmptyTail text tail' → tail ≡ tail'

@@ -1,4 +1,4 @@
--- Labels at a place, and the targets of links.
+-- Labels at an offset, and the targets of links.
 use Rattle.std.proofs.Common.{◌-◌, take, ℕ, nat_eq, nat_lt, IsTrue, ◌↔◌, Bool, true, false, List, ◌≡◌, ◌≤◌, ◌+◌, ◌∙◌, sym, ap, subst, arith, refl, drop}
 use Rattle.std.proofs.Common.{length, codes, Option, Some, None}
 use Rattle.std.proofs.Common.{if◌then◌else◌}
@@ -10,9 +10,9 @@ use Rattle.markdown_scanners_tree.specs.SomeExactly.{SomeExactly}
 use Rattle.markdown_scanners_tree.specs.linklabel.Label.{Label, Bracketed, IsLabel, label_between, is_label_content}
 use Rattle.markdown_scanners_tree.specs.linklabel.Label.{bracketed, kept_units}
 use Rattle.markdown_scanners_tree.specs.Kept.{kept_text}
-use Rattle.markdown_scanners_tree.proofs.ForCallers.{one_label_unskipped, place_of_rest, cut_behind_front, front_found}
+use Rattle.markdown_scanners_tree.proofs.ForCallers.{one_label_unskipped, offset_of_rest, cut_after_front, front_found}
 use Rattle.std.specs.declared.ops.Range.{Range}
-use Rattle.markdown_scanners_tree.proofs.PrefixLemmas.{from_place}
+use Rattle.markdown_scanners_tree.proofs.PrefixLemmas.{from_offset}
 use Rattle.markdown_scanners_tree.specs.scanners.reference_definitions.ReferenceDefinition.{IsCutAt}
 use Rattle.markdown_inlines.specs.Links.{shifted, Known, IsLabelAt, IsKnownLabel, IsTarget, HasNoTail, HasNoLabelAfter}
 use Rattle.markdown_inlines.specs.declared.links.LinkTarget.{LinkTarget}
@@ -29,28 +29,28 @@ between-some (Some b) label is =
     omega (arith, ap (λ (l : Label). l.len) same)
 
 -- a text may be cut where these ASCII bytes end
-pub cut_behind_bytes : (text front : List ℕ) (place : ℕ) → IsUtf8 text → IsCharBoundary text place
-    → starts_with nat_eq (drop place text) front ≡ true → list_all (λ b. nat_lt b 128) front ≡ true
-    → IsCharBoundary text (place + length front)
-cut_behind_bytes text front place utf8 at begins ascii =
-    place_of_rest _ text place (length front) refl utf8 (λ _. at)
-    (λ rest. cut_behind_front (drop place text) (length front) rest (front_found (drop place text) front begins ascii))
+pub cut_after_bytes : (text front : List ℕ) (offset : ℕ) → IsUtf8 text → IsCharBoundary text offset
+    → starts_with nat_eq (drop offset text) front ≡ true → list_all (λ b. nat_lt b 128) front ≡ true
+    → IsCharBoundary text (offset + length front)
+cut_after_bytes text front offset utf8 at begins ascii =
+    offset_of_rest _ text offset (length front) refl utf8 (λ _. at)
+    (λ rest. cut_after_front (drop offset text) (length front) rest (front_found (drop offset text) front begins ascii))
 
 -- where the rest of a text may be cut, so may the text
-pub moved_cut : (text : List ℕ) (place : ℕ) (range : Range ℕ) → IsUtf8 text → IsCharBoundary text place
-    → (IsUtf8 (take (length text - place) (drop place text)) → IsCutAt (take (length text - place) (drop place text)) range)
-    → IsCutAt text (shifted place range)
-moved_cut text place range utf8 at cut =
-    let rest = from_place text place in (
-      place_of_rest _ text place range.start rest utf8 (λ _. at) (λ u. (cut u).0),
-      place_of_rest _ text place range.end rest utf8 (λ _. at) (λ u. (cut u).1),
+pub moved_cut : (text : List ℕ) (offset : ℕ) (range : Range ℕ) → IsUtf8 text → IsCharBoundary text offset
+    → (IsUtf8 (take (length text - offset) (drop offset text)) → IsCutAt (take (length text - offset) (drop offset text)) range)
+    → IsCutAt text (shifted offset range)
+moved_cut text offset range utf8 at cut =
+    let rest = from_offset text offset in (
+      offset_of_rest _ text offset range.start rest utf8 (λ _. at) (λ u. (cut u).0),
+      offset_of_rest _ text offset range.end rest utf8 (λ _. at) (λ u. (cut u).1),
     )
 
 -- a label has its right bracket at least
 pub label_some : (answers : List ℕ → ℕ → Type 0) (source : List ℕ) (label : Label) → IsLabel answers source false label → 1 ≤ label.len
 label_some answers source label is = between-some (bracketed (kept_units (kept_text source is.skips))) label is.label_is
 
--- one label stands at a place
+-- one label stands at an offset
 pub one_label_at : (text : List ℕ) (from close close' : ℕ) (name name' : List ℕ)
     → IsLabelAt text from close name → IsLabelAt text from close' name' → (close ≡ close') × (name ≡ name')
 one_label_at text from close close' name name' is is' =
@@ -60,10 +60,10 @@ one_label_at text from close close' name name' is is' =
     )
 
 -- where no label stands after a left bracket, none follows
-pub none_after : {A : Type 0} (text : List ℕ) (place : ℕ) (found : Option A)
-    → IfNone found ((close : ℕ) (name : List ℕ) → ¬ IsLabelAt text (place + 1) close name) → IfNone found (HasNoLabelAfter text place)
-none_after text place None none = λ close is. none close is.1 is.2
-none_after text place (Some found) none = tt
+pub none_after : {A : Type 0} (text : List ℕ) (offset : ℕ) (found : Option A)
+    → IfNone found ((close : ℕ) (name : List ℕ) → ¬ IsLabelAt text (offset + 1) close name) → IfNone found (HasNoLabelAfter text offset)
+none_after text offset None none = λ close is. none close is.1 is.2
+none_after text offset (Some found) none = tt
 
 module _ (text : List ℕ) (known : Known) (from close : ℕ) where
   -- the label that stands there is defined

@@ -11,7 +11,7 @@ use Rattle.markdown_scanners_tree.specs.Bytes.{is_letter, is_line_ending, is_whi
 use Rattle.markdown_scanners_tree.specs.Kept.{KeptByte, in_line, at_line_end, bytes_of, line_endings}
 use Rattle.markdown_scanners_tree.specs.scanners.html_tag.HtmlTag.{IsTag, IsOpenTag, IsClosingTag, IsTagName, IsLineEndingOrNone, is_tag_name_byte}
 use Rattle.markdown_scanners_tree.specs.scanners.html_tag.HtmlTag.{joined}
-use Rattle.markdown_scanners_tree.specs.scanners.html_tag.KeptTag.{IsKeptTag, place_after, tag_buffer}
+use Rattle.markdown_scanners_tree.specs.scanners.html_tag.KeptTag.{IsKeptTag, offset_after, tag_buffer}
 use Rattle.markdown_scanners_tree.specs.scanners.tag_state.private.TagMachine.{ends_source_line}
 use Rattle.markdown_scanners_tree.proofs.KeptReading.{Step, ends_alone, step_in_line, step_at_end, nothing_read, last_read}
 use Rattle.markdown_scanners_tree.proofs.KeptStep.{Reads}
@@ -20,46 +20,46 @@ use Rattle.markdown_inlines.specs.Pieces.{IsTagPiece}
 
 -- a byte that is kept, before these
 abbrev kept_byte : ℕ → ℕ → List ℕ → KeptByte
-kept_byte place b rest = cond (ends_source_line (b ∷ rest)) (at_line_end b place) (in_line b place)
+kept_byte offset b rest = cond (ends_source_line (b ∷ rest)) (at_line_end b offset) (in_line b offset)
 
--- the bytes of a front, each at its place
+-- the bytes of a front, each at its offset
 abbrev marked : ℕ → List ℕ → List ℕ → List KeptByte
-marked place [] rest = []
-marked place (b ∷ bs) rest = kept_byte place b (bs ++ rest) ∷ marked (place + 1) bs rest
+marked offset [] rest = []
+marked offset (b ∷ bs) rest = kept_byte offset b (bs ++ rest) ∷ marked (offset + 1) bs rest
 
-kept_bytes : (ends : Bool) (place b : ℕ) → (cond ends (at_line_end b place) (in_line b place)).byte ≡ b
-kept_bytes true place b = refl
-kept_bytes false place b = refl
+kept_bytes : (ends : Bool) (offset b : ℕ) → (cond ends (at_line_end b offset) (in_line b offset)).byte ≡ b
+kept_bytes true offset b = refl
+kept_bytes false offset b = refl
 
-kept_place : (ends : Bool) (place b : ℕ) → (cond ends (at_line_end b place) (in_line b place)).place ≡ place
-kept_place true place b = refl
-kept_place false place b = refl
+kept_offset : (ends : Bool) (offset b : ℕ) → (cond ends (at_line_end b offset) (in_line b offset)).offset ≡ offset
+kept_offset true offset b = refl
+kept_offset false offset b = refl
 
-bytes_marked : (place : ℕ) (bs rest : List ℕ) → bytes_of (marked place bs rest) ≡ bs
-bytes_marked place [] rest = refl
-bytes_marked place (b ∷ bs) rest =
-    ap (λ x. x ∷ bytes_of (marked (place + 1) bs rest)) (kept_bytes (ends_source_line (b ∷ (bs ++ rest))) place b)
-    ∙ ap (λ xs. b ∷ xs) (bytes_marked (place + 1) bs rest)
+bytes_marked : (offset : ℕ) (bs rest : List ℕ) → bytes_of (marked offset bs rest) ≡ bs
+bytes_marked offset [] rest = refl
+bytes_marked offset (b ∷ bs) rest =
+    ap (λ x. x ∷ bytes_of (marked (offset + 1) bs rest)) (kept_bytes (ends_source_line (b ∷ (bs ++ rest))) offset b)
+    ∙ ap (λ xs. b ∷ xs) (bytes_marked (offset + 1) bs rest)
 
 -- ---- how many line endings are kept
 
 abbrev AtMost : ℕ → List ℕ → Type 0
-AtMost n bytes = (place : ℕ) (rest : List ℕ) → line_endings (marked place bytes rest) ≤ n
+AtMost n bytes = (offset : ℕ) (rest : List ℕ) → line_endings (marked offset bytes rest) ≤ n
 
-marked_append : (place : ℕ) (xs bs rest : List ℕ)
-    → marked place (xs ++ bs) rest ≡ marked place xs (bs ++ rest) ++ marked (place + length xs) bs rest
-marked_append place [] bs rest = ap (λ p. marked p bs rest) (sym (add-zero place))
-marked_append place (a ∷ xs) bs rest =
-    let later : place + 1 + length xs ≡ place + length (a ∷ xs) = omega arith in
-    ap (λ r. kept_byte place a r ∷ marked (place + 1) (xs ++ bs) rest) (append_assoc xs bs rest)
-    ∙ ap (λ ks. kept_byte place a (xs ++ (bs ++ rest)) ∷ ks) (marked_append (place + 1) xs bs rest)
-    ∙ ap (λ p. kept_byte place a (xs ++ (bs ++ rest)) ∷ (marked (place + 1) xs (bs ++ rest) ++ marked p bs rest)) later
+marked_append : (offset : ℕ) (xs bs rest : List ℕ)
+    → marked offset (xs ++ bs) rest ≡ marked offset xs (bs ++ rest) ++ marked (offset + length xs) bs rest
+marked_append offset [] bs rest = ap (λ p. marked p bs rest) (sym (add-zero offset))
+marked_append offset (a ∷ xs) bs rest =
+    let later : offset + 1 + length xs ≡ offset + length (a ∷ xs) = omega arith in
+    ap (λ r. kept_byte offset a r ∷ marked (offset + 1) (xs ++ bs) rest) (append_assoc xs bs rest)
+    ∙ ap (λ ks. kept_byte offset a (xs ++ (bs ++ rest)) ∷ ks) (marked_append (offset + 1) xs bs rest)
+    ∙ ap (λ p. kept_byte offset a (xs ++ (bs ++ rest)) ∷ (marked (offset + 1) xs (bs ++ rest) ++ marked p bs rest)) later
 
 both : (m n : ℕ) (xs bs : List ℕ) → AtMost m xs → AtMost n bs → AtMost (m + n) (xs ++ bs)
-both m n xs bs first second place rest =
-    let split = ap line_endings (marked_append place xs bs rest)
-    ∙ sum_by-append (λ (k : KeptByte). cond k.ends_line 1 0) (marked place xs (bs ++ rest)) (marked (place + length xs) bs rest) in
-    omega (arith, split, first place (bs ++ rest), second (place + length xs) rest)
+both m n xs bs first second offset rest =
+    let split = ap line_endings (marked_append offset xs bs rest)
+    ∙ sum_by-append (λ (k : KeptByte). cond k.ends_line 1 0) (marked offset xs (bs ++ rest)) (marked (offset + length xs) bs rest) in
+    omega (arith, split, first offset (bs ++ rest), second (offset + length xs) rest)
 
 plain_end : (b : ℕ) (rest : List ℕ) → is_line_ending b ≡ false → ends_source_line (b ∷ rest) ≡ false
 plain_end b rest plain = elim (cases_Bool (ends_source_line (b ∷ rest))) [
@@ -78,40 +78,40 @@ module _ (test : ℕ → Bool) (lf : test 10 ≡ false) (cr : test 13 ≡ false)
   ]
 
   no_endings : (bytes : List ℕ) → AllPass test bytes → AtMost 0 bytes
-  no_endings [] all place rest = omega arith
-  no_endings (b ∷ bytes) all place rest =
+  no_endings [] all offset rest = omega arith
+  no_endings (b ∷ bytes) all offset rest =
       let plain = plain_end b (bytes ++ rest) (no_ending b (AllPass-head test b bytes all)) in
-      let first : kept_byte place b (bytes ++ rest) ≡ in_line b place =
-      ap (λ ends. cond ends (at_line_end b place) (in_line b place)) plain in
-      let split = ap (λ k. line_endings (k ∷ marked (place + 1) bytes rest)) first
-      ∙ sum_by-append (λ (k : KeptByte). cond k.ends_line 1 0) (in_line b place ∷ []) (marked (place + 1) bytes rest) in
-      omega (arith, split, no_endings bytes (AllPass-tail test b bytes all) (place + 1) rest)
+      let first : kept_byte offset b (bytes ++ rest) ≡ in_line b offset =
+      ap (λ ends. cond ends (at_line_end b offset) (in_line b offset)) plain in
+      let split = ap (λ k. line_endings (k ∷ marked (offset + 1) bytes rest)) first
+      ∙ sum_by-append (λ (k : KeptByte). cond k.ends_line 1 0) (in_line b offset ∷ []) (marked (offset + 1) bytes rest) in
+      omega (arith, split, no_endings bytes (AllPass-tail test b bytes all) (offset + 1) rest)
 
-one_byte : (ends : Bool) (place b : ℕ) → line_endings (cond ends (at_line_end b place) (in_line b place) ∷ []) ≤ 1
-one_byte true place b = omega arith
-one_byte false place b = omega arith
+one_byte : (ends : Bool) (offset b : ℕ) → line_endings (cond ends (at_line_end b offset) (in_line b offset) ∷ []) ≤ 1
+one_byte true offset b = omega arith
+one_byte false offset b = omega arith
 
 one_ending : (ending : List ℕ) → IsLineEndingOrNone ending → AtMost 1 ending
-one_ending ending (inl is) = subst (AtMost 1) (sym is) (λ place rest. omega arith)
-one_ending ending (inr (inl is)) = subst (AtMost 1) (sym is) (λ place rest. one_byte (ends_source_line (10 ∷ rest)) place 10)
-one_ending ending (inr (inr (inl is))) = subst (AtMost 1) (sym is) (λ place rest. one_byte (ends_source_line (13 ∷ rest)) place 13)
-one_ending ending (inr (inr (inr is))) = subst (AtMost 1) (sym is) (λ place rest. omega arith)
+one_ending ending (inl is) = subst (AtMost 1) (sym is) (λ offset rest. omega arith)
+one_ending ending (inr (inl is)) = subst (AtMost 1) (sym is) (λ offset rest. one_byte (ends_source_line (10 ∷ rest)) offset 10)
+one_ending ending (inr (inr (inl is))) = subst (AtMost 1) (sym is) (λ offset rest. one_byte (ends_source_line (13 ∷ rest)) offset 13)
+one_ending ending (inr (inr (inr is))) = subst (AtMost 1) (sym is) (λ offset rest. omega arith)
 
 name_endings : (name : List ℕ) → IsTagName name → AtMost 0 name
 name_endings [] is = absurd is
 name_endings (b ∷ name) is =
-    both 0 0 (b ∷ []) name (λ place rest.
+    both 0 0 (b ∷ []) name (λ offset rest.
     (let plain = plain_end b rest (no_ending is_letter refl refl b is.0) in
-    let first : kept_byte place b rest ≡ in_line b place =
-    ap (λ ends. cond ends (at_line_end b place) (in_line b place)) plain in
+    let first : kept_byte offset b rest ≡ in_line b offset =
+    ap (λ ends. cond ends (at_line_end b offset) (in_line b offset)) plain in
     let count = ap (λ k. line_endings (k ∷ [])) first in
     omega (arith, count))) (no_endings is_tag_name_byte refl refl name is.1)
 
 opener_endings : AtMost 0 (codes "</")
-opener_endings place rest = omega arith
+opener_endings offset rest = omega arith
 
 bracket_endings : AtMost 0 (codes ">")
-bracket_endings place rest = omega arith
+bracket_endings offset rest = omega arith
 
 closing_endings : (tag : List ℕ) → IsClosingTag tag → AtMost 1 tag
 closing_endings tag is =
@@ -153,47 +153,47 @@ tag_ends tag (inr is) =
 
 -- ---- reading without skips
 
-record ReadFront (place : ℕ) (source : List ℕ) (prefix : List KeptByte) : Type 0 where
+record ReadFront (offset : ℕ) (source : List ℕ) (prefix : List KeptByte) : Type 0 where
   pub after : List ℕ
   pub parts : source ≡ bytes_of prefix ++ after
-  pub end : place_after place prefix ≡ place + length prefix
+  pub end : offset_after offset prefix ≡ offset + length prefix
 
 module _ (answers : List ℕ → ℕ → Type 0) (nothing : (rest : List ℕ) → answers rest 0)
     (only : (rest : List ℕ) (n : ℕ) → answers rest n → n ≡ 0) where
-  step : (place b : ℕ) (bs : List ℕ) → Step answers place (b ∷ bs) (kept_byte place b bs) (place + 1) bs
-  step place b bs = elim (cases_Bool (ends_source_line (b ∷ bs))) [
+  step : (offset b : ℕ) (bs : List ℕ) → Step answers offset (b ∷ bs) (kept_byte offset b bs) (offset + 1) bs
+  step offset b bs = elim (cases_Bool (ends_source_line (b ∷ bs))) [
     | inl ends ↦ (
-        let is : kept_byte place b bs ≡ at_line_end b place = ap (λ t. cond t (at_line_end b place) (in_line b place)) ends in
-        subst (λ k. Step answers place (b ∷ bs) k (place + 1) bs) (sym is)
-        (step_at_end answers place b bs 0 ends (nothing bs) (only bs))
+        let is : kept_byte offset b bs ≡ at_line_end b offset = ap (λ t. cond t (at_line_end b offset) (in_line b offset)) ends in
+        subst (λ k. Step answers offset (b ∷ bs) k (offset + 1) bs) (sym is)
+        (step_at_end answers offset b bs 0 ends (nothing bs) (only bs))
         )
     | inr none ↦ (
-        let is : kept_byte place b bs ≡ in_line b place = ap (λ t. cond t (at_line_end b place) (in_line b place)) none in
-        subst (λ k. Step answers place (b ∷ bs) k (place + 1) bs) (sym is) (step_in_line answers place b bs none)
+        let is : kept_byte offset b bs ≡ in_line b offset = ap (λ t. cond t (at_line_end b offset) (in_line b offset)) none in
+        subst (λ k. Step answers offset (b ∷ bs) k (offset + 1) bs) (sym is) (step_in_line answers offset b bs none)
         )
   ]
 
-  front : (place : ℕ) (source : List ℕ) (prefix : List KeptByte) → Reads answers place source prefix → ReadFront place source prefix
-  front place source [] r = record { after = source; parts = refl; end = sym (add-zero place) }
-  front place [] (c ∷ t) r = absurd (nothing_read answers place c t r)
-  front place (b ∷ bs) (c ∷ t) r =
-      let read = (step place b bs).back c t r in
-      let more = front (place + 1) bs t read.1 in
-      let byte : c.byte ≡ b = ap (λ k. k.byte) read.0 ∙ kept_bytes (ends_source_line (b ∷ bs)) place b in
-      let at : c.place ≡ place = ap (λ k. k.place) read.0 ∙ kept_place (ends_source_line (b ∷ bs)) place b in
-      let later : place + 1 + length t ≡ place + length (c ∷ t) = omega arith in
+  front : (offset : ℕ) (source : List ℕ) (prefix : List KeptByte) → Reads answers offset source prefix → ReadFront offset source prefix
+  front offset source [] r = record { after = source; parts = refl; end = sym (add-zero offset) }
+  front offset [] (c ∷ t) r = absurd (nothing_read answers offset c t r)
+  front offset (b ∷ bs) (c ∷ t) r =
+      let read = (step offset b bs).back c t r in
+      let more = front (offset + 1) bs t read.1 in
+      let byte : c.byte ≡ b = ap (λ k. k.byte) read.0 ∙ kept_bytes (ends_source_line (b ∷ bs)) offset b in
+      let at : c.offset ≡ offset = ap (λ k. k.offset) read.0 ∙ kept_offset (ends_source_line (b ∷ bs)) offset b in
+      let later : offset + 1 + length t ≡ offset + length (c ∷ t) = omega arith in
       record {
         after = more.after;
         parts = ap (λ x. x ∷ bs) (sym byte) ∙ ap (λ xs. c.byte ∷ xs) more.parts;
-        end = ap (λ p. place_after (p + 1) t) at ∙ more.end ∙ later;
+        end = ap (λ p. offset_after (p + 1) t) at ∙ more.end ∙ later;
       }
 
-  reads : (place : ℕ) (bs rest : List ℕ) → Reads answers place ((bs ++ 62 ∷ []) ++ rest) (marked place (bs ++ 62 ∷ []) rest)
-  reads place [] rest = last_read answers place 62 rest refl
-  reads place (b ∷ []) rest =
-      (step place b (62 ∷ rest)).forth (in_line 62 (place + 1)) [] (reads (place + 1) [] rest)
-  reads place (b ∷ c ∷ bs) rest =
-      (step place b ((c ∷ (bs ++ 62 ∷ [])) ++ rest)).forth _ _ (reads (place + 1) (c ∷ bs) rest)
+  reads : (offset : ℕ) (bs rest : List ℕ) → Reads answers offset ((bs ++ 62 ∷ []) ++ rest) (marked offset (bs ++ 62 ∷ []) rest)
+  reads offset [] rest = last_read answers offset 62 rest refl
+  reads offset (b ∷ []) rest =
+      (step offset b (62 ∷ rest)).forth (in_line 62 (offset + 1)) [] (reads (offset + 1) [] rest)
+  reads offset (b ∷ c ∷ bs) rest =
+      (step offset b ((c ∷ (bs ++ 62 ∷ [])) ++ rest)).forth _ _ (reads (offset + 1) (c ∷ bs) rest)
 
   either : (bytes : List ℕ) (endings : ℕ) → IsOpenTag bytes ⊎ (IsClosingTag bytes × (endings ≤ 1)) → IsTag bytes
   either bytes endings (inl is) = inl is
@@ -214,7 +214,7 @@ module _ (answers : List ℕ → ℕ → Type 0) (nothing : (rest : List ℕ) �
       })
 
   pub tag_of_source : (source : List ℕ) (prefix : List KeptByte) (n : ℕ) → IsKeptTag answers source prefix
-      → n ≡ place_after 0 prefix → IsTagPiece source n
+      → n ≡ offset_after 0 prefix → IsTagPiece source n
   tag_of_source source prefix n is ends =
       let f = whole source prefix is in
       let sized : length (bytes_of prefix) ≡ length prefix = length-map prefix (λ x. x.byte) in
@@ -229,11 +229,11 @@ module _ (answers : List ℕ → ℕ → Type 0) (nothing : (rest : List ℕ) �
   pub no_buffer : (source : List ℕ) (prefix : List KeptByte) → IsKeptTag answers source prefix → tag_buffer prefix ≡ []
   no_buffer source prefix is =
       let f = whole source prefix is in
-      let same : place_after 0 prefix ≡ length prefix = omega (arith, f.end) in
-      ap (λ t. cond t [] (bytes_of prefix)) (eq-eqb (place_after 0 prefix) (length prefix) same)
+      let same : offset_after 0 prefix ≡ length prefix = omega (arith, f.end) in
+      ap (λ t. cond t [] (bytes_of prefix)) (eq-eqb (offset_after 0 prefix) (length prefix) same)
 
   pub kept_of_source : (source : List ℕ) (n : ℕ) → IsTagPiece source n
-      → (prefix : List KeptByte) × IsKeptTag answers source prefix × (place_after 0 prefix ≡ n)
+      → (prefix : List KeptByte) × IsKeptTag answers source prefix × (offset_after 0 prefix ≡ n)
   kept_of_source source n is =
       let ends = tag_ends is.tag is.is_tag in
       let prefix = marked 0 is.tag is.after in
@@ -251,7 +251,7 @@ module _ (answers : List ℕ → ℕ → Type 0) (nothing : (rest : List ℕ) �
 
 -- the same, with what a scan answers first
 module _ (answers : List ℕ → ℕ → Type 0) (source : List ℕ) where
-  pub source_tag : (prefix : List KeptByte) → IsKeptTag answers source prefix → (n : ℕ) → n ≡ place_after 0 prefix
+  pub source_tag : (prefix : List KeptByte) → IsKeptTag answers source prefix → (n : ℕ) → n ≡ offset_after 0 prefix
       → ((rest : List ℕ) → answers rest 0) → ((rest : List ℕ) (n : ℕ) → answers rest n → n ≡ 0) → IsTagPiece source n
   source_tag prefix is n ends nothing only = tag_of_source answers nothing only source prefix n is ends
 

@@ -14,7 +14,7 @@ use Rattle.markdown_scanners_tree.specs.Bytes.{begins_with, is_letter, is_punctu
 use Rattle.markdown_scanners_tree.specs.Handler.{Answers, IsSteady}
 use Rattle.markdown_scanners_tree.specs.inline_html.InlineHtml.{find_at}
 use Rattle.markdown_scanners_tree.specs.scanners.html_tag.HtmlTag.{IsTag, IsTagName}
-use Rattle.markdown_scanners_tree.specs.scanners.html_tag.KeptTag.{place_after}
+use Rattle.markdown_scanners_tree.specs.scanners.html_tag.KeptTag.{offset_after}
 use Rattle.markdown_scanners_tree.proofs.ForCallers.{first-line_ending, one_reference, one_tag, one_uri}
 use Rattle.markdown_scanners_tree.specs.scanners.links.Autolink.{IsUriAutolink}
 use Rattle.markdown_inlines.specs.Emails.{IsEmailAutolink}
@@ -75,63 +75,63 @@ one_tag_piece rest n n' is is' =
     let kept = kept_of_source (Answers zero_handler tt) skips_nothing only_nothing rest n is in
     let kept' = kept_of_source (Answers zero_handler tt) skips_nothing only_nothing rest n' is' in
     let same = one_tag zero_handler (Some (lent tt)) rest kept.0 kept'.0 is_steady kept.1 kept'.1 in
-    sym kept.2 ∙ ap (place_after 0) same ∙ kept'.2
+    sym kept.2 ∙ ap (offset_after 0) same ∙ kept'.2
 
 -- the second byte of a tag, and of what else begins with `<`
 name_first : (name rest : List ℕ) → IsTagName name → is_letter (get_or (name ++ rest) 0 0) ≡ true
 name_first [] rest is = absurd is
 name_first (b ∷ name) rest is = is.0
 
-tag_second : (text : List ℕ) (place n : ℕ) → IsTagPiece (drop place text) n
-    → (is_letter (get_or text (place + 1) 0) ≡ true) ⊎ (get_or text (place + 1) 0 ≡ 47)
-tag_second text place n is = by is.is_tag
+tag_second : (text : List ℕ) (offset n : ℕ) → IsTagPiece (drop offset text) n
+    → (is_letter (get_or text (offset + 1) 0) ≡ true) ⊎ (get_or text (offset + 1) 0 ≡ 47)
+tag_second text offset n is = by is.is_tag
   where
-    at : get_or text (place + 1) 0 ≡ get_or (is.tag ++ is.after) 1 0
-    at = sym (get_or-drop place text 1 0) ∙ ap (λ t. get_or t 1 0) is.parts
+    at : get_or text (offset + 1) 0 ≡ get_or (is.tag ++ is.after) 1 0
+    at = sym (get_or-drop offset text 1 0) ∙ ap (λ t. get_or t 1 0) is.parts
 
-    by : IsTag is.tag → (is_letter (get_or text (place + 1) 0) ≡ true) ⊎ (get_or text (place + 1) 0 ≡ 47)
+    by : IsTag is.tag → (is_letter (get_or text (offset + 1) 0) ≡ true) ⊎ (get_or text (offset + 1) 0 ≡ 47)
     by (inl opens) =
         let whole = ap (λ t. get_or (t ++ is.after) 1 0) opens.parts in
         let name = ap (λ t. get_or t 0 0) (append_assoc opens.name _ is.after) in
         inl (ap is_letter (at ∙ whole ∙ name) ∙ name_first opens.name _ opens.named)
     by (inr closes) = inr (at ∙ ap (λ t. get_or (t ++ is.after) 1 0) closes.parts)
 
-no_tag_there : (text : List ℕ) (place n end : ℕ) → IsTagPiece (drop place text) n → find_at text (place + 2) ≡ Some end → ⊥
-no_tag_there text place n end is found = clash (tag_second text place n is) (opener_of_find text place end found)
+no_tag_there : (text : List ℕ) (offset n end : ℕ) → IsTagPiece (drop offset text) n → find_at text (offset + 2) ≡ Some end → ⊥
+no_tag_there text offset n end is found = clash (tag_second text offset n is) (opener_of_find text offset end found)
   where
-    clash : (is_letter (get_or text (place + 1) 0) ≡ true) ⊎ (get_or text (place + 1) 0 ≡ 47)
-        → (get_or text (place + 1) 0 ≡ 33) ⊎ (get_or text (place + 1) 0 ≡ 63) → ⊥
+    clash : (is_letter (get_or text (offset + 1) 0) ≡ true) ⊎ (get_or text (offset + 1) 0 ≡ 47)
+        → (get_or text (offset + 1) 0 ≡ 33) ⊎ (get_or text (offset + 1) 0 ≡ 63) → ⊥
     clash (inl letter) (inl mark) = let lost : true ≡ false = sym letter ∙ ap is_letter mark in cc
     clash (inl letter) (inr mark) = let lost : true ≡ false = sym letter ∙ ap is_letter mark in cc
     clash (inr slash) (inl mark) = omega (arith, slash, mark)
     clash (inr slash) (inr mark) = omega (arith, slash, mark)
 
-one_html : (text : List ℕ) (place n n' : ℕ) → IsHtmlPiece text place n → IsHtmlPiece text place n' → n ≡ n'
-one_html text place n n' (inl is) (inl is') = one_tag_piece (drop place text) n n' is is'
-one_html text place n n' (inl is) (inr found) = absurd (no_tag_there text place n (place + n') is found)
-one_html text place n n' (inr found) (inl is) = absurd (no_tag_there text place n' (place + n) is found)
-one_html text place n n' (inr found) (inr found') =
-    let same : Some (place + n) ≡ Some (place + n') = sym found ∙ found' in
-    let ends : place + n ≡ place + n' = cc in
+one_html : (text : List ℕ) (offset n n' : ℕ) → IsHtmlPiece text offset n → IsHtmlPiece text offset n' → n ≡ n'
+one_html text offset n n' (inl is) (inl is') = one_tag_piece (drop offset text) n n' is is'
+one_html text offset n n' (inl is) (inr found) = absurd (no_tag_there text offset n (offset + n') is found)
+one_html text offset n n' (inr found) (inl is) = absurd (no_tag_there text offset n' (offset + n) is found)
+one_html text offset n n' (inr found) (inr found') =
+    let same : Some (offset + n) ≡ Some (offset + n') = sym found ∙ found' in
+    let ends : offset + n ≡ offset + n' = cc in
     omega (arith, ends)
 
 -- ---- all kinds
 
-module _ (asked : Extensions) (text : List ℕ) (from place len' : ℕ) where
+module _ (asked : Extensions) (text : List ℕ) (from offset len' : ℕ) where
   abbrev Is : PieceKind → ℕ → PieceKind → Type 0
-  Is kind len kind' = BeginsAt asked text from place kind' len' → (kind ≡ kind') × (len ≡ len')
+  Is kind len kind' = BeginsAt asked text from offset kind' len' → (kind ≡ kind') × (len ≡ len')
 
-  same_class : (kind kind' : PieceKind) (len : ℕ) → BeginsAt asked text from place kind len → BeginsAt asked text from place kind' len'
+  same_class : (kind kind' : PieceKind) (len : ℕ) → BeginsAt asked text from offset kind len → BeginsAt asked text from offset kind' len'
       → kind_class kind ≡ kind_class kind'
-  same_class kind kind' len b b' = sym (begins_class asked text from place kind len b) ∙ begins_class asked text from place kind' len' b'
+  same_class kind kind' len b b' = sym (begins_class asked text from offset kind len b) ∙ begins_class asked text from offset kind' len' b'
 
-  first_is : (bytes bytes' : List ℕ) → occurs_at text bytes place ≡ true → occurs_at text bytes' place ≡ true
+  first_is : (bytes bytes' : List ℕ) → occurs_at text bytes offset ≡ true → occurs_at text bytes' offset ≡ true
       → 0 < length bytes → 0 < length bytes' → get_or bytes 0 0 ≡ get_or bytes' 0 0
   first_is bytes bytes' is is' some some' =
-      sym ((OccursAt-true text bytes place is).reads 0 some) ∙ (OccursAt-true text bytes' place is').reads 0 some'
+      sym ((OccursAt-true text bytes offset is).reads 0 some) ∙ (OccursAt-true text bytes' offset is').reads 0 some'
 
-  pub one_piece : (kind : PieceKind) (len : ℕ) (kind' : PieceKind) → BeginsAt asked text from place kind len
-      → BeginsAt asked text from place kind' len' → (kind ≡ kind') × (len ≡ len')
+  pub one_piece : (kind : PieceKind) (len : ℕ) (kind' : PieceKind) → BeginsAt asked text from offset kind len
+      → BeginsAt asked text from offset kind' len' → (kind ≡ kind') × (len ≡ len')
   one_piece Text len kind' b b' = absurd b
   one_piece Escape len kind' b b' =
       only_break (Is Escape len) kind' (same_class Escape kind' len b b')
@@ -151,12 +151,12 @@ module _ (asked : Extensions) (text : List ℕ) (from place len' : ℕ) where
       only_reference (Is Reference len) kind' (same_class Reference kind' len b b')
       (λ is. (
         refl,
-        ap (λ r. r.0) (one_reference html_entity (drop place text) (len, b.meaning) (len', is.meaning) b.is_reference is.is_reference),
+        ap (λ r. r.0) (one_reference html_entity (drop offset text) (len, b.meaning) (len', is.meaning) b.is_reference is.is_reference),
       )) b'
   one_piece (Code backticks) len kind' b b' =
       only_code (Is (Code backticks) len) kind' (same_class (Code backticks) kind' len b b')
       (λ backticks' is.
-      let same = one_code_span (drop place text) b.1.span is.1.span b.1.is_span is.1.is_span in (
+      let same = one_code_span (drop offset text) b.1.span is.1.span b.1.is_span is.1.is_span in (
         ap (λ n. Code n) (b.1.strings ∙ ap (λ s. s.content.start) same ∙ sym is.1.strings),
         b.1.counted ∙ ap (λ s. s.len) same ∙ sym is.1.counted,
       )) b'
@@ -177,21 +177,21 @@ module _ (asked : Extensions) (text : List ℕ) (from place len' : ℕ) where
       (λ is. absurd (is.1 len b.1)) b'
   one_piece Html len kind' b b' =
       only_angle (Is Html len) kind' (same_class Html kind' len b b')
-      (λ is. absurd (b.0 len' is)) (λ is. absurd (b.1 len' is.1)) (λ is. (refl, one_html text place len len' b.2 is.2)) b'
+      (λ is. absurd (b.0 len' is)) (λ is. absurd (b.1 len' is.1)) (λ is. (refl, one_html text offset len len' b.2 is.2)) b'
   one_piece (Delimiters run) len kind' b b' =
       only_delimiters (Is (Delimiters run) len) kind' (same_class (Delimiters run) kind' len b b')
       (λ run' is.
-      let same = one_run_of asked text place run run' b.0 is.0 in
+      let same = one_run_of asked text offset run run' b.0 is.0 in
       (ap (λ r. Delimiters r) same, b.1 ∙ ap (λ r. r.count) same ∙ sym is.1)) b'
   one_piece LinkOpener len kind' b b' =
       only_bracket (Is LinkOpener len) kind' (same_class LinkOpener kind' len b b')
-      (λ is. (refl, omega (arith, one_opener_end asked text place (place + len) (place + len') b.1 is.1)))
+      (λ is. (refl, omega (arith, one_opener_end asked text offset (offset + len) (offset + len') b.1 is.1)))
       (λ is. absurd (omega (arith, first_is (codes "[") (codes "![") b.0 is.0 (omega arith) (omega arith))))
       (λ is. absurd (omega (arith, first_is (codes "[") (codes "]") b.0 is.0 (omega arith) (omega arith)))) b'
   one_piece ImageOpener len kind' b b' =
       only_bracket (Is ImageOpener len) kind' (same_class ImageOpener kind' len b b')
       (λ is. absurd (omega (arith, first_is (codes "![") (codes "[") b.0 is.0 (omega arith) (omega arith))))
-      (λ is. (refl, omega (arith, one_opener_end asked text (place + 1) (place + len) (place + len') b.1 is.1)))
+      (λ is. (refl, omega (arith, one_opener_end asked text (offset + 1) (offset + len) (offset + len') b.1 is.1)))
       (λ is. absurd (omega (arith, first_is (codes "![") (codes "]") b.0 is.0 (omega arith) (omega arith)))) b'
   one_piece Closer len kind' b b' =
       only_bracket (Is Closer len) kind' (same_class Closer kind' len b b')
@@ -199,7 +199,7 @@ module _ (asked : Extensions) (text : List ℕ) (from place len' : ℕ) where
       (λ is. absurd (omega (arith, first_is (codes "]") (codes "![") b.0 is.0 (omega arith) (omega arith))))
       (λ is. (refl, b.1 ∙ sym is.1)) b'
 
--- the next piece begins at one place
+-- the next piece begins at one offset
 same_start : (asked : Extensions) (text : List ℕ) (from start start' : ℕ) (kind kind' : PieceKind) (len len' : ℕ) → from ≤ start → from ≤ start'
     → HasOnlyText asked text from start → HasOnlyText asked text from start' → BeginsAt asked text from start kind len
     → BeginsAt asked text from start' kind' len' → start ≡ start'

@@ -158,9 +158,9 @@ no_kind Closer e = omega (arith, e)
 
 -- ---- the first byte of each kind
 
-front : (text : List ℕ) (place b : ℕ) (rest : List ℕ) → drop place text ≡ b ∷ rest → get_or text place 0 ≡ b
-front text place b rest is =
-    ap (λ k. get_or text k 0) (sym (add-zero place)) ∙ sym (get_or-drop place text 0 0) ∙ ap (λ t. get_or t 0 0) is
+front : (text : List ℕ) (offset b : ℕ) (rest : List ℕ) → drop offset text ≡ b ∷ rest → get_or text offset 0 ≡ b
+front text offset b rest is =
+    ap (λ k. get_or text k 0) (sym (add-zero offset)) ∙ sym (get_or-drop offset text 0 0) ∙ ap (λ t. get_or t 0 0) is
 
 pub not_false_true : (b : Bool) → not b ≡ false → b ≡ true
 not_false_true true e = refl
@@ -183,12 +183,12 @@ break_byte rest break is = elim is.is_before [
   | inr spaced ↦ spaced_byte is.before is.after rest is.ending break.len is.parts spaced.0 is.ends is.goes_on
 ]
 
-break_class : (text : List ℕ) (place : ℕ) (break : LineBreak) → IsLineBreak (drop place text) break
-    → byte_class (get_or text place 0) ≡ 1
-break_class text place break is =
-    let at : get_or text place 0 ≡ get_or (drop place text) 0 0 =
-    ap (λ k. get_or text k 0) (sym (add-zero place)) ∙ sym (get_or-drop place text 0 0) in
-    let opens : opens_break (get_or text place 0) ≡ true = ap opens_break at ∙ break_byte (drop place text) break is in
+break_class : (text : List ℕ) (offset : ℕ) (break : LineBreak) → IsLineBreak (drop offset text) break
+    → byte_class (get_or text offset 0) ≡ 1
+break_class text offset break is =
+    let at : get_or text offset 0 ≡ get_or (drop offset text) 0 0 =
+    ap (λ k. get_or text k 0) (sym (add-zero offset)) ∙ sym (get_or-drop offset text 0 0) in
+    let opens : opens_break (get_or text offset 0) ≡ true = ap opens_break at ∙ break_byte (drop offset text) break is in
     rw opens refl
 
 tag_byte : (rest tag after : List ℕ) → rest ≡ tag ++ after → IsTag tag → get_or rest 0 0 ≡ less_than_sign
@@ -218,77 +218,77 @@ no_mark text p false false b q none =
 pub no_opener : (text : List ℕ) (p : ℕ) → opener_before text p ≡ None → find_at text p ≡ None
 no_opener text p none = no_mark text p _ _ refl refl none
 
-pub mark_front : (mark : ℕ) (text : List ℕ) (place : ℕ) → ends_opener mark text (place + 2) ≡ true
-    → get_or text place 0 ≡ less_than_sign
-mark_front mark text place ends =
-    let same : place ≡ place + 2 - 2 + 0 = omega arith in
-    let occurs = OccursAt-true text (less_than_sign ∷ mark ∷ []) (place + 2 - 2) (and_parts (nat_le 2 (place + 2)) _ ends).1 in
+pub mark_front : (mark : ℕ) (text : List ℕ) (offset : ℕ) → ends_opener mark text (offset + 2) ≡ true
+    → get_or text offset 0 ≡ less_than_sign
+mark_front mark text offset ends =
+    let same : offset ≡ offset + 2 - 2 + 0 = omega arith in
+    let occurs = OccursAt-true text (less_than_sign ∷ mark ∷ []) (offset + 2 - 2) (and_parts (nat_le 2 (offset + 2)) _ ends).1 in
     ap (λ k. get_or text k 0) same ∙ occurs.reads 0 (omega arith)
 
-pub find_front : (text : List ℕ) (place end : ℕ) → find_at text (place + 2) ≡ Some end → get_or text place 0 ≡ less_than_sign
-find_front text place end found = elim (cases_Bool (ends_opener 33 text (place + 2))) [
-  | inl bang ↦ mark_front 33 text place bang
-  | inr none ↦ mark_front 63 text place
-      (opener_found text (place + 2) end false (ends_opener 63 text (place + 2)) none refl found)
+pub find_front : (text : List ℕ) (offset end : ℕ) → find_at text (offset + 2) ≡ Some end → get_or text offset 0 ≡ less_than_sign
+find_front text offset end found = elim (cases_Bool (ends_opener 33 text (offset + 2))) [
+  | inl bang ↦ mark_front 33 text offset bang
+  | inr none ↦ mark_front 63 text offset
+      (opener_found text (offset + 2) end false (ends_opener 63 text (offset + 2)) none refl found)
 ]
 
-pub mark_second : (mark : ℕ) (text : List ℕ) (place : ℕ) → ends_opener mark text (place + 2) ≡ true → get_or text (place + 1) 0 ≡ mark
-mark_second mark text place ends =
-    let same : place + 1 ≡ place + 2 - 2 + 1 = omega arith in
-    let occurs = OccursAt-true text (less_than_sign ∷ mark ∷ []) (place + 2 - 2) (and_parts (nat_le 2 (place + 2)) _ ends).1 in
+pub mark_second : (mark : ℕ) (text : List ℕ) (offset : ℕ) → ends_opener mark text (offset + 2) ≡ true → get_or text (offset + 1) 0 ≡ mark
+mark_second mark text offset ends =
+    let same : offset + 1 ≡ offset + 2 - 2 + 1 = omega arith in
+    let occurs = OccursAt-true text (less_than_sign ∷ mark ∷ []) (offset + 2 - 2) (and_parts (nat_le 2 (offset + 2)) _ ends).1 in
     ap (λ k. get_or text k 0) same ∙ occurs.reads 1 (omega arith)
 
 -- the byte after the `<` of a find
-pub opener_of_find : (text : List ℕ) (place end : ℕ) → find_at text (place + 2) ≡ Some end
-    → (get_or text (place + 1) 0 ≡ 33) ⊎ (get_or text (place + 1) 0 ≡ 63)
-opener_of_find text place end found = elim (cases_Bool (ends_opener 33 text (place + 2))) [
-  | inl bang ↦ inl (mark_second 33 text place bang)
-  | inr none ↦ inr (mark_second 63 text place
-      (opener_found text (place + 2) end false (ends_opener 63 text (place + 2)) none refl found))
+pub opener_of_find : (text : List ℕ) (offset end : ℕ) → find_at text (offset + 2) ≡ Some end
+    → (get_or text (offset + 1) 0 ≡ 33) ⊎ (get_or text (offset + 1) 0 ≡ 63)
+opener_of_find text offset end found = elim (cases_Bool (ends_opener 33 text (offset + 2))) [
+  | inl bang ↦ inl (mark_second 33 text offset bang)
+  | inr none ↦ inr (mark_second 63 text offset
+      (opener_found text (offset + 2) end false (ends_opener 63 text (offset + 2)) none refl found))
 ]
 
 -- neither a tag nor a find
-pub no_html : (text : List ℕ) (place : ℕ) → ((n : ℕ) → ¬ IsTagPiece (drop place text) n) → find_at text (place + 2) ≡ None
-    → (n : ℕ) → ¬ IsHtmlPiece text place n
-no_html text place no_tag none n (inl is) = no_tag n is
-no_html text place no_tag none n (inr found) = let lost : None ≡ Some (place + n) = sym none ∙ found in cc
+pub no_html : (text : List ℕ) (offset : ℕ) → ((n : ℕ) → ¬ IsTagPiece (drop offset text) n) → find_at text (offset + 2) ≡ None
+    → (n : ℕ) → ¬ IsHtmlPiece text offset n
+no_html text offset no_tag none n (inl is) = no_tag n is
+no_html text offset no_tag none n (inr found) = let lost : None ≡ Some (offset + n) = sym none ∙ found in cc
 
-pub html_front : (text : List ℕ) (place len : ℕ) → IsHtmlPiece text place len → get_or text place 0 ≡ less_than_sign
-html_front text place len (inl is) =
-    ap (λ k. get_or text k 0) (sym (add-zero place)) ∙ sym (get_or-drop place text 0 0)
-    ∙ tag_byte (drop place text) is.tag is.after is.parts is.is_tag
-html_front text place len (inr found) = find_front text place (place + len) found
+pub html_front : (text : List ℕ) (offset len : ℕ) → IsHtmlPiece text offset len → get_or text offset 0 ≡ less_than_sign
+html_front text offset len (inl is) =
+    ap (λ k. get_or text k 0) (sym (add-zero offset)) ∙ sym (get_or-drop offset text 0 0)
+    ∙ tag_byte (drop offset text) is.tag is.after is.parts is.is_tag
+html_front text offset len (inr found) = find_front text offset (offset + len) found
 
-occurs_front : (text bytes : List ℕ) (place : ℕ) → occurs_at text bytes place ≡ true → 0 < length bytes
-    → get_or text place 0 ≡ get_or bytes 0 0
-occurs_front text bytes place occurs some =
-    ap (λ k. get_or text k 0) (sym (add-zero place)) ∙ (OccursAt-true text bytes place occurs).reads 0 some
+occurs_front : (text bytes : List ℕ) (offset : ℕ) → occurs_at text bytes offset ≡ true → 0 < length bytes
+    → get_or text offset 0 ≡ get_or bytes 0 0
+occurs_front text bytes offset occurs some =
+    ap (λ k. get_or text k 0) (sym (add-zero offset)) ∙ (OccursAt-true text bytes offset occurs).reads 0 some
 
 pub run_class : (byte : ℕ) → (byte ≡ asterisk) ⊎ (byte ≡ underscore) → byte_class byte ≡ 5
 run_class byte (inl is) = ap byte_class is
 run_class byte (inr is) = ap byte_class is
 
-pub begins_class : (asked : Extensions) (text : List ℕ) (from place : ℕ) (kind : PieceKind) (len : ℕ) → BeginsAt asked text from place kind len
-    → byte_class (get_or text place 0) ≡ kind_class kind
-begins_class asked text from place Text len begins = absurd begins
-begins_class asked text from place Escape len begins = ap byte_class (front text place _ _ begins.parts)
-begins_class asked text from place HardBreak len begins = break_class text place _ begins
-begins_class asked text from place SoftBreak len begins = break_class text place _ begins
-begins_class asked text from place Reference len begins = ap byte_class (front text place _ _ begins.opens)
-begins_class asked text from place (Code backticks) len begins =
-    ap byte_class (ap (λ k. get_or text k 0) (sym (add-zero place)) ∙ sym (get_or-drop place text 0 0)
+pub begins_class : (asked : Extensions) (text : List ℕ) (from offset : ℕ) (kind : PieceKind) (len : ℕ) → BeginsAt asked text from offset kind len
+    → byte_class (get_or text offset 0) ≡ kind_class kind
+begins_class asked text from offset Text len begins = absurd begins
+begins_class asked text from offset Escape len begins = ap byte_class (front text offset _ _ begins.parts)
+begins_class asked text from offset HardBreak len begins = break_class text offset _ begins
+begins_class asked text from offset SoftBreak len begins = break_class text offset _ begins
+begins_class asked text from offset Reference len begins = ap byte_class (front text offset _ _ begins.opens)
+begins_class asked text from offset (Code backticks) len begins =
+    ap byte_class (ap (λ k. get_or text k 0) (sym (add-zero offset)) ∙ sym (get_or-drop offset text 0 0)
     ∙ begins.1.is_span.opens.backticks 0 begins.1.is_span.opens.some)
-begins_class asked text from place Uri len begins = ap byte_class (front text place _ _ begins.opens)
-begins_class asked text from place Email len begins = ap byte_class (front text place _ _ begins.1.opens)
-begins_class asked text from place Html len begins = ap byte_class (html_front text place len begins.2)
-begins_class asked text from place (Delimiters run) len begins =
+begins_class asked text from offset Uri len begins = ap byte_class (front text offset _ _ begins.opens)
+begins_class asked text from offset Email len begins = ap byte_class (front text offset _ _ begins.1.opens)
+begins_class asked text from offset Html len begins = ap byte_class (html_front text offset len begins.2)
+begins_class asked text from offset (Delimiters run) len begins =
     elim begins.0 [
-      | inl is ↦ ap byte_class (sym (byte_at text place run is)) ∙ run_class run.byte is.delimiter
-      | inr is ↦ ap byte_class (sym (tilde_at text place run is.1) ∙ is.1.delimiter)
+      | inl is ↦ ap byte_class (sym (byte_at text offset run is)) ∙ run_class run.byte is.delimiter
+      | inr is ↦ ap byte_class (sym (tilde_at text offset run is.1) ∙ is.1.delimiter)
     ]
-begins_class asked text from place LinkOpener len begins = ap byte_class (occurs_front text (codes "[") place begins.0 (omega arith))
-begins_class asked text from place ImageOpener len begins = ap byte_class (occurs_front text (codes "![") place begins.0 (omega arith))
-begins_class asked text from place Closer len begins = ap byte_class (occurs_front text (codes "]") place begins.0 (omega arith))
+begins_class asked text from offset LinkOpener len begins = ap byte_class (occurs_front text (codes "[") offset begins.0 (omega arith))
+begins_class asked text from offset ImageOpener len begins = ap byte_class (occurs_front text (codes "![") offset begins.0 (omega arith))
+begins_class asked text from offset Closer len begins = ap byte_class (occurs_front text (codes "]") offset begins.0 (omega arith))
 
 -- the class of a byte that a test accepts
 pub break_byte_class : (b : ℕ) → opens_break b ≡ true → byte_class b ≡ 1
@@ -307,10 +307,10 @@ bracket_class b opens = elim (cases_Bool (b == exclamation_mark)) [
 ]
 
 -- no piece begins with a plain byte
-pub plain_begins_none : (asked : Extensions) (text : List ℕ) (from place : ℕ) → is_plain (get_or text place 0) ≡ true → (kind : PieceKind) (len : ℕ)
-    → ¬ BeginsAt asked text from place kind len
-plain_begins_none asked text from place plain kind len begins =
-    no_kind kind (sym (plain_class (get_or text place 0) plain) ∙ begins_class asked text from place kind len begins)
+pub plain_begins_none : (asked : Extensions) (text : List ℕ) (from offset : ℕ) → is_plain (get_or text offset 0) ≡ true → (kind : PieceKind) (len : ℕ)
+    → ¬ BeginsAt asked text from offset kind len
+plain_begins_none asked text from offset plain kind len begins =
+    no_kind kind (sym (plain_class (get_or text offset 0) plain) ∙ begins_class asked text from offset kind len begins)
 
 pub plain_from : (b : ℕ) → opens_break b ≡ false → opens_bracket b ≡ false → opens_long b ≡ false → (b ≡ ampersand → ⊥)
     → is_plain b ≡ true
@@ -323,5 +323,5 @@ plain_from b no_break no_bracket short no_reference = by (opens_break b) (opens_
     by false false false e f g = rw (ne_eqb b ampersand no_reference) refl
 
 -- an escape begins with a backslash
-pub escape_front : (text : List ℕ) (place len : ℕ) → IsEscape (drop place text) len → get_or text place 0 ≡ backslash
-escape_front text place len is = front text place backslash _ is.parts
+pub escape_front : (text : List ℕ) (offset len : ℕ) → IsEscape (drop offset text) len → get_or text offset 0 ≡ backslash
+escape_front text offset len is = front text offset backslash _ is.parts

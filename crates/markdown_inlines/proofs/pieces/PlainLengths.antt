@@ -16,7 +16,7 @@ passes_here : (b : ℕ) (bs : List ℕ) → IsPassed (b ∷ bs) 0 → (is_plain 
 passes_here b bs (inl plain) = rw plain refl
 passes_here b bs (inr is) = rw (is.0, is.1) refl
 
--- the bytes before a place are passed over, and the one there is not
+-- the bytes before an offset are passed over, and the one there is not
 plain_length_is : (bytes : List ℕ) (n : ℕ) → n ≤ length bytes → ((j : ℕ) → j < n → IsPassed bytes j) → (n < length bytes → ¬ IsPassed bytes n)
     → plain_length bytes ≡ n
 plain_length_is [] n within each stops = omega (arith, within)
@@ -74,8 +74,8 @@ module _ (bytes : List ℕ) (end : ℕ) (counted : end ≡ prefix_len is_plain_o
         ∙ (sym (get_or-drop (suc j) bytes (k - suc j) 0)
         ∙ eqb-true _ 32 (prefix_len_passes is_space (drop (suc j) bytes) (k - suc j) 0 (omega (arith, low, high))))
 
-    behind_spaces : suc j + spaces < length bytes → (get_or bytes (suc j + spaces) 0 == 32) ≡ false
-    behind_spaces inside =
+    after_spaces : suc j + spaces < length bytes → (get_or bytes (suc j + spaces) 0 == 32) ≡ false
+    after_spaces inside =
         ap is_space (sym (get_or-drop (suc j) bytes spaces 0))
         ∙ prefix_len_stops is_space (drop (suc j) bytes) 0 (omega (arith, inside, length-drop (suc j) bytes))
 
@@ -88,7 +88,7 @@ module _ (bytes : List ℕ) (end : ℕ) (counted : end ≡ prefix_len is_plain_o
         let inside : suc j + spaces < length bytes = omega (arith, early, within) in
         let here = suc j + spaces in
         ending_is ∙ begins_at is_line_ending bytes here inside
-        ∙ plain_ends_none (get_or bytes here 0) (plain_or_space (get_or bytes here 0) (spaced here early) (behind_spaces inside))
+        ∙ plain_ends_none (get_or bytes here 0) (plain_or_space (get_or bytes here 0) (spaced here early) (after_spaces inside))
 
     word_space : (get_or bytes j 0 ≡ 32 → is_before_ending (drop (suc j) bytes) ≡ false) → IsPassed bytes j
     word_space goes_on = elim (cases_Bool (is_plain (get_or bytes j 0))) [

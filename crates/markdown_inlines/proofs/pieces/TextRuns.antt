@@ -9,7 +9,7 @@ use Rattle.std.proofs.Math.ListN.{get_or-eq_default}
 use Rattle.std.proofs.lemmas.List.Sums.{prefix_len_is, prefix_len_passes, prefix_len_stops, prefix_len-le-length}
 use Rattle.markdown_scanners_tree.specs.Bytes.{begins_with, is_line_ending, line_ending}
 use Rattle.markdown_scanners_tree.proofs.ForCallers.{first-line_ending}
-use Rattle.markdown_scanners_tree.proofs.PrefixLemmas.{from_place}
+use Rattle.markdown_scanners_tree.proofs.PrefixLemmas.{from_offset}
 use Rattle.markdown_inlines.specs.LineBreaks.{IsLineBreak}
 use Rattle.markdown_inlines.specs.PieceBytes.{is_before_ending, is_plain, is_word_space, plain_length, run_length}
 use Rattle.markdown_inlines.specs.Pieces.{BeginsAt, HasOnlyText}
@@ -25,23 +25,23 @@ abbrev is_byte : ℕ → ℕ → Bool
 is_byte byte b = b == byte
 
 -- the bytes of a run
-run_passes : (test : ℕ → Bool) (bytes : List ℕ) (place j : ℕ) → j < prefix_len test (drop place bytes)
-    → test (get_or bytes (place + j) 0) ≡ true
-run_passes test bytes place j inside =
-    ap test (sym (get_or-drop place bytes j 0)) ∙ prefix_len_passes test (drop place bytes) j 0 inside
+run_passes : (test : ℕ → Bool) (bytes : List ℕ) (offset j : ℕ) → j < prefix_len test (drop offset bytes)
+    → test (get_or bytes (offset + j) 0) ≡ true
+run_passes test bytes offset j inside =
+    ap test (sym (get_or-drop offset bytes j 0)) ∙ prefix_len_passes test (drop offset bytes) j 0 inside
 
-pub run_byte : (byte : ℕ) (bytes : List ℕ) (place p : ℕ) → place ≤ p → p < place + prefix_len (λ b. b == byte) (drop place bytes)
+pub run_byte : (byte : ℕ) (bytes : List ℕ) (offset p : ℕ) → offset ≤ p → p < offset + prefix_len (λ b. b == byte) (drop offset bytes)
     → get_or bytes p 0 ≡ byte
-run_byte byte bytes place p low high =
-    let at : place + (p - place) ≡ p = omega (arith, low) in
+run_byte byte bytes offset p low high =
+    let at : offset + (p - offset) ≡ p = omega (arith, low) in
     ap (λ k. get_or bytes k 0) (sym at)
-    ∙ eqb-true _ byte (run_passes (λ b. b == byte) bytes place (p - place) (omega (arith, low, high)))
+    ∙ eqb-true _ byte (run_passes (λ b. b == byte) bytes offset (p - offset) (omega (arith, low, high)))
 
-run_stops : (test : ℕ → Bool) (bytes : List ℕ) (place : ℕ) → place + prefix_len test (drop place bytes) < length bytes
-    → test (get_or bytes (place + prefix_len test (drop place bytes)) 0) ≡ false
-run_stops test bytes place inside =
-    ap test (sym (get_or-drop place bytes (prefix_len test (drop place bytes)) 0))
-    ∙ prefix_len_stops test (drop place bytes) 0 (omega (arith, inside, length-drop place bytes))
+run_stops : (test : ℕ → Bool) (bytes : List ℕ) (offset : ℕ) → offset + prefix_len test (drop offset bytes) < length bytes
+    → test (get_or bytes (offset + prefix_len test (drop offset bytes)) 0) ≡ false
+run_stops test bytes offset inside =
+    ap test (sym (get_or-drop offset bytes (prefix_len test (drop offset bytes)) 0))
+    ∙ prefix_len_stops test (drop offset bytes) 0 (omega (arith, inside, length-drop offset bytes))
 
 -- ---- plain bytes, and spaces between words
 spaced_length : (text rest : List ℕ) → text ≡ 32 ∷ rest → before_length text ≡ prefix_len (λ b. b == 32) text
@@ -113,20 +113,20 @@ passed_at (b ∷ bs) j inside = elim (cases_Bool (is_plain b || is_word_space b 
     passed_of b bs zero passes later inside = passed_first b bs passes
     passed_of b bs (suc k) passes later inside = later k (omega (arith, inside))
 
-module _ (bytes : List ℕ) (place plain : ℕ) (counted : plain ≡ plain_length (take (length bytes - place) (drop place bytes))) where
-  case_at : (p : ℕ) → place ≤ p → p < place + plain → IsPassed bytes p
+module _ (bytes : List ℕ) (offset plain : ℕ) (counted : plain ≡ plain_length (take (length bytes - offset) (drop offset bytes))) where
+  case_at : (p : ℕ) → offset ≤ p → p < offset + plain → IsPassed bytes p
   case_at p low high =
-      let at : place + (p - place) ≡ p = omega (arith, low) in
-      let next : place + suc (p - place) ≡ suc p = omega (arith, low) in
-      let all : plain ≡ plain_length (drop place bytes) = counted ∙ ap plain_length (from_place bytes place) in
-      let here = get_or-drop place bytes (p - place) 0 ∙ ap (λ k. get_or bytes k 0) at in
-      let after = drop-drop (suc (p - place)) place bytes ∙ ap (λ k. drop k bytes) next in
-      elim (passed_at (drop place bytes) (p - place) (omega (arith, low, high, all))) [
+      let at : offset + (p - offset) ≡ p = omega (arith, low) in
+      let next : offset + suc (p - offset) ≡ suc p = omega (arith, low) in
+      let all : plain ≡ plain_length (drop offset bytes) = counted ∙ ap plain_length (from_offset bytes offset) in
+      let here = get_or-drop offset bytes (p - offset) 0 ∙ ap (λ k. get_or bytes k 0) at in
+      let after = drop-drop (suc (p - offset)) offset bytes ∙ ap (λ k. drop k bytes) next in
+      elim (passed_at (drop offset bytes) (p - offset) (omega (arith, low, high, all))) [
         | inl is ↦ inl (ap is_plain (sym here) ∙ is)
         | inr is ↦ inr (sym here ∙ is.0, ap is_before_ending (sym after) ∙ is.1)
       ]
 
-  plain_none : (asked : Extensions) (from p : ℕ) → place ≤ p → p < place + plain → (kind : PieceKind) (len : ℕ) → ¬ BeginsAt asked bytes from p kind len
+  plain_none : (asked : Extensions) (from p : ℕ) → offset ≤ p → p < offset + plain → (kind : PieceKind) (len : ℕ) → ¬ BeginsAt asked bytes from p kind len
   plain_none asked from p low high kind len =
       let next : p + 1 ≡ suc p = omega arith in
       elim (case_at p low high) [
@@ -135,7 +135,7 @@ module _ (bytes : List ℕ) (place plain : ℕ) (counted : plain ≡ plain_lengt
       ]
 
   -- none is a backtick or a `<`
-  pub plain_bytes : (p : ℕ) → place ≤ p → p < place + plain → (get_or bytes p 0 ≡ 96 → ⊥) × (get_or bytes p 0 ≡ 60 → ⊥)
+  pub plain_bytes : (p : ℕ) → offset ≤ p → p < offset + plain → (get_or bytes p 0 ≡ 96 → ⊥) × (get_or bytes p 0 ≡ 60 → ⊥)
   plain_bytes p low high = elim (case_at p low high) [
     | inl is ↦ (
       λ tick. (let lost : true ≡ false = sym is ∙ ap is_plain tick in cc),
@@ -144,11 +144,11 @@ module _ (bytes : List ℕ) (place plain : ℕ) (counted : plain ≡ plain_lengt
     | inr is ↦ (λ tick. omega (arith, tick, is.0), λ angle. omega (arith, angle, is.0))
   ]
 
-  pub plain_text : (asked : Extensions) → HasOnlyText asked bytes place (place + plain)
-  plain_text asked p low high kind len = plain_none asked place p low high kind len
+  pub plain_text : (asked : Extensions) → HasOnlyText asked bytes offset (offset + plain)
+  plain_text asked p low high kind len = plain_none asked offset p low high kind len
 
-  pub plain_apart : 0 < plain → get_or bytes (place + plain - 1) 0 ≡ 96 → ⊥
-  plain_apart some is = elim (case_at (place + plain - 1) (omega (arith, some)) (omega (arith, some))) [
+  pub plain_apart : 0 < plain → get_or bytes (offset + plain - 1) 0 ≡ 96 → ⊥
+  plain_apart some is = elim (case_at (offset + plain - 1) (omega (arith, some)) (omega (arith, some))) [
     | inl plain_there ↦ (let lost : true ≡ false = sym plain_there ∙ ap is_plain is in cc)
     | inr spaced ↦ omega (arith, spaced.0, is)
   ]
@@ -161,56 +161,56 @@ code_none asked bytes from p later here before kind len begins =
     (λ backticks is. is.0 later before) begins
 
 -- ---- the rest of spaces
-either_break : (asked : Extensions) (bytes : List ℕ) (from place len : ℕ) (is_hard : Bool)
-    → ((kind : PieceKind) (n : ℕ) → ¬ BeginsAt asked bytes from place kind n)
-    → IsLineBreak (drop place bytes) (record { is_hard = is_hard; len = len }) → ⊥
-either_break asked bytes from place len true none is = none HardBreak len is
-either_break asked bytes from place len false none is = none SoftBreak len is
+either_break : (asked : Extensions) (bytes : List ℕ) (from offset len : ℕ) (is_hard : Bool)
+    → ((kind : PieceKind) (n : ℕ) → ¬ BeginsAt asked bytes from offset kind n)
+    → IsLineBreak (drop offset bytes) (record { is_hard = is_hard; len = len }) → ⊥
+either_break asked bytes from offset len true none is = none HardBreak len is
+either_break asked bytes from offset len false none is = none SoftBreak len is
 
-module _ (asked : Extensions) (bytes : List ℕ) (from place run q : ℕ) (counted : run ≡ prefix_len (λ b. b == 32) (drop place bytes))
-    (none : (kind : PieceKind) (n : ℕ) → ¬ BeginsAt asked bytes from place kind n) (low : place < q) (high : q < place + run) where
-  run_within : run ≤ length (drop place bytes)
-  run_within = omega (arith, counted, prefix_len-le-length (λ b. b == 32) (drop place bytes))
+module _ (asked : Extensions) (bytes : List ℕ) (from offset run q : ℕ) (counted : run ≡ prefix_len (λ b. b == 32) (drop offset bytes))
+    (none : (kind : PieceKind) (n : ℕ) → ¬ BeginsAt asked bytes from offset kind n) (low : offset < q) (high : q < offset + run) where
+  run_within : run ≤ length (drop offset bytes)
+  run_within = omega (arith, counted, prefix_len-le-length (λ b. b == 32) (drop offset bytes))
 
-  fits : place + run ≤ length bytes
-  fits = omega (arith, run_within, length-drop place bytes, low, high)
+  fits : offset + run ≤ length bytes
+  fits = omega (arith, run_within, length-drop offset bytes, low, high)
 
-  space_at : (p : ℕ) → place ≤ p → p < place + run → get_or bytes p 0 ≡ 32
-  space_at p above below = run_byte 32 bytes place p above (omega (arith, counted, below))
+  space_at : (p : ℕ) → offset ≤ p → p < offset + run → get_or bytes p 0 ≡ 32
+  space_at p above below = run_byte 32 bytes offset p above (omega (arith, counted, below))
 
-  spaces_at : (p : ℕ) → place ≤ p → p < place + run → drop p bytes ≡ 32 ∷ drop (p + 1) bytes
+  spaces_at : (p : ℕ) → offset ≤ p → p < offset + run → drop p bytes ≡ 32 ∷ drop (p + 1) bytes
   spaces_at p above below =
       drop_more bytes p 0 (omega (arith, below, fits)) ∙ ap (λ b. b ∷ drop (p + 1) bytes) (space_at p above below)
 
-  left_spaces : prefix_len (λ b. b == 32) (drop q bytes) ≡ place + run - q
+  left_spaces : prefix_len (λ b. b == 32) (drop q bytes) ≡ offset + run - q
   left_spaces =
-      prefix_len_is (λ b. b == 32) (drop q bytes) (place + run - q) 0 (omega (arith, length-drop q bytes, fits, high))
+      prefix_len_is (λ b. b == 32) (drop q bytes) (offset + run - q) 0 (omega (arith, length-drop q bytes, fits, high))
       (λ k inside. ap (λ b. b == 32) (get_or-drop q bytes k 0 ∙ space_at (q + k) (omega (arith, low)) (omega (arith, inside, high))))
       (λ inside.
-      let at : q + (place + run - q) ≡ place + prefix_len (λ b. b == 32) (drop place bytes) = omega (arith, high, counted) in
-      ap (λ b. b == 32) (get_or-drop q bytes (place + run - q) 0 ∙ ap (λ k. get_or bytes k 0) at)
-      ∙ run_stops (λ b. b == 32) bytes place (omega (arith, inside, length-drop q bytes, counted, high)))
+      let at : q + (offset + run - q) ≡ offset + prefix_len (λ b. b == 32) (drop offset bytes) = omega (arith, high, counted) in
+      ap (λ b. b == 32) (get_or-drop q bytes (offset + run - q) 0 ∙ ap (λ k. get_or bytes k 0) at)
+      ∙ run_stops (λ b. b == 32) bytes offset (omega (arith, inside, length-drop q bytes, counted, high)))
 
   break_none : (break : LineBreak) → IsLineBreak (drop q bytes) break → ⊥
   break_none break is =
-      let text = drop place bytes in
+      let text = drop offset bytes in
       let only = before_only (drop q bytes) is.before is.after is.ending break.is_hard is.parts is.is_before is.ends in
-      let before : before_length (drop q bytes) ≡ place + run - q =
+      let before : before_length (drop q bytes) ≡ offset + run - q =
       spaced_length (drop q bytes) (drop (q + 1) bytes) (spaces_at q (omega (arith, low)) high) ∙ left_spaces in
-      let there : q + (place + run - q) ≡ place + run = omega (arith, high) in
+      let there : q + (offset + run - q) ≡ offset + run = omega (arith, high) in
       let after : is.after ≡ drop run text =
-      only.1 ∙ ap (λ k. drop k (drop q bytes)) before ∙ drop-drop (place + run - q) q bytes ∙ ap (λ k. drop k bytes) there
-      ∙ sym (drop-drop run place bytes) in
+      only.1 ∙ ap (λ k. drop k (drop q bytes)) before ∙ drop-drop (offset + run - q) q bytes ∙ ap (λ k. drop k bytes) there
+      ∙ sym (drop-drop run offset bytes) in
       let spaces = prefix_len (λ b. b == 32) (drop is.ending is.after) in
       let ends : Some is.ending ≡ line_ending (take (length text - run) (drop run text)) =
-      sym is.ends ∙ ap line_ending (after ∙ sym (from_place text run)) in
+      sym is.ends ∙ ap line_ending (after ∙ sym (from_offset text run)) in
       let spaced : spaces ≡ prefix_len (λ b. b == 32) (take (length text - (run + is.ending)) (drop (run + is.ending) text)) =
-      ap (prefix_len (λ b. b == 32)) (ap (drop is.ending) after ∙ drop-drop is.ending run text ∙ sym (from_place text (run + is.ending))) in
+      ap (prefix_len (λ b. b == 32)) (ap (drop is.ending) after ∙ drop-drop is.ending run text ∙ sym (from_offset text (run + is.ending))) in
       let all : run ≡ before_length text =
-      counted ∙ sym (spaced_length text (drop (place + 1) bytes) (spaces_at place (omega arith) (omega (arith, low, high)))) in
+      counted ∙ sym (spaced_length text (drop (offset + 1) bytes) (spaces_at offset (omega arith) (omega (arith, low, high)))) in
       let goes_on : run + is.ending + spaces < length text =
-      omega (arith, is.goes_on, is.counted, only.0, before, length-drop q bytes, length-drop place bytes, low, high, fits) in
-      either_break asked bytes from place (run + is.ending + spaces) (before_is_hard text) none
+      omega (arith, is.goes_on, is.counted, only.0, before, length-drop q bytes, length-drop offset bytes, low, high, fits) in
+      either_break asked bytes from offset (run + is.ending + spaces) (before_is_hard text) none
       (break_found text run is.ending spaces all run_within ends spaced goes_on)
 
   space_none : (kind : PieceKind) (len : ℕ) → ¬ BeginsAt asked bytes from q kind len
@@ -244,71 +244,71 @@ run_cases b bs run is =
       ]
     ]
 
-module _ (bytes : List ℕ) (place run plain : ℕ) (low : place < length bytes)
-    (counted : run ≡ run_length (take (length bytes - place) (drop place bytes))) (some : 0 < run)
-    (passed : plain ≡ plain_length (take (length bytes - (place + run)) (drop (place + run) bytes))) where
-  here : drop place bytes ≡ get_or bytes place 0 ∷ drop (place + 1) bytes
-  here = drop_more bytes place 0 low
+module _ (bytes : List ℕ) (offset run plain : ℕ) (low : offset < length bytes)
+    (counted : run ≡ run_length (take (length bytes - offset) (drop offset bytes))) (some : 0 < run)
+    (passed : plain ≡ plain_length (take (length bytes - (offset + run)) (drop (offset + run) bytes))) where
+  here : drop offset bytes ≡ get_or bytes offset 0 ∷ drop (offset + 1) bytes
+  here = drop_more bytes offset 0 low
 
-  case_of_run : ((get_or bytes place 0 ≡ 96) × (run ≡ prefix_len (λ c. c == 96) (drop place bytes)))
-      ⊎ (((get_or bytes place 0 ≡ 32) × (run ≡ prefix_len (λ c. c == 32) (drop place bytes))) ⊎ ((get_or bytes place 0 ≡ 96 → ⊥) × (run ≡ 1)))
+  case_of_run : ((get_or bytes offset 0 ≡ 96) × (run ≡ prefix_len (λ c. c == 96) (drop offset bytes)))
+      ⊎ (((get_or bytes offset 0 ≡ 32) × (run ≡ prefix_len (λ c. c == 32) (drop offset bytes))) ⊎ ((get_or bytes offset 0 ≡ 96 → ⊥) × (run ≡ 1)))
   case_of_run = elim
-      (run_cases (get_or bytes place 0) (drop (place + 1) bytes) run (counted ∙ ap run_length (from_place bytes place ∙ here))) [
+      (run_cases (get_or bytes offset 0) (drop (offset + 1) bytes) run (counted ∙ ap run_length (from_offset bytes offset ∙ here))) [
         | inl is ↦ inl (is.0, is.1 ∙ ap (prefix_len (λ c. c == 96)) (sym here))
         | inr (inl is) ↦ inr (inl (is.0, is.1 ∙ ap (prefix_len (λ c. c == 32)) (sym here)))
         | inr (inr is) ↦ inr (inr is)
       ]
 
-  run_none : (asked : Extensions) (from p : ℕ) → from ≤ place → place < p → p < place + run
-      → ((kind : PieceKind) (len : ℕ) → ¬ BeginsAt asked bytes from place kind len)
+  run_none : (asked : Extensions) (from p : ℕ) → from ≤ offset → offset < p → p < offset + run
+      → ((kind : PieceKind) (len : ℕ) → ¬ BeginsAt asked bytes from offset kind len)
       → (kind : PieceKind) (len : ℕ) → ¬ BeginsAt asked bytes from p kind len
   run_none asked from p below above inside none kind len = elim case_of_run [
     | inl is ↦ code_none asked bytes from p (omega (arith, below, above))
-        (run_byte 96 bytes place p (omega (arith, above)) (omega (arith, is.1, inside)))
-        (run_byte 96 bytes place (p - 1) (omega (arith, above)) (omega (arith, is.1, inside, above))) kind len
-    | inr (inl is) ↦ space_none asked bytes from place run p is.1 none above inside kind len
+        (run_byte 96 bytes offset p (omega (arith, above)) (omega (arith, is.1, inside)))
+        (run_byte 96 bytes offset (p - 1) (omega (arith, above)) (omega (arith, is.1, inside, above))) kind len
+    | inr (inl is) ↦ space_none asked bytes from offset run p is.1 none above inside kind len
     | inr (inr is) ↦ λ begins. omega (arith, is.1, above, inside)
   ]
 
-  pub passed_text : (asked : Extensions) (from : ℕ) → from ≤ place → HasOnlyText asked bytes from place
-      → ((kind : PieceKind) (len : ℕ) → ¬ BeginsAt asked bytes from place kind len) → HasOnlyText asked bytes from (place + run + plain)
-  passed_text asked from below only none p above inside kind len = elim (cases_lt p place) [
+  pub passed_text : (asked : Extensions) (from : ℕ) → from ≤ offset → HasOnlyText asked bytes from offset
+      → ((kind : PieceKind) (len : ℕ) → ¬ BeginsAt asked bytes from offset kind len) → HasOnlyText asked bytes from (offset + run + plain)
+  passed_text asked from below only none p above inside kind len = elim (cases_lt p offset) [
     | inl before ↦ only p above before kind len
-    | inr not_before ↦ elim (cases_lt place p) [
-      | inl after ↦ elim (cases_lt p (place + run)) [
+    | inr not_before ↦ elim (cases_lt offset p) [
+      | inl after ↦ elim (cases_lt p (offset + run)) [
         | inl within ↦ run_none asked from p below after within none kind len
-        | inr behind ↦ plain_none bytes (place + run) plain passed asked from p behind inside kind len
+        | inr following ↦ plain_none bytes (offset + run) plain passed asked from p following inside kind len
       ]
       | inr not_after ↦ (
-          let same : place ≡ p = omega (arith, not_before, not_after) in
+          let same : offset ≡ p = omega (arith, not_before, not_after) in
           subst (λ k. ¬ BeginsAt asked bytes from k kind len) same (none kind len)
           )
     ]
   ]
 
-  run_apart : get_or bytes (place + run) 0 ≡ 96 → get_or bytes (place + run - 1) 0 ≡ 96 → ⊥
+  run_apart : get_or bytes (offset + run) 0 ≡ 96 → get_or bytes (offset + run - 1) 0 ≡ 96 → ⊥
   run_apart at before = elim case_of_run [
-    | inl is ↦ elim (cases_lt (place + run) (length bytes)) [
+    | inl is ↦ elim (cases_lt (offset + run) (length bytes)) [
       | inl inside ↦ (
-          let stops = run_stops (λ c. c == 96) bytes place (omega (arith, inside, is.1)) in
-          let there : place + run ≡ place + prefix_len (λ c. c == 96) (drop place bytes) = omega (arith, is.1) in
+          let stops = run_stops (λ c. c == 96) bytes offset (omega (arith, inside, is.1)) in
+          let there : offset + run ≡ offset + prefix_len (λ c. c == 96) (drop offset bytes) = omega (arith, is.1) in
           let lost : true ≡ false = sym (ap (λ c. c == 96) at) ∙ ap (λ k. get_or bytes k 0 == 96) there ∙ stops in
           cc
           )
       | inr past ↦ omega (arith, at, get_or-eq_default bytes 0 past)
     ]
-    | inr (inl is) ↦ omega (arith, before, run_byte 32 bytes place (place + run - 1) (omega (arith, some)) (omega (arith, is.1, some)))
+    | inr (inl is) ↦ omega (arith, before, run_byte 32 bytes offset (offset + run - 1) (omega (arith, some)) (omega (arith, is.1, some)))
     | inr (inr is) ↦ (
-        let there : place + run - 1 ≡ place = omega (arith, is.1) in
+        let there : offset + run - 1 ≡ offset = omega (arith, is.1) in
         is.0 (ap (λ k. get_or bytes k 0) (sym there) ∙ before)
         )
   ]
 
-  pub passed_apart : get_or bytes (place + run + plain) 0 ≡ 96 → get_or bytes (place + run + plain - 1) 0 ≡ 96 → ⊥
+  pub passed_apart : get_or bytes (offset + run + plain) 0 ≡ 96 → get_or bytes (offset + run + plain - 1) 0 ≡ 96 → ⊥
   passed_apart at before = elim (cases_lt 0 plain) [
-    | inl more ↦ plain_apart bytes (place + run) plain passed more before
+    | inl more ↦ plain_apart bytes (offset + run) plain passed more before
     | inr no_more ↦ (
-        let same : place + run + plain ≡ place + run = omega (arith, no_more) in
+        let same : offset + run + plain ≡ offset + run = omega (arith, no_more) in
         run_apart (ap (λ k. get_or bytes k 0) (sym same) ∙ at) (ap (λ k. get_or bytes (k - 1) 0) (sym same) ∙ before)
         )
   ]

@@ -170,20 +170,21 @@ module _ (known : Known) (old new : Reading) (opener : Opener) (bracket : Piece)
 
 -- what is known with the link of an opener, part by part
 pub with_link_is : (link : Link) (opener : Opener) (reading : Reading) (runs : List Delimiters) (last_link : ℕ)
-    (emphasis : List Emphasis) → runs ≡ take opener.runs reading.runs
+    (links : List (Option Link)) (emphasis : List Emphasis) → runs ≡ take opener.runs reading.runs
     → last_link ≡ (if link.is_image then reading.last_link else link.source.start)
+    → links ≡ slice_set reading.links opener.number (Some link)
     → emphasis ≡ reading.emphasis ++ emphasis_of (drop opener.runs reading.runs)
     → record reading {
       runs = runs;
       last_link = last_link;
-      links = slice_set reading.links opener.number (Some link);
+      links = links;
       emphasis = emphasis;
     } ≡ with_link link opener reading.openers reading
-with_link_is link opener reading runs last_link emphasis runs-are last-is emphasis-is =
+with_link_is link opener reading runs last_link links emphasis runs-are last-is links-are emphasis-is =
     λ i. record reading {
       runs = runs-are i;
       last_link = last-is i;
-      links = slice_set reading.links opener.number (Some link);
+      links = links-are i;
       emphasis = emphasis-is i;
     }
 

@@ -1,12 +1,12 @@
 -- Worked examples: how many bytes are passed over in search of the ends of code spans and of raw HTML.
 use Rattle.std.proofs.Common.{◌≡◌, [], ◌∷◌, refl}
 use Rattle.std.specs.Prelude.{codes}
-use Rattle.markdown_scanners_tree.specs.inline_html.InlineHtml.{declared_at, opening_at, least_place, cost}
+use Rattle.markdown_scanners_tree.specs.inline_html.InlineHtml.{declared_at, opening_at, least_offset, cost}
 use Rattle.markdown_inlines.specs.Searches.{bytes_searched}
 use Rattle.markdown_inlines.specs.declared.pieces.PieceKind.TheVariants as K
 
 unfoldable computing : Unit {0}
-unfolding declared_at opening_at least_place cost
+unfolding declared_at opening_at least_offset cost
 computing = tt
 
 -- strings that nothing closes

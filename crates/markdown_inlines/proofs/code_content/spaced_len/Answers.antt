@@ -1,6 +1,6 @@
 use Rattle.std.proofs.Common.{◌≡◌, ◌+◌, ◌-◌, ◌∙◌, ap, arith, length, take, drop}
 use Rattle.std.proofs.lemmas.List.{drop-drop}
-use Rattle.markdown_scanners_tree.proofs.PrefixLemmas.{from_place}
+use Rattle.markdown_scanners_tree.proofs.PrefixLemmas.{from_offset}
 use Rattle.markdown_inlines.specs.CodeContent.{with_spaces}
 use Rattle.markdown_inlines.proofs.code_content.spaced_len.Goals as goal
 
@@ -8,7 +8,7 @@ pub loop-i-preserved : goal.loop-i-preserved
 loop-i-preserved c =
     let bytes = c.args.bytes.now in
     let i = c.loop-i.i in
-    let here = from_place bytes i in
+    let here = from_offset bytes i in
     let first : length (with_spaces (take (length bytes - i) (drop i bytes))) ≡ length (with_spaces (drop i bytes)) =
     ap (λ t. length (with_spaces t)) here in
     let rest : length (with_spaces (drop 1 (take (length bytes - i) (drop i bytes)))) ≡ length (with_spaces (drop (i + 1) bytes)) =

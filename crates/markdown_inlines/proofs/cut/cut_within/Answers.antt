@@ -25,7 +25,7 @@ loop-piece-init g c =
       subst (λ (l : List Piece). c.within-scanner.result ≡ record {
         text = text;
         asked = c.args.extensions;
-        place = 0;
+        offset = 0;
         searched = pieces_searched text l (unsearched text);
       }) (sym none) c.within-scanner.ensures.start,
       omega arith,
@@ -36,7 +36,7 @@ loop-piece-init g c =
       IsCharBoundary-start text c.utf8.text,
       subst (λ (r : Reading). AreBefore r.openers 0) (sym start) tt,
       subst IsKept (sym start) (start_kept text),
-      subst (λ (l : List Inline). AreWritten c.restart.new.self.links.items (reading_of text c.restart.new.self).openers l 0) (sym c.clear.ensures.items)
+      subst (λ (l : List Inline). AreWritten c.restart.new.self.links (reading_of text c.restart.new.self).openers l 0) (sym c.clear.ensures.items)
           (subst (λ (r : Reading). AreWritten r.links r.openers [] 0) (sym start) start_written),
       sym (ap have_runs none),
     )
@@ -45,8 +45,8 @@ pub read_piece-requires-clause-here : goal.read_piece-requires-clause-here
 read_piece-requires-clause-here g c =
     let is_found = rw c.in-Some.is at c.in_ok-piece.ensures.found in
     let is = c.loop-piece.invariant in
-    next_piece_at c.args.extensions c.args.text.now c.loop-piece.place c.in-Some.piece
-    (subst (λ (s : ReadText). IsNext s.asked s.text s.place c.in-Some.piece) is.0 is_found)
+    next_piece_at c.args.extensions c.args.text.now c.loop-piece.offset c.in-Some.piece
+    (subst (λ (s : ReadText). IsNext s.asked s.text s.offset c.in-Some.piece) is.0 is_found)
 
 pub read_piece-requires-clause-source : goal.read_piece-requires-clause-source
 read_piece-requires-clause-source g c =
@@ -63,9 +63,9 @@ pub read_piece-requires-clause-before : goal.read_piece-requires-clause-before
 read_piece-requires-clause-before g c =
     let is_found = rw c.in-Some.is at c.in_ok-piece.ensures.found in
     let is = c.loop-piece.invariant in
-    let later : c.loop-piece.place ≤ c.in-Some.piece.start =
-    subst (λ (s : ReadText). s.place ≤ c.in-Some.piece.start) is.0 is_found.later in
-    before_later (reading_of c.args.text.now c.loop-piece.buffers.reader).openers c.loop-piece.place c.in-Some.piece.start later is.5
+    let later : c.loop-piece.offset ≤ c.in-Some.piece.start =
+    subst (λ (s : ReadText). s.offset ≤ c.in-Some.piece.start) is.0 is_found.later in
+    before_later (reading_of c.args.text.now c.loop-piece.buffers.reader).openers c.loop-piece.offset c.in-Some.piece.start later is.5
 
 pub read_piece-requires-clause-free : goal.read_piece-requires-clause-free
 read_piece-requires-clause-free g c = c.loop-piece.invariant.7.free
@@ -74,29 +74,29 @@ pub read_piece-requires-clause-new : goal.read_piece-requires-clause-new
 read_piece-requires-clause-new g c =
     let is_found = rw c.in-Some.is at c.in_ok-piece.ensures.found in
     let is = c.loop-piece.invariant in
-    let later : c.loop-piece.place ≤ c.in-Some.piece.start =
-    subst (λ (s : ReadText). s.place ≤ c.in-Some.piece.start) is.0 is_found.later in
+    let later : c.loop-piece.offset ≤ c.in-Some.piece.start =
+    subst (λ (s : ReadText). s.offset ≤ c.in-Some.piece.start) is.0 is_found.later in
     is.7.ended c.in-Some.piece.start later
 
 pub read_to-requires-clause-later : goal.read_to-requires-clause-later
 read_to-requires-clause-later g c =
     let is_read = rw c.in-Some.is at c.in_ok-piece.ensures.read in
-    subst (λ (s : ReadText). s.place ≤ c.in_ok-place.place) (sym is_read) c.in_ok-place.ensures.within.0
+    subst (λ (s : ReadText). s.offset ≤ c.in_ok-offset.offset) (sym is_read) c.in_ok-offset.ensures.within.0
 
 pub read_to-requires-clause-within : goal.read_to-requires-clause-within
 read_to-requires-clause-within g c =
     let is_read = rw c.in-Some.is at c.in_ok-piece.ensures.read in
-    subst (λ text. c.in_ok-place.place ≤ length text)
+    subst (λ text. c.in_ok-offset.offset ≤ length text)
     (sym (ap (λ (s : ReadText). s.text) c.loop-piece.invariant.0) ∙ sym (ap (λ (s : ReadText). s.text) is_read))
-    c.in_ok-place.ensures.within.1
+    c.in_ok-offset.ensures.within.1
 
 pub loop-piece-smaller : goal.loop-piece-smaller
 loop-piece-smaller g c =
     let is_found = rw c.in-Some.is at c.in_ok-piece.ensures.found in
     let is_within = rw c.in-Some.is at c.in_ok-piece.ensures.within in
-    let later : c.loop-piece.place ≤ c.in-Some.piece.start =
-    subst (λ (s : ReadText). s.place ≤ c.in-Some.piece.start) c.loop-piece.invariant.0 is_found.later in
-    omega (arith, later, c.in_ok-place.ensures.within.1, is_within.0, c.in_ok-place.ensures.within.0)
+    let later : c.loop-piece.offset ≤ c.in-Some.piece.start =
+    subst (λ (s : ReadText). s.offset ≤ c.in-Some.piece.start) c.loop-piece.invariant.0 is_found.later in
+    omega (arith, later, c.in_ok-offset.ensures.within.1, is_within.0, c.in_ok-offset.ensures.within.0)
 
 pub loop-piece-preserved : goal.loop-piece-preserved
 loop-piece-preserved g c =
@@ -111,43 +111,43 @@ loop-piece-preserved g c =
     let piece = c.in-Some.piece in
     let inlines = c.loop-piece.buffers.inlines.items in
     let pieces = pieces_of inlines in
-    let end = c.in_ok-place.place in
-    let from = c.loop-piece.place in
+    let end = c.in_ok-offset.offset in
+    let from = c.loop-piece.offset in
     let next = reading_of text c.read_piece.new.buffers.reader in
     let between = text_between from piece.start in
-    let here : IsNext c.args.extensions text from piece = subst (λ (s : ReadText). IsNext s.asked s.text s.place piece) is.0 is_found in
+    let here : IsNext c.args.extensions text from piece = subst (λ (s : ReadText). IsNext s.asked s.text s.offset piece) is.0 is_found in
     let begins : IsCharBoundary text piece.start =
     subst (λ t. IsCharBoundary t piece.start) (ap (λ (s : ReadText). s.text) is.0) is_boundary.0 in
-    let ends = c.in_ok-place.ensures.boundary in
+    let ends = c.in_ok-offset.ensures.boundary in
     let whole : Piece = record piece { end = end } in
     let texted = inlines ++ written [] between in
     let all = c.read_piece.new.buffers.inlines.items in
     let added_one : all ≡ texted ++ written_as piece.kind next.links whole ∷ [] =
-    c.in_ok-place.ensures.written ∙ ap (λ (l : List Inline). l ++ written_as piece.kind next.links whole ∷ []) c.in_ok-push_text.ensures in
+    c.in_ok-offset.ensures.written ∙ ap (λ (l : List Inline). l ++ written_as piece.kind next.links whole ∷ []) c.in_ok-push_text.ensures in
     let pushed : pieces_of all ≡ (pieces ++ between) ++ whole ∷ [] =
     ap pieces_of added_one
     ∙ (pieces_more texted piece.kind next.links whole ∙ ap (λ (l : List Piece). l ++ whole ∷ []) (pieces_text inlines from piece.start)) in (
-      c.read_to.ensures ∙ (ap (λ (s : ReadText). record s { place = end }) is_read
-          ∙ (ap (λ (s : ReadText). record s { place = end; searched = next_searched s.text s.place piece s.searched }) is.0
-          ∙ ap (λ s. record { text = text; asked = c.args.extensions; place = end; searched = s })
-          (next_joined text pieces from end piece (unsearched text) (c.in_ok-place.ensures.searched text)
+      c.read_to.ensures ∙ (ap (λ (s : ReadText). record s { offset = end }) is_read
+          ∙ (ap (λ (s : ReadText). record s { offset = end; searched = next_searched s.text s.offset piece s.searched }) is.0
+          ∙ ap (λ s. record { text = text; asked = c.args.extensions; offset = end; searched = s })
+          (next_joined text pieces from end piece (unsearched text) (c.in_ok-offset.ensures.searched text)
           ∙ ap (λ (l : List Piece). pieces_searched text l (unsearched text)) (sym pushed)))),
-      c.in_ok-place.ensures.within.1,
+      c.in_ok-offset.ensures.within.1,
       (λ later last read. subst (λ (l : List Piece). AreRead setting 0 (at_start text) l last)
           (sym (added pieces between later whole (pieces_of all) pushed))
           (is.2 (between ++ whole ∷ later) last
-          (read_next setting from end reading next piece here c.in_ok-place.ensures.read later last read))),
+          (read_next setting from end reading next piece here c.in_ok-offset.ensures.read later last read))),
       subst (λ (l : List Piece). AreSources text l end) (sym pushed)
           (source_added text (pieces ++ between) (record piece { end = end })
           (text_added text pieces from piece.start is.3 here.later is.4 begins)
-          (record { some = omega (arith, is_within.0, c.in_ok-place.ensures.within.0); begins = begins; ends = ends })),
+          (record { some = omega (arith, is_within.0, c.in_ok-offset.ensures.within.0); begins = begins; ends = ends })),
       ends,
-      read_before setting reading next (record piece { end = end }) (omega (arith, is_within.0, c.in_ok-place.ensures.within.0))
-          (before_later reading.openers from piece.start here.later is.5) piece.kind c.in_ok-place.ensures.read,
-      c.in_ok-place.ensures.kept,
+      read_before setting reading next (record piece { end = end }) (omega (arith, is_within.0, c.in_ok-offset.ensures.within.0))
+          (before_later reading.openers from piece.start here.later is.5) piece.kind c.in_ok-offset.ensures.read,
+      c.in_ok-offset.ensures.kept,
       subst (λ (l : List Inline). AreWritten next.links next.openers l end) (sym added_one)
-          (piece_step reading whole texted (omega (arith, is_within.0, c.in_ok-place.ensures.within.0)) is.6
-          (text_step reading.links reading.openers inlines from piece.start here.later is.7) setting next piece.kind c.in_ok-place.ensures.read),
+          (piece_step reading whole texted (omega (arith, is_within.0, c.in_ok-offset.ensures.within.0)) is.6
+          (text_step reading.links reading.openers inlines from piece.start here.later is.7) setting next piece.kind c.in_ok-offset.ensures.read),
       c.or_is_run-has_runs.ensures ∙ (ap (λ b. b || is_run piece.kind) is.8 ∙ sym (ap have_runs pushed ∙ runs_more pieces from piece.start whole)),
     )
 
@@ -161,13 +161,13 @@ returns g c =
     let reading = reading_of text c.loop-piece.buffers.reader in
     let inlines = c.loop-piece.buffers.inlines.items in
     let pieces = pieces_of inlines in
-    let from = c.loop-piece.place in
+    let from = c.loop-piece.offset in
     let only : HasOnlyText c.args.extensions text from (length text) =
-    subst (λ (s : ReadText). HasOnlyText s.asked s.text s.place (length s.text)) is.0 is_none in
+    subst (λ (s : ReadText). HasOnlyText s.asked s.text s.offset (length s.text)) is.0 is_none in
     let last = is_all
     ∙ ap (λ (s : ReadText). record s {
-      place = length s.text;
-      searched = text_searched s.text s.place (length s.text - s.place) s.searched;
+      offset = length s.text;
+      searched = text_searched s.text s.offset (length s.text - s.offset) s.searched;
     }) is.0 in
     let all = c.push_text-2.new.inlines.items in
     let pushed : pieces_of all ≡ pieces ++ text_between from (length text) =

@@ -12,15 +12,15 @@ invariant-loop-piece g l =
     (l.scanner ≡ record {
       text = l.text;
       asked = l.extensions;
-      place = l.place;
+      offset = l.offset;
       searched = pieces_searched l.text (pieces_of l.buffers.inlines.items) (unsearched l.text);
-    }) × (l.place ≤ length l.text)
-    × ReadsOn (record { asked = l.extensions; known = g.L.Labels.known l.labels }) l.text l.place (reading_of l.text l.buffers.reader)
+    }) × (l.offset ≤ length l.text)
+    × ReadsOn (record { asked = l.extensions; known = g.L.Labels.known l.labels }) l.text l.offset (reading_of l.text l.buffers.reader)
     (pieces_of l.buffers.inlines.items)
-    × AreSources l.text (pieces_of l.buffers.inlines.items) l.place × IsCharBoundary l.text l.place
-    × AreBefore (reading_of l.text l.buffers.reader).openers l.place × IsKept (reading_of l.text l.buffers.reader)
-    × AreWritten l.buffers.reader.links.items (reading_of l.text l.buffers.reader).openers l.buffers.inlines.items l.place
+    × AreSources l.text (pieces_of l.buffers.inlines.items) l.offset × IsCharBoundary l.text l.offset
+    × AreBefore (reading_of l.text l.buffers.reader).openers l.offset × IsKept (reading_of l.text l.buffers.reader)
+    × AreWritten l.buffers.reader.links (reading_of l.text l.buffers.reader).openers l.buffers.inlines.items l.offset
     × (l.has_runs ≡ have_runs (pieces_of l.buffers.inlines.items))
 
 abbrev pub decreases-loop-piece : goal.decreases-loop-piece
-decreases-loop-piece g l = length l.text - l.place
+decreases-loop-piece g l = length l.text - l.offset

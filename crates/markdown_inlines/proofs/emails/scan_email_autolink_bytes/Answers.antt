@@ -73,7 +73,7 @@ returns-clause-found c = address_found c.args.bytes.now c.local_len-local.result
 pub returns-clause-only : goal.returns-clause-only
 returns-clause-only c = λ other is. one_email c.args.bytes.now other _ is (returns-clause-found c)
 
-pub returns-clause-behind : goal.returns-clause-behind
-returns-clause-behind c = λ utf8.
+pub returns-clause-after : goal.returns-clause-after
+returns-clause-after c = λ utf8.
     let at = found_at c in
     IsCharBoundary-after_ascii c.args.bytes.now _ utf8 at.inside (omega (arith, at.closed))

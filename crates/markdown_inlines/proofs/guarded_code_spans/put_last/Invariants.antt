@@ -1,4 +1,4 @@
--- the places are those at first
+-- the offsets are those at first
 use Rattle.std.proofs.Common.{ℕ, ◌≡◌, ◌+◌, ◌-◌, get_or, vec_len}
 use Rattle.markdown_inlines.proofs.guarded_code_spans.put_last.Given as goal
 

@@ -2,12 +2,12 @@ use Rattle.std.proofs.Common.{arith}
 use Rattle.markdown_inlines.proofs.inlines.OutputLemmas.{delimiter_added}
 use Rattle.markdown_inlines.proofs.inlines.push_delimiters.Goals as goal
 
-pub loop-place-preserved : goal.loop-place-preserved
-loop-place-preserved c =
-    let is = c.loop-place.invariant in (
-      (λ emphasis are. delimiter_added emphasis c.args.marks.now c.args.from c.loop-place.place c.loop-place.inlines.items
+pub loop-offset-preserved : goal.loop-offset-preserved
+loop-offset-preserved c =
+    let is = c.loop-offset.invariant in (
+      (λ emphasis are. delimiter_added emphasis c.args.marks.now c.args.from c.loop-offset.offset c.loop-offset.inlines.items
           c.push_delimiter.new.inlines.items c.args.inlines.now.items are is.1
-          (omega (arith, c.loop-place-test.true, c.requires.within)) (is.0 emphasis are) c.in_ok-push_delimiter.ensures),
+          (omega (arith, c.loop-offset-test.true, c.requires.within)) (is.0 emphasis are) c.in_ok-push_delimiter.ensures),
       omega (arith, is.1),
-      omega (arith, c.loop-place-test.true),
+      omega (arith, c.loop-offset-test.true),
     )

@@ -1,10 +1,10 @@
 use Rattle.std.proofs.Common.{◌≡◌, ◌+◌, ap, sym, ◌∙◌, arith, subst, drop, None, Some}
 use Rattle.markdown_scanners_tree.specs.Bytes.{line_ending}
-use Rattle.markdown_scanners_tree.proofs.PrefixLemmas.{from_place}
+use Rattle.markdown_scanners_tree.proofs.PrefixLemmas.{from_offset}
 use Rattle.markdown_scanners_tree.proofs.SomeExactlyLemmas.{SomeExactly-from_none}
 use Rattle.markdown_inlines.specs.LineBreaks.{IsLineBreak}
 use Rattle.markdown_inlines.proofs.line_breaks.LineBreakLemmas.{before_only, hard_given, rest_within, break_found}
-use Rattle.markdown_inlines.proofs.line_breaks.LineBreakLemmas.{break_only, cut_behind_break, one_line_break}
+use Rattle.markdown_inlines.proofs.line_breaks.LineBreakLemmas.{break_only, cut_after_break, one_line_break}
 use Rattle.markdown_inlines.proofs.line_breaks.scan_line_break.Goals as goal
 
 pub returns-in_err-start-clause-found : goal.returns-in_err-start-clause-found
@@ -14,7 +14,7 @@ returns-in_err-start-clause-found c =
     SomeExactly-from_none (IsLineBreak bytes) c.from_residual.ensures (λ break is.
     (let only = before_only bytes is.before is.after is.ending break.is_hard is.parts is.is_before is.ends in
     let here : is.after ≡ drop before.result.0 bytes = only.1 ∙ ap (λ k. drop k bytes) (sym before.ensures.count) in
-    let lost : None ≡ Some is.ending = c.in_err-start.ensures.ending ∙ ap line_ending (from_place bytes before.result.0)
+    let lost : None ≡ Some is.ending = c.in_err-start.ensures.ending ∙ ap line_ending (from_offset bytes before.result.0)
     ∙ ap line_ending (sym here) ∙ is.ends in
     cc))
 
@@ -46,5 +46,5 @@ returns-clause-after c = λ utf8.
     let before = c.scan_before_ending-before in
     let first = rest_within bytes before.result.0 c.in_ok-start.field-0 before.ensures.within c.in_ok-start.ensures.within in
     let second = rest_within bytes (before.result.0 + c.in_ok-start.field-0) c.scan_ch_repeat.result first c.scan_ch_repeat.ensures.within in
-    cut_behind_break bytes before.result.0 c.in_ok-start.field-0 c.scan_ch_repeat.result before.ensures.count
+    cut_after_break bytes before.result.0 c.in_ok-start.field-0 c.scan_ch_repeat.result before.ensures.count
     before.ensures.within c.in_ok-start.ensures.ending first c.scan_ch_repeat.ensures.run second utf8

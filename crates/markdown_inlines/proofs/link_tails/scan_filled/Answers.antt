@@ -1,7 +1,7 @@
 use Rattle.std.proofs.Common.{ℕ, List, ◌+◌, ap, arith}
 use Rattle.std.specs.Str.{IsCharBoundary}
-use Rattle.markdown_scanners_tree.proofs.ForCallers.{place_of_rest}
-use Rattle.markdown_scanners_tree.proofs.PrefixLemmas.{from_place}
+use Rattle.markdown_scanners_tree.proofs.ForCallers.{offset_of_rest}
+use Rattle.markdown_scanners_tree.proofs.PrefixLemmas.{from_offset}
 use Rattle.markdown_scanners_tree.proofs.SomeExactlyLemmas.{SomeExactly-from_none}
 use Rattle.markdown_inlines.proofs.link_tails.LinkTailLemmas.{opened, cut_opened, no_filled, no_filled_end, filled_found}
 use Rattle.markdown_inlines.proofs.link_tails.LinkTailLemmas.{title_cut}
@@ -42,9 +42,9 @@ returns-clause-destination_cut c = λ utf8.
     let bytes = c.args.bytes.now in
     let start = 1 + c.gap_len-start.result in
     let here : IsCharBoundary bytes start =
-    place_of_rest _ bytes 1 c.gap_len-start.result (from_place bytes 1) utf8 (λ _. cut_opened bytes c.requires.opens utf8) c.gap_len-start.ensures.after in (
-      place_of_rest _ bytes start c.in_ok-taken.raw.start (from_place bytes start) utf8 (λ _. here) c.in_ok-taken.ensures.raw_text.begins,
-      place_of_rest _ bytes start c.in_ok-taken.raw.end (from_place bytes start) utf8 (λ _. here) c.in_ok-taken.ensures.raw_text.ends,
+    offset_of_rest _ bytes 1 c.gap_len-start.result (from_offset bytes 1) utf8 (λ _. cut_opened bytes c.requires.opens utf8) c.gap_len-start.ensures.after in (
+      offset_of_rest _ bytes start c.in_ok-taken.raw.start (from_offset bytes start) utf8 (λ _. here) c.in_ok-taken.ensures.raw_text.begins,
+      offset_of_rest _ bytes start c.in_ok-taken.raw.end (from_offset bytes start) utf8 (λ _. here) c.in_ok-taken.ensures.raw_text.ends,
     )
 
 pub returns-clause-title_cut : goal.returns-clause-title_cut
@@ -53,14 +53,14 @@ returns-clause-title_cut c =
     let start = 1 + c.gap_len-start.result in
     title_cut bytes (start + c.in_ok-taken.taken) c.in_ok-title.title c.in_ok-title.ensures.title_cut (λ utf8.
     let here : IsCharBoundary bytes start =
-    place_of_rest _ bytes 1 c.gap_len-start.result (from_place bytes 1) utf8 (λ _. cut_opened bytes c.requires.opens utf8) c.gap_len-start.ensures.after in
-    place_of_rest _ bytes start c.in_ok-taken.taken (from_place bytes start) utf8 (λ _. here) c.in_ok-taken.ensures.raw_text.after)
+    offset_of_rest _ bytes 1 c.gap_len-start.result (from_offset bytes 1) utf8 (λ _. cut_opened bytes c.requires.opens utf8) c.gap_len-start.ensures.after in
+    offset_of_rest _ bytes start c.in_ok-taken.taken (from_offset bytes start) utf8 (λ _. here) c.in_ok-taken.ensures.raw_text.after)
 
 pub returns-clause-after : goal.returns-clause-after
 returns-clause-after c = λ utf8.
     let bytes = c.args.bytes.now in
     let start = 1 + c.gap_len-start.result in
     let here : IsCharBoundary bytes start =
-    place_of_rest _ bytes 1 c.gap_len-start.result (from_place bytes 1) utf8 (λ _. cut_opened bytes c.requires.opens utf8) c.gap_len-start.ensures.after in
+    offset_of_rest _ bytes 1 c.gap_len-start.result (from_offset bytes 1) utf8 (λ _. cut_opened bytes c.requires.opens utf8) c.gap_len-start.ensures.after in
     c.in_ok-title.ensures.after utf8
-    (place_of_rest _ bytes start c.in_ok-taken.taken (from_place bytes start) utf8 (λ _. here) c.in_ok-taken.ensures.raw_text.after)
+    (offset_of_rest _ bytes start c.in_ok-taken.taken (from_offset bytes start) utf8 (λ _. here) c.in_ok-taken.ensures.raw_text.after)

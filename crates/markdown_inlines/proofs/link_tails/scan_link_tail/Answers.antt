@@ -1,7 +1,7 @@
 use Rattle.std.proofs.Common.{◌+◌, ◌-◌, ◌∙◌, sym, subst, arith, inl}
 use Rattle.std.specs.Str.{IsCharBoundary}
-use Rattle.markdown_scanners_tree.proofs.ForCallers.{place_of_rest}
-use Rattle.markdown_scanners_tree.proofs.PrefixLemmas.{from_place}
+use Rattle.markdown_scanners_tree.proofs.ForCallers.{offset_of_rest}
+use Rattle.markdown_scanners_tree.proofs.PrefixLemmas.{from_offset}
 use Rattle.markdown_scanners_tree.proofs.SomeExactlyLemmas.{IsOnly-found}
 use Rattle.markdown_inlines.specs.LinkTails.{IsLinkTail}
 use Rattle.markdown_inlines.proofs.link_tails.LinkTailLemmas.{opened, cut_opened, no_tail_unopened, empty_found, tail_or_none}
@@ -26,7 +26,7 @@ returns-in-Some-clause-destination_cut c = λ utf8.
     let begins = sym c.is_opened.ensures ∙ c.if-not-is_opened.false in
     let here : IsCharBoundary bytes c.in-Some.closing =
     subst (IsCharBoundary bytes) (omega (arith, c.in-Some.ensures.within.0))
-    (place_of_rest _ bytes 1 (c.in-Some.closing - 1) (from_place bytes 1) utf8 (λ _. cut_opened bytes begins utf8) c.in-Some.ensures.before) in
+    (offset_of_rest _ bytes 1 (c.in-Some.closing - 1) (from_offset bytes 1) utf8 (λ _. cut_opened bytes begins utf8) c.in-Some.ensures.before) in
     (here, here)
 
 pub returns-in-Some-clause-after : goal.returns-in-Some-clause-after
@@ -34,7 +34,7 @@ returns-in-Some-clause-after c = λ utf8.
     let bytes = c.args.bytes.now in
     let begins = sym c.is_opened.ensures ∙ c.if-not-is_opened.false in
     subst (IsCharBoundary bytes) (omega arith)
-    (place_of_rest _ bytes 1 c.in-Some.closing (from_place bytes 1) utf8 (λ _. cut_opened bytes begins utf8) c.in-Some.ensures.after)
+    (offset_of_rest _ bytes 1 c.in-Some.closing (from_offset bytes 1) utf8 (λ _. cut_opened bytes begins utf8) c.in-Some.ensures.after)
 
 pub returns-in-None-clause-found : goal.returns-in-None-clause-found
 returns-in-None-clause-found c =

@@ -1,4 +1,4 @@
-use Rattle.markdown_scanners_tree.proofs.ForCallers.{cut_behind_gap, gap_scanned}
+use Rattle.markdown_scanners_tree.proofs.ForCallers.{cut_after_gap, gap_scanned}
 use Rattle.markdown_inlines.proofs.link_tails.some_gap_len.Goals as goal
 
 pub returns-clause-gap : goal.returns-clause-gap
@@ -8,4 +8,4 @@ returns-clause-gap c =
     c.scan_spaces_and_tabs.ensures.run
 
 pub returns-clause-after : goal.returns-clause-after
-returns-clause-after c = cut_behind_gap c.args.bytes.now _ (returns-clause-gap c)
+returns-clause-after c = cut_after_gap c.args.bytes.now _ (returns-clause-gap c)

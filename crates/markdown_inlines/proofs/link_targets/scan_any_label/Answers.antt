@@ -3,7 +3,7 @@ use Rattle.std.specs.Str.{IsCharBoundary}
 use Rattle.markdown_scanners_tree.specs.NoSkips.{SkipsNothing}
 use Rattle.markdown_scanners_tree.specs.linklabel.Answer.{answered_label}
 use Rattle.markdown_scanners_tree.specs.linklabel.Label.{IsLabel}
-use Rattle.markdown_scanners_tree.proofs.ForCallers.{label_of_more, place_of_rest}
+use Rattle.markdown_scanners_tree.proofs.ForCallers.{label_of_more, offset_of_rest}
 use Rattle.markdown_inlines.proofs.link_targets.TargetLemmas.{label_some}
 use Rattle.markdown_inlines.proofs.link_targets.scan_any_label.Goals as goal
 
@@ -35,7 +35,7 @@ returns-in-Some-clause-boundary c =
     let cut = rw c.in-Some.is at c.in_ok-len.ensures.boundary in
     let some : 1 ≤ c.in-Some.len = label_some _ _ (answered_label (c.in-Some.len, c.in-Some.name)) found in
     subst (IsCharBoundary c.args.text.now) (omega (arith, some))
-    (place_of_rest _ c.args.text.now c.args.from c.in-Some.len c.split_at.ensures.back c.utf8.text (λ _. c.requires) (λ _. cut))
+    (offset_of_rest _ c.args.text.now c.args.from c.in-Some.len c.split_at.ensures.back c.utf8.text (λ _. c.requires) (λ _. cut))
 
 pub returns-in-None-clause-none : goal.returns-in-None-clause-none
 returns-in-None-clause-none c = λ close name is.

@@ -1,7 +1,7 @@
 use Rattle.std.proofs.Common.{nat_eq, rules, [], ◌∷◌, ◌≡◌, ◌+◌, ◌∙◌, sym, subst, refl, true, arith}
 use Rattle.std.specs.List.{starts_with}
 use Rattle.std.specs.Str.{IsCharBoundary}
-use Rattle.markdown_inlines.proofs.link_targets.TargetLemmas.{no_target, cut_behind_bytes}
+use Rattle.markdown_inlines.proofs.link_targets.TargetLemmas.{no_target, cut_after_bytes}
 use Rattle.markdown_inlines.proofs.link_targets.scan_reference.Goals as goal
 
 pub returns-then-not-branch-clause-found : goal.returns-then-not-branch-clause-found
@@ -12,6 +12,6 @@ returns-then-not-branch-clause-found g c = λ untailed unlabelled r is.
 pub returns-then-starts_with-clause-boundary : goal.returns-then-starts_with-clause-boundary
 returns-then-starts_with-clause-boundary g c =
     subst (IsCharBoundary c.args.text.now) (omega arith)
-    (cut_behind_bytes c.args.text.now (91 ∷ 93 ∷ []) (c.args.close + 1) c.utf8.text c.requires.after
+    (cut_after_bytes c.args.text.now (91 ∷ 93 ∷ []) (c.args.close + 1) c.utf8.text c.requires.after
     (subst (λ rest. starts_with nat_eq rest (91 ∷ 93 ∷ []) ≡ true) (c.as_bytes.ensures.value ∙ c.split_at.ensures.back)
     (sym c.starts_with.ensures.value ∙ c.if-starts_with.true)) refl)

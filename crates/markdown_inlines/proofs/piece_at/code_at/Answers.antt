@@ -7,6 +7,6 @@ pub returns-in-None-clause-found : goal.returns-in-None-clause-found
 returns-in-None-clause-found c = λ asked from apart r begins.
     let text = c.args.searches.now.html.text in
     let none = rw c.in-None.is at c.in_ok-span.ensures.found in
-    let same = sym (ap byte_class c.requires.opens) ∙ begins_class asked text from c.args.place r.0 r.1 begins in
-    only_code (λ kind. BeginsAt asked text from c.args.place kind r.1 → ⊥) r.0 same
+    let same = sym (ap byte_class c.requires.opens) ∙ begins_class asked text from c.args.offset r.0 r.1 begins in
+    only_code (λ kind. BeginsAt asked text from c.args.offset kind r.1 → ⊥) r.0 same
     (λ backticks is. none is.1.span is.1.is_span) begins

@@ -3,13 +3,13 @@ use Rattle.markdown_inlines.proofs.pieces.Openings.{escape_front, plain_begins_n
 use Rattle.markdown_inlines.proofs.piece_at.short_piece_at.Goals as goal
 
 pub break_at-requires-clause-no_escape : goal.break_at-requires-clause-no_escape
-break_at-requires-clause-no_escape c = λ is. c.if-byte-eq92.false (escape_front c.args.bytes.now c.args.place 2 is)
+break_at-requires-clause-no_escape c = λ is. c.if-byte-eq92.false (escape_front c.args.bytes.now c.args.offset 2 is)
 
 pub returns-else-byte-eq38 : goal.returns-else-byte-eq38
 returns-else-byte-eq38 c = record {
   found = λ from r begins.
-      plain_begins_none c.args.extensions c.args.bytes.now from c.args.place
-      (plain_from (get_or c.args.bytes.now c.args.place 0) (sym c.opens_break.ensures ∙ c.if-opens_break.false)
+      plain_begins_none c.args.extensions c.args.bytes.now from c.args.offset
+      (plain_from (get_or c.args.bytes.now c.args.offset 0) (sym c.opens_break.ensures ∙ c.if-opens_break.false)
       (sym c.opens_bracket.ensures ∙ c.if-opens_bracket.false) c.requires.short c.if-byte-eq38.false) r.0 r.1 begins;
 }
 

@@ -4,5 +4,5 @@ use Rattle.markdown_inlines.proofs.piece_at.stands_at.Goals as goal
 
 pub returns : goal.returns
 returns c =
-    occurs_at-slice c.args.bytes.now c.args.part.now c.args.place (omega (arith, c.requires)) c.starts_with.result
+    occurs_at-slice c.args.bytes.now c.args.part.now c.args.offset (omega (arith, c.requires)) c.starts_with.result
     c.starts_with.ensures.value

@@ -11,15 +11,15 @@ use Rattle.markdown_inlines.proofs.pieces.Openings.{begins_class, byte_class, on
 use Rattle.markdown_inlines.proofs.piece_at.tildes_at.Goals as goal
 
 -- where a tilde stands nothing begins without a run of tildes that is asked for
-none_there : (asked : Extensions) (text : List ℕ) (from place : ℕ) → get_or text place 0 ≡ tilde
-    → (IsTrue asked.strikethrough → (run : DelimiterRun) → ¬ IsTildeRun text place run) → (kind : PieceKind) (len : ℕ)
-    → ¬ BeginsAt asked text from place kind len
-none_there asked text from place there none kind len begins =
-    let same = sym (ap byte_class there) ∙ begins_class asked text from place kind len begins in
-    only_delimiters (λ k. BeginsAt asked text from place k len → ⊥) kind same (λ run is. by run is.0) begins
+none_there : (asked : Extensions) (text : List ℕ) (from offset : ℕ) → get_or text offset 0 ≡ tilde
+    → (IsTrue asked.strikethrough → (run : DelimiterRun) → ¬ IsTildeRun text offset run) → (kind : PieceKind) (len : ℕ)
+    → ¬ BeginsAt asked text from offset kind len
+none_there asked text from offset there none kind len begins =
+    let same = sym (ap byte_class there) ∙ begins_class asked text from offset kind len begins in
+    only_delimiters (λ k. BeginsAt asked text from offset k len → ⊥) kind same (λ run is. by run is.0) begins
   where
-    by : (run : DelimiterRun) → ¬ IsRunOf asked text place run
-    by run (inl is) = no_other_run text place run there is
+    by : (run : DelimiterRun) → ¬ IsRunOf asked text offset run
+    by run (inl is) = no_other_run text offset run there is
     by run (inr is) = none is.0 run is.1
 
 not_asked : (asked : Bool) → not asked ≡ true → ¬ IsTrue asked
@@ -28,12 +28,12 @@ not_asked false is = λ on. cc
 
 pub returns-then-not-extensions : goal.returns-then-not-extensions
 returns-then-not-extensions c = record {
-  found = λ from r. none_there c.args.extensions c.args.text.now from c.args.place c.requires.opens
+  found = λ from r. none_there c.args.extensions c.args.text.now from c.args.offset c.requires.opens
       (λ on. absurd (not_asked c.args.extensions.strikethrough c.if-not-extensions.true on)) r.0 r.1;
 }
 
 pub returns-in_err-run : goal.returns-in_err-run
 returns-in_err-run c = record {
   found = λ from. SomeExactly-from_none _ c.from_residual.ensures
-      (λ r. none_there c.args.extensions c.args.text.now from c.args.place c.requires.opens (λ on. c.in_err-run.ensures.found) r.0 r.1);
+      (λ r. none_there c.args.extensions c.args.text.now from c.args.offset c.requires.opens (λ on. c.in_err-run.ensures.found) r.0 r.1);
 }

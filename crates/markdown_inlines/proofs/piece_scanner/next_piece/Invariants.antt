@@ -4,12 +4,12 @@ use Rattle.markdown_inlines.specs.Searches.{IsSearchedTo, text_searched}
 use Rattle.markdown_inlines.proofs.piece_scanner.next_piece.Given as goal
 
 -- Only text is passed, no backtick string is cut, and what is searched is what that text has.
-abbrev pub invariant-loop-place : goal.invariant-loop-place
-invariant-loop-place l =
-    (l.from ≤ l.place) × (l.place ≤ length l.text) × HasOnlyText l.extensions l.text l.from l.place
-    × (get_or l.text l.place 0 ≡ 96 → l.from < l.place → get_or l.text (l.place - 1) 0 ≡ 96 → ⊥)
-    × (l.searches.html.text ≡ l.text) × IsSearchedTo l.place l.searches
-    × (l.searches ≡ text_searched l.text l.from (l.place - l.from) l.initial.searches)
+abbrev pub invariant-loop-offset : goal.invariant-loop-offset
+invariant-loop-offset l =
+    (l.from ≤ l.offset) × (l.offset ≤ length l.text) × HasOnlyText l.extensions l.text l.from l.offset
+    × (get_or l.text l.offset 0 ≡ 96 → l.from < l.offset → get_or l.text (l.offset - 1) 0 ≡ 96 → ⊥)
+    × (l.searches.html.text ≡ l.text) × IsSearchedTo l.offset l.searches
+    × (l.searches ≡ text_searched l.text l.from (l.offset - l.from) l.initial.searches)
 
-abbrev pub decreases-loop-place : goal.decreases-loop-place
-decreases-loop-place l = length l.text - l.place
+abbrev pub decreases-loop-offset : goal.decreases-loop-offset
+decreases-loop-offset l = length l.text - l.offset

@@ -1,7 +1,7 @@
 use Rattle.std.proofs.Common.{◌≡◌, ◌+◌, ◌≤◌, false, ap, subst, arith, drop, length}
 use Rattle.std.proofs.lemmas.List.{length-drop}
 use Rattle.std.proofs.lemmas.List.Sums.{prefix_len_passes}
-use Rattle.markdown_scanners_tree.proofs.PrefixLemmas.{from_place}
+use Rattle.markdown_scanners_tree.proofs.PrefixLemmas.{from_offset}
 use Rattle.markdown_scanners_tree.specs.linklabel.private.Run.{is_ordinary}
 use Rattle.markdown_scanners_tree.specs.linklabel.private.Words.{AreWords, none}
 use Rattle.markdown_inlines.specs.PlainLabels.{IsSpacedWord}
@@ -25,8 +25,8 @@ loop-words-preserved c =
     let words = c.loop-words.words in
     let next = c.spaced_word_len-next.result in
     let is : IsSpacedWord (drop words bytes) next =
-    subst (λ rest. IsSpacedWord rest next) (from_place bytes words)
+    subst (λ rest. IsSpacedWord rest next) (from_offset bytes words)
     (c.spaced_word_len-next.ensures.word (omega (arith, c.if-next-eq0.false))) in
     let within : words + next ≤ length bytes =
-    omega (arith, c.spaced_word_len-next.ensures.within, ap length (from_place bytes words), length-drop words bytes, c.loop-words.invariant.within) in
+    omega (arith, c.spaced_word_len-next.ensures.within, ap length (from_offset bytes words), length-drop words bytes, c.loop-words.invariant.within) in
     record { within = within; words = words_spaced bytes words next c.loop-words.invariant.words c.loop-words-test.true within is }

@@ -16,4 +16,4 @@ returns-then-starts_with-clause-boundary c =
 
 pub returns-then-starts_with-clause-source : goal.returns-then-starts_with-clause-source
 returns-then-starts_with-clause-source c =
-    (head_ends c.args.bytes.now c.args.place c.in_ok-target.target c.in_ok-target.head_end c.in_ok-target.ensures.found).source
+    (head_ends c.args.bytes.now c.args.offset c.in_ok-target.target c.in_ok-target.head_end c.in_ok-target.ensures.found).source

@@ -4,4 +4,4 @@ use Rattle.markdown_inlines.proofs.piece_scanner.PieceScanner.passed.Goals as go
 pub passed-requires : goal.passed-requires
 passed-requires c =
     let is = c.self.invariant in
-    record { searched = (c.self.inside.place, subst (λ t. c.self.inside.place ≤ length t) (sym is.0) is.1, is.2) }
+    record { searched = (c.self.inside.offset, subst (λ t. c.self.inside.offset ≤ length t) (sym is.0) is.1, is.2) }

@@ -5,4 +5,4 @@ pub invariant_of-self : goal.invariant_of-self
 invariant_of-self c =
     let later = rw (← c.self.view_is) at c.requires.later in
     let within = rw (← c.self.view_is) at c.requires.within in
-    (c.self.invariant.0, within, searched_later c.self.inside.place c.args.place c.self.inside.searches later c.self.invariant.2)
+    (c.self.invariant.0, within, searched_later c.self.inside.offset c.args.offset c.self.inside.searches later c.self.invariant.2)

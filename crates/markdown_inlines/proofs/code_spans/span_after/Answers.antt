@@ -2,7 +2,7 @@ use Rattle.std.proofs.Common.{◌≡◌, ◌+◌, arith, refl, sym, ◌∙◌, s
 use Rattle.markdown_scanners_tree.proofs.SomeExactlyLemmas.{SomeExactly-from_none}
 use Rattle.markdown_inlines.specs.CodeSpans.{IsCodeSpan, IsBacktickString}
 use Rattle.markdown_inlines.proofs.code_spans.CodeSpanLemmas.{string_at, opens_counted, strings_apart, one_code_span}
-use Rattle.markdown_inlines.proofs.code_spans.span_behind.Goals as goal
+use Rattle.markdown_inlines.proofs.code_spans.span_after.Goals as goal
 
 pub returns-then-fence-eq0-clause-found : goal.returns-then-fence-eq0-clause-found
 returns-then-fence-eq0-clause-found c = λ span is.
