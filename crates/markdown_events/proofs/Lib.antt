@@ -1,3 +1,4 @@
 pub mod ForCallers
 pub mod found
 mod InsecureCharacters
+pub mod MeaningSizes

@@ -1,5 +1,6 @@
 pub mod Balance
 pub mod Boundaries
+pub mod Costs
 pub mod Facts
 pub mod Filled
 pub mod Found

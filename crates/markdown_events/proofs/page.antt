@@ -1,3 +1,5 @@
+pub mod BlockCosts
+pub mod EventCounts
 pub mod FrontLists
 pub mod InPageLemmas
 pub mod IteratedLemmas
@@ -9,11 +11,13 @@ pub mod NodeCuts
 pub mod NodeRanges
 pub mod OnePage
 pub mod PageBalance
+pub mod PageCosts
 pub mod PageCuts
 pub mod ParserLemmas
 pub mod ReadLemmas
 pub mod TreeLemmas
 pub mod PageRanges
+pub mod CellRoom
 pub mod PageRoom
 pub mod RoomLemmas
 pub mod TextLemmas

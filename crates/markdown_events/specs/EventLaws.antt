@@ -24,7 +24,7 @@ AreBalancedIn elements ((event, range) ∷ later) = AreBalancedIn elements later
 abbrev pub AreBalanced : List RangedEvent → Type 0
 AreBalanced events = AreBalancedIn [] events
 
--- a range stands between two places
+-- a range stands between two offsets
 pub record LiesIn (from to : ℕ) (range : Range ℕ) : Type 0 where
   pub begins : from ≤ range.start
   pub in_order : range.start ≤ range.end
@@ -35,7 +35,7 @@ abbrev pub LieIn : ℕ → ℕ → List RangedEvent → Type 0
 LieIn from to [] = ⊤
 LieIn from to (event ∷ later) = LiesIn from to event.1 × LieIn from to later
 
--- Ranges rise, and what an element holds lies within its range. From a place on, with elements started that end at these places, the
+-- Ranges rise, and what an element holds lies within its range. From an offset on, with elements started that end at these offsets, the
 -- innermost first, and the text last.
 abbrev pub RiseIn : List ℕ → ℕ → List RangedEvent → Type 0
 RiseIn ends from [] = ⊤

@@ -54,10 +54,10 @@ abbrev pub IsThereWith : List ℕ → List (Option Link) → (Link → Type 0) �
 IsThereWith text links Holds (I.Leaf piece) = IsSource text piece × HasParts piece.kind text piece
 IsThereWith text links Holds (I.StartLink number) = (it : Link) × (slice_get links number ≡ Some (Some it)) × Holds it
 IsThereWith text links Holds (I.EndLink piece) = IsSource text piece
-IsThereWith text links Holds (I.StartEmphasis place count) = IsCharBoundary text place
-IsThereWith text links Holds (I.EndEmphasis place count) = IsCharBoundary text place
-IsThereWith text links Holds (I.StartStrikethrough place count) = IsCharBoundary text place
-IsThereWith text links Holds (I.EndStrikethrough place count) = IsCharBoundary text place
+IsThereWith text links Holds (I.StartEmphasis offset count) = IsCharBoundary text offset
+IsThereWith text links Holds (I.EndEmphasis offset count) = IsCharBoundary text offset
+IsThereWith text links Holds (I.StartStrikethrough offset count) = IsCharBoundary text offset
+IsThereWith text links Holds (I.EndStrikethrough offset count) = IsCharBoundary text offset
 
 -- what is known of a link
 abbrev pub IsKnownLink : List ℕ → Known → Link → Type 0

@@ -22,6 +22,7 @@ use Rattle.markdown_inlines.specs.declared.links.LinkTarget.TheVariants.{Wiki}
 use Rattle.markdown_inlines.specs.declared.pieces.Piece.{Piece}
 use Rattle.markdown_inlines.specs.declared.pieces.PieceKind.{PieceKind}
 use Rattle.markdown_inlines.specs.declared.pieces.PieceKind.TheVariants as K
+use Rattle.markdown_events.specs.LineFeeds.{with_line_feeds}
 use Rattle.markdown_events.specs.Meanings.{IsLinkTag, has_pipe, within}
 use Rattle.markdown_events.specs.declared.elements.Element.{Element}
 use Rattle.markdown_events.specs.TagEnds.{tag_end}
@@ -34,7 +35,7 @@ RangedEvent = EventView (List ℕ) × Range ℕ
 abbrev pub seen_event : Event × Range ℕ → RangedEvent
 seen_event pair = (event_view cow_text pair.0, pair.1)
 
--- an event from one place of the text up to another
+-- an event from one offset of the text up to another
 abbrev pub ranged : EventView (List ℕ) → ℕ → ℕ → RangedEvent
 ranged event from to = (event, record { start = from; end = to })
 
@@ -53,7 +54,8 @@ autolink kind source piece =
     ∷ ranged (end End.Link) piece.start piece.end
     ∷ []
 
--- The events of a piece: an escape is the byte after its backslash, a reference the text that it stands for, a code span its content.
+-- The events of a piece: an escape is the byte after its backslash, a reference the text that it stands for, a code span its content, raw HTML
+-- itself, each of whose line endings is a line feed (2.1).
 abbrev pub ArePieceEvents : PieceKind → List ℕ → Piece → List RangedEvent → Type 0
 ArePieceEvents K.Escape source piece events = events ≡ alone piece (text (slice_range source (piece.start + 1) piece.end))
 ArePieceEvents K.HardBreak source piece events = events ≡ alone piece hard_break
@@ -65,7 +67,7 @@ ArePieceEvents (K.Code backticks) source piece events =
     events ≡ alone piece (code (code_text (slice_range source (piece.start + backticks) (piece.end - backticks))))
 ArePieceEvents K.Uri source piece events = events ≡ autolink Kind.Autolink source piece
 ArePieceEvents K.Email source piece events = events ≡ autolink Kind.Email source piece
-ArePieceEvents K.Html source piece events = events ≡ alone piece (inline_html (source_of source piece))
+ArePieceEvents K.Html source piece events = events ≡ alone piece (inline_html (with_line_feeds (source_of source piece)))
 ArePieceEvents kind source piece events = events ≡ alone piece (text (source_of source piece))
 
 -- ---- elements, which hold others
@@ -76,11 +78,11 @@ shown_target source words (Wiki target) =
     if has_pipe words target then [] else ranged (text (within source target)) target.start target.end ∷ []
 shown_target source words target = []
 
--- An element begins with this inline, from this place on, has this tag, and shows this before what it holds.
+-- An element begins with this inline, from this offset on, has this tag, and shows this before what it holds.
 abbrev pub Begins : List ℕ → Targets → List (Option Link) → Inline → ℕ → TagView (List ℕ) → List RangedEvent → Type 0
-Begins source targets links (I.StartEmphasis place count) from tag shown =
-    (from ≡ place) × (tag ≡ (if count == 2 then strong else emphasis)) × (shown ≡ [])
-Begins source targets links (I.StartStrikethrough place count) from tag shown = (from ≡ place) × (tag ≡ strikethrough) × (shown ≡ [])
+Begins source targets links (I.StartEmphasis offset count) from tag shown =
+    (from ≡ offset) × (tag ≡ (if count == 2 then strong else emphasis)) × (shown ≡ [])
+Begins source targets links (I.StartStrikethrough offset count) from tag shown = (from ≡ offset) × (tag ≡ strikethrough) × (shown ≡ [])
 Begins source targets links (I.StartLink number) from tag shown =
     (it : Link) × (slice_get links number ≡ Some (Some it)) × (from ≡ it.source.start) × IsLinkTag source targets it tag
     × (shown ≡ shown_target source it.text it.target)
@@ -90,8 +92,8 @@ Begins source targets links inline from tag shown = ⊥
 -- opens one more, which an end closes
 abbrev pub ends_before : Inline → List ℕ → List ℕ
 ends_before (I.Leaf piece) ends = ends
-ends_before (I.EndEmphasis place count) ends = (place + count) ∷ ends
-ends_before (I.EndStrikethrough place count) ends = (place + count) ∷ ends
+ends_before (I.EndEmphasis offset count) ends = (offset + count) ∷ ends
+ends_before (I.EndStrikethrough offset count) ends = (offset + count) ∷ ends
 ends_before (I.EndLink piece) ends = piece.end ∷ ends
 ends_before inline ends = drop 1 ends
 
@@ -115,9 +117,9 @@ AreEvents source targets links elements [] events = events ≡ []
 AreEvents source targets links elements (I.Leaf piece ∷ later) events =
     (here : List RangedEvent) × (rest : List RangedEvent) × ArePieceEvents piece.kind source piece here × AreEvents source targets links elements later rest
     × (events ≡ here ++ rest)
-AreEvents source targets links elements (I.EndEmphasis place count ∷ later) events =
+AreEvents source targets links elements (I.EndEmphasis offset count ∷ later) events =
     (rest : List RangedEvent) × AreEvents source targets links (drop 1 elements) later rest × (events ≡ closing elements ++ rest)
-AreEvents source targets links elements (I.EndStrikethrough place count ∷ later) events =
+AreEvents source targets links elements (I.EndStrikethrough offset count ∷ later) events =
     (rest : List RangedEvent) × AreEvents source targets links (drop 1 elements) later rest × (events ≡ closing elements ++ rest)
 AreEvents source targets links elements (I.EndLink piece ∷ later) events =
     (rest : List RangedEvent) × AreEvents source targets links (drop 1 elements) later rest × (events ≡ closing elements ++ rest)
@@ -129,10 +131,20 @@ AreEvents source targets links elements (inline ∷ later) events =
 
 -- ---- a text
 
--- what a text is read with: the extensions that are asked for, and where the labels lead that are defined
+-- what blocks and texts are read with: the extensions that are asked for, where the labels lead that are defined, and how many cells a
+-- table may be filled in with
 pub record EventSetting : Type 0 where
   pub asked : Extensions
   pub targets : Targets
+  pub cells : ℕ
+
+-- where labels lead so: a text has no cells
+abbrev pub event_setting : Extensions → Targets → EventSetting
+event_setting asked targets = record { asked = asked; targets = targets; cells = 0 }
+
+-- the same where so many may be filled in
+abbrev pub with_cells : ℕ → EventSetting → EventSetting
+with_cells cells setting = record setting { cells = cells }
 
 -- These are the events of a text.
 pub record AreInlineEvents (source : List ℕ) (setting : EventSetting) (events : List RangedEvent) : Type 0 where

@@ -3,6 +3,7 @@ pub mod Found
 pub mod InlineEvents
 pub mod InsecureCharacters
 pub mod JoinedWords
+pub mod LineFeeds
 pub mod Meanings
 pub mod Nesting
 pub mod Passes

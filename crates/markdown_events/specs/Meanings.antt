@@ -11,6 +11,7 @@ use Rattle.markdown_inlines.specs.declared.links.Link.{Link}
 use Rattle.markdown_inlines.specs.declared.links.LinkTarget.{LinkTarget}
 use Rattle.markdown_inlines.specs.declared.links.LinkTarget.TheVariants.{Inline, Full, Collapsed, Shortcut, Wiki}
 use Rattle.markdown_blocks.specs.link_definitions.LinkDefinitions.{Target}
+use Rattle.markdown_events.specs.LineFeeds.{with_line_feeds}
 use Rattle.markdown_events.specs.Targets.{Targets}
 
 -- what stands in a range of a text
@@ -23,15 +24,19 @@ pub record IsMeaning (text meaning : List ℕ) : Type 0 where
   pub are_parts : ArePieces false html_entity text parts
   pub meaning_is : meaning ≡ joined_meanings parts
 
+-- What a title means, which may span several lines: each of its line endings is a line feed. (2.1, 6.3)
+abbrev pub IsTitleMeaning : List ℕ → List ℕ → Type 0
+IsTitleMeaning title meaning = IsMeaning (with_line_feeds title) meaning
+
 -- what a title means, where there is one; else it is empty
 abbrev pub IsTitle : Option (List ℕ) → List ℕ → Type 0
 IsTitle None meaning = meaning ≡ []
-IsTitle (Some title) meaning = IsMeaning title meaning
+IsTitle (Some title) meaning = IsTitleMeaning title meaning
 
 -- what the title of a definition means, where it has one
 abbrev pub IsDefinedTitle : Option (List ℕ) → Option (List ℕ) → Type 0
 IsDefinedTitle None meaning = meaning ≡ None
-IsDefinedTitle (Some title) meaning = (words : List ℕ) × IsMeaning title words × (meaning ≡ Some words)
+IsDefinedTitle (Some title) meaning = (words : List ℕ) × IsTitleMeaning title words × (meaning ≡ Some words)
 
 -- A label leads somewhere, and this is what is meant by the destination and the title there. (4.7)
 pub record IsTargetMeaning (leads : Option Target) (meaning : Target) : Type 0 where

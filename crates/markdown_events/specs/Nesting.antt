@@ -48,3 +48,7 @@ AreNestedIn tags (event ∷ later) = AreNestedIn tags later
 
 abbrev pub AreNested : List (EventView (List ℕ)) → Type 0
 AreNested events = AreNestedIn [] events
+
+-- the same of events with the ranges of their sources
+abbrev pub AreNestedEvents : List RangedEvent → Type 0
+AreNestedEvents events = AreNested (without_ranges events)

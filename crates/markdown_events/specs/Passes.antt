@@ -14,10 +14,10 @@ use Rattle.markdown_events.specs.TagEnds.{tag_end}
 use Rattle.markdown_blocks.specs.link_definitions.LinkDefinitions.{Target}
 use Rattle.markdown_events.specs.Targets.{Targets}
 
--- the inline ends before this place of the memory
+-- the inline ends before this offset of the memory
 abbrev pub EndsBelow : ℕ → Inline → Type 0
-EndsBelow limit (I.EndEmphasis place count) = place + count < limit
-EndsBelow limit (I.EndStrikethrough place count) = place + count < limit
+EndsBelow limit (I.EndEmphasis offset count) = offset + count < limit
+EndsBelow limit (I.EndStrikethrough offset count) = offset + count < limit
 EndsBelow limit inline = ⊤
 
 -- What is written: the events, and the elements that have begun and not ended, the innermost first. Where those end isn't known yet: their
@@ -64,8 +64,8 @@ ended to written = closed to written.events written.opened
 abbrev pub IsWritten : List ℕ → Targets → List (Option Link) → Inline → Written → Written → Type 0
 IsWritten source targets links (I.Leaf piece) old new =
     (here : List RangedEvent) × ArePieceEvents piece.kind source piece here × (new ≡ with_events here old)
-IsWritten source targets links (I.EndEmphasis place count) old new = new ≡ ended (place + count) old
-IsWritten source targets links (I.EndStrikethrough place count) old new = new ≡ ended (place + count) old
+IsWritten source targets links (I.EndEmphasis offset count) old new = new ≡ ended (offset + count) old
+IsWritten source targets links (I.EndStrikethrough offset count) old new = new ≡ ended (offset + count) old
 IsWritten source targets links (I.EndLink piece) old new = new ≡ ended piece.end old
 IsWritten source targets links inline old new =
     (from : ℕ) × (tag : TagView (List ℕ)) × (shown : List RangedEvent) × Begins source targets links inline from tag shown

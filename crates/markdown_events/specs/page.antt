@@ -11,6 +11,7 @@ pub mod Readings
 pub mod Ready
 pub mod References
 pub mod Settings
+pub mod Sizes
 pub mod Spans
 pub mod TableEvents
 pub mod TaskEvents

@@ -7,7 +7,8 @@ ghost use Rattle.markdown_events.specs.page.Given.{GivesOnlyWith};
 ghost use Rattle.markdown_events.specs.page.Iterated.{GivesNextEventWith, GivesNextWith, items_left};
 ghost use Rattle.markdown_events.specs.page.PageEvents.{AreDefinitionsOf, ArePageEventsWith};
 ghost use Rattle.markdown_values.specs.values.Extensions.{asked_by};
-ghost use Rattle.markdown_events.specs.page.References.{ReferencesFit};
+ghost use Rattle.markdown_events.specs.page.References.{CellsFit, ReferencesFit};
+ghost use Rattle.markdown_events.specs.page.Sizes.{EventsFit};
 ghost use Rattle.markdown_events.specs.page.Settings.{Explains, not_built};
 
 use crate::definitions::Definitions;
@@ -44,7 +45,7 @@ impl<'a, B: Definitions<'a> + Drop> BrokenLinkParser<'a, B> {
     ///
     /// # Errors
     ///
-    /// `NotBuilt` with those of the options that are not built, where one is, and `Refused` where the
+    /// `Unsupported` with those of the options that are not built, where one is, and `Refused` where the
     /// memory is refused that `EventReader::new` asks for.
     pub fn new(
         alloc: Global,
@@ -64,6 +65,10 @@ impl<'a, B: Definitions<'a> + Drop> BrokenLinkParser<'a, B> {
             GivesOnlyWith (B.targets broken) (AreAtBoundaries text.now) parser.events.left) }
         ensures references { IfOk result (λ parser.
             GivesOnlyWith (B.targets broken) (ReferencesFit text.now) parser.events.left) }
+        ensures cells { IfOk result (λ parser.
+            GivesOnlyWith (B.targets broken) (CellsFit text.now) parser.events.left) }
+        ensures few { IfOk result (λ parser.
+            GivesOnlyWith (B.targets broken) (EventsFit text.now) parser.events.left) }
         ensures definitions { IfOk result (λ parser.
             AreDefinitionsOf text.now (asked_by options) parser.events.left.known) }
         ensures broken { IfOk result (λ parser. parser.broken ≡ broken) }

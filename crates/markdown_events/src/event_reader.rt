@@ -2,15 +2,15 @@
 ghost use Rattle.std.specs.Prelude.{◌≡◌, ◌-◌, ◌∷◌, ◌<◌, ◌≤◌, ◌^◌, [], List, drop, false, length, map, IsTrue, IfErr, IfOk, IfSome, IfNone, OnOk};
 ghost use Rattle.markdown_events.specs.EventLaws.{AreAtBoundaries, AreBalanced, AreWithin};
 ghost use Rattle.markdown_events.specs.InlineEvents.{RangedEvent, seen_event};
-ghost use Rattle.markdown_events.specs.Nesting.{AreNested, without_ranges};
+ghost use Rattle.markdown_events.specs.Nesting.{AreNestedEvents};
 ghost use Rattle.markdown_blocks.specs.events.Events.{ends, leaf, seen_event as seen_block, seen_leaf, starts};
-ghost use Rattle.markdown_events.specs.page.Given.{AlwaysGivesOnly, Gives, GivesOnly, GivesOnlyWith, GivesWith, IsDone, IsPassed, events_left, leaf_left_with, left_with, setting_with};
+ghost use Rattle.markdown_events.specs.page.Given.{AlwaysGivesOnly, AlwaysGivesPage, Gives, GivesOnly, GivesWith, IsDone, IsPassed, KnowsDefinitions, events_left, leaf_left_with, left_with, setting_with};
 ghost use Rattle.markdown_events.specs.page.OpenElements.{begun, end_events, ended, next_span, passed, place_in, start_events};
 ghost use Rattle.markdown_values.specs.values.Extensions.{asked_by, commonmark};
-ghost use Rattle.markdown_events.specs.page.PageEvents.{AreDefinitionsOf, ArePageEvents, ArePageEventsWith};
-ghost use Rattle.markdown_events.specs.Targets.{Targets};
+ghost use Rattle.markdown_events.specs.page.PageEvents.{ArePageEvents};
+ghost use Rattle.markdown_events.specs.page.Sizes.{EventsFit};
 ghost use Rattle.markdown_events.specs.page.Settings.{Explains, not_built};
-ghost use Rattle.markdown_events.specs.page.References.{AreEventsInRoom, ReferencesFit, added};
+ghost use Rattle.markdown_events.specs.page.References.{AreEventsInRoom, CellsFit, ReferencesFit, room_after};
 ghost use Rattle.markdown_events.specs.page.TaskEvents.{task_here};
 
 use crate::definitions::{Definitions, NoBrokenLinks, PageDefinitions};
@@ -19,9 +19,9 @@ use crate::page::blocks_left::BlocksLeft;
 use crate::page::blocks_of::read_page;
 use crate::page::definitions::WithBrokenLinks;
 use crate::page::open_elements::OpenElements;
-use crate::page::reading::Reading;
+use crate::page::reading::{Reading, Room};
 use crate::page::ready::ReadyEvents;
-use crate::page::references::{events_in_room, room_of};
+use crate::page::references::{events_in_room, page_room};
 use crate::page::spans::spans_of;
 pub use crate::settings::NewError;
 use crate::settings::{built, setting_of};
@@ -41,13 +41,11 @@ pub struct EventReader<'a> {
     page: &'a str,
     extensions: Extensions,
     definitions: PageDefinitions<'a>,
-    // How many bytes references may still add.
-    room: usize,
+    room: Room,
     blocks: BlocksLeft<'a>,
     elements: OpenElements,
     ready: ReadyEvents<'a>,
-    // The memory in which one leaf block after another is read.
-    memory: InlineMemory<'a>,
+    memory: InlineMemory<'a>, // in which one leaf block after another is read
 }
 
 impl<'a> Model for EventReader<'a> {
@@ -81,20 +79,21 @@ impl<'a> EventReader<'a> {
     pub fn new(alloc: Global, text: &'a str) -> Result<EventReader<'a>, AllocError>
         ensures page { IfOk result (GivesOnly (ArePageEvents text.now commonmark)) }
         ensures balanced { IfOk result (GivesOnly AreBalanced) }
-        ensures nested { IfOk result (GivesOnly (λ events. AreNested (without_ranges events))) }
+        ensures nested { IfOk result (GivesOnly AreNestedEvents) }
         ensures within { IfOk result (GivesOnly (AreWithin text.now)) }
         ensures boundaries { IfOk result (GivesOnly (AreAtBoundaries text.now)) }
         ensures references { IfOk result (GivesOnly (ReferencesFit text.now)) }
-        ensures definitions { IfOk result (λ reader.
-            AreDefinitionsOf text.now commonmark reader.known) }
-        ensures broken { IfOk result (λ reader. (more : Targets)
-            → GivesOnlyWith more (ArePageEventsWith text.now commonmark more) reader) }
+        ensures cells { IfOk result (GivesOnly (CellsFit text.now)) }
+        ensures few { IfOk result (GivesOnly (EventsFit text.now)) }
+        ensures definitions { IfOk result (KnowsDefinitions text.now commonmark) }
+        ensures broken { IfOk result (AlwaysGivesPage text.now commonmark) }
         ensures broken_balanced { IfOk result (AlwaysGivesOnly AreBalanced) }
-        ensures broken_nested { IfOk result (AlwaysGivesOnly (λ events.
-            AreNested (without_ranges events))) }
+        ensures broken_nested { IfOk result (AlwaysGivesOnly AreNestedEvents) }
         ensures broken_within { IfOk result (AlwaysGivesOnly (AreWithin text.now)) }
         ensures broken_boundaries { IfOk result (AlwaysGivesOnly (AreAtBoundaries text.now)) }
         ensures broken_references { IfOk result (AlwaysGivesOnly (ReferencesFit text.now)) }
+        ensures broken_cells { IfOk result (AlwaysGivesOnly (CellsFit text.now)) }
+        ensures broken_few { IfOk result (AlwaysGivesOnly (EventsFit text.now)) }
     {
         EventReader::with_setting(alloc, text, Extensions::none())
     }
@@ -103,7 +102,7 @@ impl<'a> EventReader<'a> {
     ///
     /// # Errors
     ///
-    /// `NotBuilt` with those of the options that are not built, where one is, and `Refused` where
+    /// `Unsupported` with those of the options that are not built, where one is, and `Refused` where
     /// memory is refused.
     pub fn new_ext(
         alloc: Global,
@@ -112,20 +111,21 @@ impl<'a> EventReader<'a> {
     ) -> Result<EventReader<'a>, NewError>
         ensures page { IfOk result (GivesOnly (ArePageEvents text.now (asked_by options))) }
         ensures balanced { IfOk result (GivesOnly AreBalanced) }
-        ensures nested { IfOk result (GivesOnly (λ events. AreNested (without_ranges events))) }
+        ensures nested { IfOk result (GivesOnly AreNestedEvents) }
         ensures within { IfOk result (GivesOnly (AreWithin text.now)) }
         ensures boundaries { IfOk result (GivesOnly (AreAtBoundaries text.now)) }
         ensures references { IfOk result (GivesOnly (ReferencesFit text.now)) }
-        ensures definitions { IfOk result (λ reader.
-            AreDefinitionsOf text.now (asked_by options) reader.known) }
-        ensures broken { IfOk result (λ reader. (more : Targets)
-            → GivesOnlyWith more (ArePageEventsWith text.now (asked_by options) more) reader) }
+        ensures cells { IfOk result (GivesOnly (CellsFit text.now)) }
+        ensures few { IfOk result (GivesOnly (EventsFit text.now)) }
+        ensures definitions { IfOk result (KnowsDefinitions text.now (asked_by options)) }
+        ensures broken { IfOk result (AlwaysGivesPage text.now (asked_by options)) }
         ensures broken_balanced { IfOk result (AlwaysGivesOnly AreBalanced) }
-        ensures broken_nested { IfOk result (AlwaysGivesOnly (λ events.
-            AreNested (without_ranges events))) }
+        ensures broken_nested { IfOk result (AlwaysGivesOnly AreNestedEvents) }
         ensures broken_within { IfOk result (AlwaysGivesOnly (AreWithin text.now)) }
         ensures broken_boundaries { IfOk result (AlwaysGivesOnly (AreAtBoundaries text.now)) }
         ensures broken_references { IfOk result (AlwaysGivesOnly (ReferencesFit text.now)) }
+        ensures broken_cells { IfOk result (AlwaysGivesOnly (CellsFit text.now)) }
+        ensures broken_few { IfOk result (AlwaysGivesOnly (EventsFit text.now)) }
         ensures built { IfOk result (λ _. not_built options ≡ 0) }
         ensures refused { IfErr result (Explains options) }
     {
@@ -148,20 +148,21 @@ impl<'a> EventReader<'a> {
     ) -> Result<EventReader<'a>, AllocError>
         ensures page { IfOk result (GivesOnly (ArePageEvents page.now setting)) }
         ensures balanced { IfOk result (GivesOnly AreBalanced) }
-        ensures nested { IfOk result (GivesOnly (λ events. AreNested (without_ranges events))) }
+        ensures nested { IfOk result (GivesOnly AreNestedEvents) }
         ensures within { IfOk result (GivesOnly (AreWithin page.now)) }
         ensures boundaries { IfOk result (GivesOnly (AreAtBoundaries page.now)) }
         ensures references { IfOk result (GivesOnly (ReferencesFit page.now)) }
-        ensures definitions { IfOk result (λ reader.
-            AreDefinitionsOf page.now setting reader.known) }
-        ensures broken { IfOk result (λ reader. (more : Targets)
-            → GivesOnlyWith more (ArePageEventsWith page.now setting more) reader) }
+        ensures cells { IfOk result (GivesOnly (CellsFit page.now)) }
+        ensures few { IfOk result (GivesOnly (EventsFit page.now)) }
+        ensures definitions { IfOk result (KnowsDefinitions page.now setting) }
+        ensures broken { IfOk result (AlwaysGivesPage page.now setting) }
         ensures broken_balanced { IfOk result (AlwaysGivesOnly AreBalanced) }
-        ensures broken_nested { IfOk result (AlwaysGivesOnly (λ events.
-            AreNested (without_ranges events))) }
+        ensures broken_nested { IfOk result (AlwaysGivesOnly AreNestedEvents) }
         ensures broken_within { IfOk result (AlwaysGivesOnly (AreWithin page.now)) }
         ensures broken_boundaries { IfOk result (AlwaysGivesOnly (AreAtBoundaries page.now)) }
         ensures broken_references { IfOk result (AlwaysGivesOnly (ReferencesFit page.now)) }
+        ensures broken_cells { IfOk result (AlwaysGivesOnly (CellsFit page.now)) }
+        ensures broken_few { IfOk result (AlwaysGivesOnly (EventsFit page.now)) }
     {
         let (blocks, definitions) = read_page(alloc, page, built(setting))?;
         let spans = spans_of(alloc, &blocks)?;
@@ -170,7 +171,7 @@ impl<'a> EventReader<'a> {
             page,
             extensions: setting,
             definitions,
-            room: room_of(page),
+            room: page_room(page),
             blocks: BlocksLeft::all(blocks),
             elements: OpenElements::new(alloc, spans),
             ready: ReadyEvents::new(alloc),
@@ -308,7 +309,7 @@ impl<'a> EventReader<'a> {
         ensures refused { IfErr result (λ _. self.new ≡ self.old) }
     {
         match self.next_block() {
-            Some(&BlockEvent::Start(container, place)) => self.read_start(container, place),
+            Some(&BlockEvent::Start(container, offset)) => self.read_start(container, offset),
             Some(&BlockEvent::Block(leaf)) => self.read_leaf(leaf, broken),
             Some(BlockEvent::End) => self.read_end(),
             None => Ok(()),
@@ -325,17 +326,17 @@ impl<'a> EventReader<'a> {
     }
 
     // Reads the start of a container, which is the next block event.
-    fn read_start(&mut self, container: Container, place: usize) -> Result<(), AllocError>
+    fn read_start(&mut self, container: Container, offset: usize) -> Result<(), AllocError>
         requires waiting { self.old.ready ≡ [] }
-        requires next { self.old.blocks ≡ starts container place ∷ drop 1 self.old.blocks }
+        requires next { self.old.blocks ≡ starts container offset ∷ drop 1 self.old.blocks }
         ensures read { OnOk result (self.new ≡ left_with self.old
-            (start_events container place (next_span self.old.elements.spans)
+            (start_events container offset (next_span self.old.elements.spans)
             self.old.elements.elements)
-            (begun container place self.old.elements) (drop 1 self.old.blocks)) }
+            (begun container offset self.old.elements) (drop 1 self.old.blocks)) }
         ensures refused { IfErr result (λ _. self.new ≡ self.old) }
     {
         self.ready.make_room()?;
-        let (list, start) = self.elements.begin(container, place)?;
+        let (list, start) = self.elements.begin(container, offset)?;
         self.ready.put_edges(list, Some(start));
         self.blocks.pass();
         Ok(())
@@ -365,32 +366,33 @@ impl<'a> EventReader<'a> {
         Ok(())
     }
 
-    // The events of a leaf block that comes next, and how many bytes references may add after them.
+    // The events of a leaf block that comes next, and what room is left after them.
     #[inline(always)]
     fn leaf_events<B: Definitions<'a>>(
         &mut self,
         block: Leaf<'a>,
         broken: &B,
-    ) -> Result<(VecDeque<(Event<'a>, Range<usize>)>, usize), AllocError>
+    ) -> Result<(VecDeque<(Event<'a>, Range<usize>)>, Room), AllocError>
         requires next { self.old.blocks ≡ leaf (seen_leaf block) ∷ drop 1 self.old.blocks }
         ensures events { IfOk result (λ r. AreEventsInRoom self.old.page
             (setting_with (B.targets broken.now) self.old) self.old.room (place_in self.old.elements)
             self.old.elements.waiting (seen_leaf block.entry) (map seen_event r.0.items)) }
         ensures room { IfOk result (λ r.
-            r.1 ≡ self.old.room - added (map seen_event r.0.items)) }
+            r.1 ≡ room_after self.old.room (map seen_event r.0.items)) }
         ensures unchanged { self.new ≡ self.old }
     {
         let task = self.task(block);
-        let (alloc, page, asked) = (self.alloc, self.page, self.extensions);
+        let (alloc, page, asked, room) = (self.alloc, self.page, self.extensions, self.room);
         let definitions = WithBrokenLinks::new(&self.definitions, broken);
         let reading = Reading {
             alloc,
             page,
             asked,
             definitions: &definitions,
+            room,
         };
         let here = self.elements.place();
-        events_in_room(&reading, &mut self.memory, here, block, task, self.room)
+        events_in_room(&reading, &mut self.memory, here, block, task)
     }
 
     // The task list marker that a leaf block begins with that comes next, if they are asked for.

@@ -14,12 +14,15 @@ ghost use Rattle.markdown_inlines.specs.declared.links.LinkTarget.TheVariants.{W
 ghost use Rattle.markdown_inlines.specs.declared.pieces.PieceKind.TheVariants.{Code};
 ghost use Rattle.markdown_inlines.specs.Sources.{IsLinkSource, IsSource};
 ghost use Rattle.markdown_events.specs.EventLaws.{AreAtBoundaries, AreBalanced, AreWithin};
-ghost use Rattle.markdown_events.specs.InlineEvents.{AreEvents, AreInlineEvents, ArePieceEvents, RangedEvent, ranged, seen_event, autolink, shown_target};
+ghost use Rattle.markdown_events.specs.InlineEvents.{AreEvents, AreInlineEvents, ArePieceEvents, RangedEvent, autolink, event_setting};
+ghost use Rattle.markdown_events.specs.InlineEvents.{ranged, seen_event, shown_target, with_cells};
+ghost use Rattle.markdown_events.specs.LineFeeds.{with_line_feeds};
 ghost use Rattle.markdown_events.specs.Meanings.{IsLinkTag};
 ghost use Rattle.markdown_events.specs.Passes.{EndsBelow, IsFound, IsWritten, Leads, begun, with_event, with_events};
 
 use crate::definitions::{Defined, Definitions};
 use crate::elements::{InlineMemory, take_room};
+use crate::line_feeds::with_line_feeds;
 use crate::link_tags::{has_pipe, tag_of};
 use crate::page::source::Source;
 use crate::parts::part;
@@ -27,7 +30,7 @@ use crate::writer::Writer;
 use html_entities::HtmlEntities;
 use markdown_inlines::code_content::{code_text, lent_code_text};
 use markdown_inlines::inlines::Inline;
-use markdown_inlines::links::{Link, LinkTarget};
+use markdown_inlines::links::{Link, LinkTarget, Links};
 use markdown_inlines::pieces::{Piece, PieceKind};
 use markdown_scanners_tree::scanners::scan_entity;
 use markdown_values::strings::CowStr;
@@ -58,7 +61,7 @@ pub fn inline_events<'a, D: Definitions<'a>>(
     extensions: Extensions,
 ) -> Result<Vec<(Event<'a>, Range<usize>)>, AllocError>
     ensures events { IfOk result (λ events. AreInlineEvents text.now
-        (record { asked = extensions; targets = D.targets definitions.now })
+        (event_setting extensions (D.targets definitions.now))
         (map seen_event events.items)) }
 
     // Starts and ends balance, and both events of an element have one range.
@@ -85,8 +88,8 @@ pub(crate) fn source_events<'a, D: Definitions<'a>>(
     definitions: &D,
     extensions: Extensions,
 ) -> Result<Vec<(Event<'a>, Range<usize>)>, AllocError>
-    ensures events { IfOk result (λ events. AreInlineEvents source.now
-        (record { asked = extensions; targets = D.targets definitions.now })
+    ensures events { IfOk result (λ events. (cells : ℕ) → AreInlineEvents source.now
+        (with_cells cells (event_setting extensions (D.targets definitions.now)))
         (map seen_event events.items)) }
     ensures balanced { IfOk result (λ events. AreBalanced (map seen_event events.items)) }
     ensures within { IfOk result (λ events. AreWithin source.now (map seen_event events.items)) }
@@ -121,7 +124,7 @@ fn push_inlines<'a, D: Definitions<'a>>(
     alloc: Global,
     source: &Source<'a, '_>,
     definitions: &D,
-    links: &[Option<Link>],
+    links: &Links,
     writer: &mut Writer<'a>,
     inlines: &[Inline],
 ) -> Result<(), AllocError>
@@ -141,12 +144,13 @@ fn push_inlines<'a, D: Definitions<'a>>(
 //
 // What makes a value of many bytes is a function of its own, and is not inlined: a function clears the
 // memory of all its values where it begins, and most inlines are texts.
+#[tactic(auto, using(crate::proofs::inline_events::PassLemmas::no_link))]
 #[inline(always)]
 fn push_inline<'a, D: Definitions<'a>>(
     alloc: Global,
     source: &Source<'a, '_>,
     definitions: &D,
-    links: &[Option<Link>],
+    links: &Links,
     writer: &mut Writer<'a>,
     inline: Inline,
 ) -> Result<(), AllocError>
@@ -157,14 +161,14 @@ fn push_inline<'a, D: Definitions<'a>>(
 {
     match inline {
         Inline::Leaf(piece) => push_piece(alloc, source, writer, piece),
-        Inline::StartEmphasis(place, count) => begin_emphasis(writer, place, count),
-        Inline::StartStrikethrough(place, _) => begin_strikethrough(writer, place),
+        Inline::StartEmphasis(offset, count) => begin_emphasis(writer, offset, count),
+        Inline::StartStrikethrough(offset, _) => begin_strikethrough(writer, offset),
         Inline::StartLink(number) => match links.get(number) {
-            Some(Some(link)) => begin_link(alloc, source, definitions, writer, link),
-            _ => Ok(()),
+            Some(link) => begin_link(alloc, source, definitions, writer, link),
+            None => Ok(()),
         },
-        Inline::EndEmphasis(place, count) | Inline::EndStrikethrough(place, count) => {
-            writer.end(place + count)
+        Inline::EndEmphasis(offset, count) | Inline::EndStrikethrough(offset, count) => {
+            writer.end(offset + count)
         }
         Inline::EndLink(piece) => writer.end(piece.end),
     }
@@ -384,7 +388,7 @@ fn push_built_code<'a>(
     writer.push(Event::Code(code), piece.start, piece.end)
 }
 
-// Adds the raw HTML that stands from `start` up to `end`.
+// Adds the raw HTML that stands from `start` up to `end`, its line endings as line feeds.
 #[inline(never)]
 fn push_html<'a>(
     alloc: Global,
@@ -396,20 +400,21 @@ fn push_html<'a>(
     requires begins { IsCharBoundary source.now start }
     requires ends { IsCharBoundary source.now end }
     ensures { OnOk result (writer.new
-        ≡ with_event (ranged (inline_html (slice_range source.now start end)) start end) writer.old) }
+        ≡ with_event (ranged (inline_html (with_line_feeds (slice_range source.now start end)))
+        start end) writer.old) }
 {
-    let html = source.part(alloc, start, end)?;
+    let html = with_line_feeds(alloc, source.part(alloc, start, end)?)?;
     writer.push(Event::InlineHtml(html), start, end)
 }
 
-// The text of the character reference that stands at a place.
-fn meaning_at(text: &str, place: usize) -> CowStr<'static>
-    requires within { place < length text.now }
+// The text of the character reference that stands at an offset.
+fn meaning_at(text: &str, offset: usize) -> CowStr<'static>
+    requires within { offset < length text.now }
     ensures { (len : ℕ) (meaning : List ℕ)
-        → StartsWithReference html_entity (drop place text.now) len meaning
+        → StartsWithReference html_entity (drop offset text.now) len meaning
         → cow_text result ≡ meaning }
 {
-    let meaning = scan_entity(&text.as_bytes()[place..], &HtmlEntities).1;
+    let meaning = scan_entity(&text.as_bytes()[offset..], &HtmlEntities).1;
     match meaning {
         Some(meaning) => meaning,
         None => CowStr::from(""),

@@ -10,6 +10,7 @@ pub mod event_reader;
 pub mod inline_events;
 pub mod insecure_characters;
 mod joined_text;
+mod line_feeds;
 mod link_tags;
 mod page;
 pub mod parser;

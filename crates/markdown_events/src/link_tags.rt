@@ -15,7 +15,7 @@ ghost use Rattle.markdown_events.specs.Targets.{Targets, seen_target};
 
 use crate::definitions::{Definitions, Target};
 use crate::page::source::Source;
-use crate::parts::meaning_of;
+use crate::parts::{meaning_of, title_meaning};
 use markdown_inlines::link_targets::scan_label;
 use markdown_inlines::links::{Link, LinkTarget};
 use markdown_values::strings::CowStr;
@@ -70,27 +70,27 @@ fn label_of<'a>(
 fn label_at<'a>(
     alloc: Global,
     source: &Source<'a, '_>,
-    place: usize,
+    offset: usize,
 ) -> Result<CowStr<'a>, AllocError>
-    requires { IsCharBoundary source.now place }
+    requires { IsCharBoundary source.now offset }
     ensures { IfOk result (λ label. (close : ℕ) (name : List ℕ)
-        → IsLabelAt source.now place close name → cow_text label ≡ name) }
+        → IsLabelAt source.now offset close name → cow_text label ≡ name) }
 {
     if let Some(run) = source.run() {
-        return read_label(alloc, run, place);
+        return read_label(alloc, run, offset);
     }
     // It begins at the offset, where no white space stands before it.
-    let label = read_label(alloc, source.text(), place)?;
-    source.lend(alloc, label, place)
+    let label = read_label(alloc, source.text(), offset)?;
+    source.lend(alloc, label, offset)
 }
 
 // The label that stands in a text from an offset up to its right bracket.
-fn read_label<'t>(alloc: Global, text: &'t str, place: usize) -> Result<CowStr<'t>, AllocError>
-    requires { IsCharBoundary text.now place }
+fn read_label<'t>(alloc: Global, text: &'t str, offset: usize) -> Result<CowStr<'t>, AllocError>
+    requires { IsCharBoundary text.now offset }
     ensures { IfOk result (λ label. (close : ℕ) (name : List ℕ)
-        → IsLabelAt text.now place close name → cow_text label ≡ name) }
+        → IsLabelAt text.now offset close name → cow_text label ≡ name) }
 {
-    match scan_label(alloc, text, place)? {
+    match scan_label(alloc, text, offset)? {
         Some((_, label)) => Ok(label),
         None => Ok(CowStr::from("")),
     }
@@ -165,7 +165,7 @@ fn title_of<'a>(alloc: Global, title: Option<CowStr<'a>>) -> Result<CowStr<'a>, 
         IsTitle (option_map cow_text title.entry) (cow_text meaning)) }
 {
     match title {
-        Some(title) => meaning_of(alloc, title),
+        Some(title) => title_meaning(alloc, title),
         None => Ok(CowStr::from("")),
     }
 }

@@ -8,7 +8,8 @@ ghost use Rattle.markdown_events.specs.page.Given.{AlwaysGivesOnly, GivesOnly, G
 ghost use Rattle.markdown_events.specs.page.Iterated.{GivesNext, GivesNextEvent, GivesNextEventWith, GivesNextWith, Iterated, items_left, without_range};
 ghost use Rattle.markdown_events.specs.page.PageEvents.{AreDefinitionsOf, ArePageEvents, ArePageEventsWith};
 ghost use Rattle.markdown_values.specs.values.Extensions.{asked_by, commonmark};
-ghost use Rattle.markdown_events.specs.page.References.{ReferencesFit};
+ghost use Rattle.markdown_events.specs.page.References.{CellsFit, ReferencesFit};
+ghost use Rattle.markdown_events.specs.page.Sizes.{EventsFit};
 ghost use Rattle.markdown_events.specs.page.Settings.{Explains, not_built};
 
 use crate::definitions::{Definitions, NoBrokenLinks, PageDefinitions};
@@ -61,6 +62,10 @@ impl<'a> Parser<'a> {
             GivesOnly (AreAtBoundaries text.now) parser.left) }
         ensures references { IfOk result (λ parser.
             GivesOnly (ReferencesFit text.now) parser.left) }
+        ensures cells { IfOk result (λ parser.
+            GivesOnly (CellsFit text.now) parser.left) }
+        ensures few { IfOk result (λ parser.
+            GivesOnly (EventsFit text.now) parser.left) }
         ensures definitions { IfOk result (λ parser.
             AreDefinitionsOf text.now commonmark parser.left.known) }
         ensures broken { IfOk result (λ parser. (more : Targets)
@@ -74,6 +79,10 @@ impl<'a> Parser<'a> {
             AlwaysGivesOnly (AreAtBoundaries text.now) parser.left) }
         ensures broken_references { IfOk result (λ parser.
             AlwaysGivesOnly (ReferencesFit text.now) parser.left) }
+        ensures broken_cells { IfOk result (λ parser.
+            AlwaysGivesOnly (CellsFit text.now) parser.left) }
+        ensures broken_few { IfOk result (λ parser.
+            AlwaysGivesOnly (EventsFit text.now) parser.left) }
         ensures goes { IfOk result (λ parser. parser.is_stopped ≡ false) }
     {
         Ok(Parser::of_reader(EventReader::new(alloc, text)?))
@@ -83,7 +92,7 @@ impl<'a> Parser<'a> {
     ///
     /// # Errors
     ///
-    /// `NotBuilt` with those of the options that are not built, where one is, and `Refused` where the
+    /// `Unsupported` with those of the options that are not built, where one is, and `Refused` where the
     /// memory is refused that `EventReader::new` asks for.
     pub fn new_ext(alloc: Global, text: &'a str, options: Options) -> Result<Parser<'a>, NewError>
         ensures page { IfOk result (λ parser.
@@ -96,6 +105,10 @@ impl<'a> Parser<'a> {
             GivesOnly (AreAtBoundaries text.now) parser.left) }
         ensures references { IfOk result (λ parser.
             GivesOnly (ReferencesFit text.now) parser.left) }
+        ensures cells { IfOk result (λ parser.
+            GivesOnly (CellsFit text.now) parser.left) }
+        ensures few { IfOk result (λ parser.
+            GivesOnly (EventsFit text.now) parser.left) }
         ensures definitions { IfOk result (λ parser.
             AreDefinitionsOf text.now (asked_by options) parser.left.known) }
         ensures broken { IfOk result (λ parser. (more : Targets)
@@ -109,6 +122,10 @@ impl<'a> Parser<'a> {
             AlwaysGivesOnly (AreAtBoundaries text.now) parser.left) }
         ensures broken_references { IfOk result (λ parser.
             AlwaysGivesOnly (ReferencesFit text.now) parser.left) }
+        ensures broken_cells { IfOk result (λ parser.
+            AlwaysGivesOnly (CellsFit text.now) parser.left) }
+        ensures broken_few { IfOk result (λ parser.
+            AlwaysGivesOnly (EventsFit text.now) parser.left) }
         ensures goes { IfOk result (λ parser. parser.is_stopped ≡ false) }
         ensures built { IfOk result (λ _. not_built options ≡ 0) }
         ensures refused { IfErr result (Explains options) }

@@ -4,8 +4,9 @@ ghost use Rattle.std.specs.List.{list_all};
 ghost use Rattle.std.specs.Str.{IsCharBoundary, IsUtf8};
 ghost use Rattle.markdown_values.specs.strings.Text.{cow_text};
 ghost use Rattle.markdown_scanners_tree.specs.scanners.unescaping.private.FirstPiece.{begins_change};
-ghost use Rattle.markdown_events.specs.Meanings.{IsMeaning};
+ghost use Rattle.markdown_events.specs.Meanings.{IsMeaning, IsTitleMeaning};
 
+use crate::line_feeds::with_line_feeds;
 use html_entities::HtmlEntities;
 use markdown_scanners_tree::byte_sets::ByteSet;
 use markdown_scanners_tree::scanners::unescape;
@@ -49,6 +50,14 @@ fn resolved<'a>(alloc: Global, text: CowStr<'a>) -> Result<CowStr<'a>, AllocErro
     ensures { IfOk result (λ meaning. IsMeaning (cow_text text.entry) (cow_text meaning)) }
 {
     unescape(alloc, text, false, &HtmlEntities)
+}
+
+/// What is meant by a title: its line endings are line feeds, its backslash escapes and character
+/// references resolved.
+pub(crate) fn title_meaning<'a>(alloc: Global, title: CowStr<'a>) -> Result<CowStr<'a>, AllocError>
+    ensures { IfOk result (λ meaning. IsTitleMeaning (cow_text title.entry) (cow_text meaning)) }
+{
+    meaning_of(alloc, with_line_feeds(alloc, title)?)
 }
 
 // Whether no byte of a text begins what means anything but itself.

@@ -11,7 +11,7 @@ use std::alloc::AllocError;
 #[derive(Clone, Copy, Debug)]
 pub enum NewError {
     /// These of the options are not built.
-    NotBuilt(Options),
+    Unsupported(Options),
     /// Memory was refused.
     Refused(AllocError),
 }
@@ -43,7 +43,7 @@ pub fn setting_of(options: Options) -> Result<Extensions, NewError>
 {
     let left = not_built(options);
     if !left.is_empty() {
-        return Err(NewError::NotBuilt(left));
+        return Err(NewError::Unsupported(left));
     }
     Ok(Extensions::of(options))
 }

@@ -121,7 +121,7 @@ impl<'a> Writer<'a> {
         self.push(Event::SoftBreak, from, to)
     }
 
-    /// Begins an element with this tag at a place of the text. Where it ends is written when it does.
+    /// Begins an element with this tag at an offset of the text. Where it ends is written when it does.
     #[inline(always)]
     pub(crate) fn begin(&mut self, tag: Tag<'a>, from: usize) -> Result<(), AllocError>
         ensures { OnOk result (self.new ≡ begun (tag_view cow_text tag.entry) from self.old) }

@@ -256,10 +256,10 @@ module _ (text : List ℕ) (known : Known) where
     step_of reading piece next (inr (inr is)) holds =
         subst (Steps reading) (sym is.next_is) (with_piece_steps piece.kind piece reading holds)
 
-    all_steps : (place : ℕ) (reading : Reading) (pieces : List Piece) (last : Reading) → AreRead setting place reading pieces last → Holds reading
+    all_steps : (offset : ℕ) (reading : Reading) (pieces : List Piece) (last : Reading) → AreRead setting offset reading pieces last → Holds reading
         → Steps reading last
-    all_steps place reading [] last is holds = stays reading last is.1 holds
-    all_steps place reading (piece ∷ later) last is holds =
+    all_steps offset reading [] last is holds = stays reading last is.1 holds
+    all_steps offset reading (piece ∷ later) last is holds =
         let step = step_of reading piece is.1 (read_as setting reading piece is.1 piece.kind refl is.2) holds in
         let rest = all_steps piece.end is.1 later last is.3 step.holds in
         record { kept = λ n a at. rest.kept n a (step.kept n a at); holds = rest.holds }
@@ -307,12 +307,12 @@ module _ (text : List ℕ) (known : Known) where
           known_other setting.asked text piece is.at.len utf8 cut.0 is.at.end_is
           (subst (λ t. BeginsAt setting.asked t piece.start piece.start piece.kind is.at.len) holds.text_is is.at.begins)
 
-      all_known : (place : ℕ) (reading : Reading) (pieces : List Piece) (last : Reading) → AreRead setting place reading pieces last
-          → Holds reading → IsCharBoundary text place
+      all_known : (offset : ℕ) (reading : Reading) (pieces : List Piece) (last : Reading) → AreRead setting offset reading pieces last
+          → Holds reading → IsCharBoundary text offset
           → ((n : ℕ) (a : Link) → slice_get last.links n ≡ Some (Some a) → IsCharBoundary text a.source.end)
           → AllByRecursion (IsKnown text) pieces
-      all_known place reading [] last is holds cut ends = tt
-      all_known place reading (piece ∷ later) last is holds cut ends =
+      all_known offset reading [] last is holds cut ends = tt
+      all_known offset reading (piece ∷ later) last is holds cut ends =
           let view = read_as setting reading piece is.1 piece.kind refl is.2 in
           let step = step_of reading piece is.1 view holds in
           let rest = all_steps piece.end is.1 later last is.3 step.holds in

@@ -1,11 +1,13 @@
 -- Each inline of a text has some bytes of it, of whatever bytes the text is.
 use Rattle.std.proofs.Common.{ℕ, zero, suc, true, false, Bool, List, [], ◌∷◌, ◌≡◌, ◌<◌, ◌≤◌, ◌+◌, ◌-◌, ◌∙◌, inl, inr, length, get_or, arith}
-use Rattle.std.proofs.Common.{refl, sym, ap, subst, Option, Some, None, if◌then◌else◌}
+use Rattle.std.proofs.Common.{refl, sym, ap, subst, length-append, Option, Some, None, if◌then◌else◌}
 use Rattle.std.specs.Prelude.{⊤, slice_get}
 use Rattle.std.specs.List.{AllByRecursion, flat_map, range_with_len}
 use Rattle.std.proofs.lemmas.Bool.{cases_lt}
 use Rattle.std.proofs.Math.ListN.{get_or-eq_default}
 use Rattle.std.proofs.lemmas.Option.{slice_get-get_or}
+use Rattle.markdown_scanners_tree.specs.Ascii.{colon}
+use Rattle.markdown_inlines.specs.Emails.{at_sign}
 use Rattle.markdown_inlines.specs.Inlines.{Reading, Setting, AreRead, at_start}
 use Rattle.markdown_inlines.specs.Links.{Known, IsTarget}
 use Rattle.markdown_inlines.specs.Marks.{ends_link, marks_by}
@@ -31,10 +33,10 @@ use Rattle.markdown_events.proofs.found.InlineFacts.{all_both, defined}
 
 -- ---- pieces
 
--- an address stands between its angle brackets
+-- an address of some bytes stands between its angle brackets
 abbrev pub HasInner : PieceKind → Piece → Type 0
-HasInner K.Uri piece = piece.start + 1 ≤ piece.end - 1
-HasInner K.Email piece = piece.start + 1 ≤ piece.end - 1
+HasInner K.Uri piece = piece.start + 1 < piece.end - 1
+HasInner K.Email piece = piece.start + 1 < piece.end - 1
 HasInner kind piece = ⊤
 
 -- a piece has some bytes
@@ -50,8 +52,12 @@ inner_of asked text piece len ends K.HardBreak begins = tt
 inner_of asked text piece len ends K.SoftBreak begins = tt
 inner_of asked text piece len ends K.Reference begins = tt
 inner_of asked text piece len ends (K.Code backticks) begins = tt
-inner_of asked text piece len ends K.Uri begins = omega (arith, ends, begins.counted)
-inner_of asked text piece len ends K.Email begins = omega (arith, ends, begins.1.counted)
+inner_of asked text piece len ends K.Uri begins =
+    let uri = begins.is_uri in
+    omega (arith, ends, begins.counted, ap length uri.spelled, length-append uri.scheme (colon ∷ uri.address))
+inner_of asked text piece len ends K.Email begins =
+    let email = begins.1.is_address in
+    omega (arith, ends, begins.1.counted, ap length email.spelled, length-append email.local (at_sign ∷ email.domain))
 inner_of asked text piece len ends K.Html begins = tt
 inner_of asked text piece len ends (K.Delimiters run) begins = tt
 inner_of asked text piece len ends K.LinkOpener begins = tt
@@ -75,10 +81,10 @@ read_bytes setting reading piece next (inr (inr is)) =
       inner = inner_of setting.asked reading.text piece is.at.len is.at.end_is piece.kind is.at.begins;
     }
 
-pieces_bytes : (setting : Setting) (place : ℕ) (reading : Reading) (pieces : List Piece) (last : Reading) → AreRead setting place reading pieces last
+pieces_bytes : (setting : Setting) (offset : ℕ) (reading : Reading) (pieces : List Piece) (last : Reading) → AreRead setting offset reading pieces last
     → AllByRecursion HasBytes pieces
-pieces_bytes setting place reading [] last is = tt
-pieces_bytes setting place reading (piece ∷ later) last is = (
+pieces_bytes setting offset reading [] last is = tt
+pieces_bytes setting offset reading (piece ∷ later) last is = (
   read_bytes setting reading piece is.1 (read_as setting reading piece is.1 piece.kind refl is.2),
   pieces_bytes setting piece.end is.1 later last is.3,
 )
@@ -93,10 +99,10 @@ ShowsBefore target it = ⊤
 -- An inline has some bytes: a piece, the delimiters of emphasis and strikethrough, and the opener of a link.
 abbrev pub IsFilled : List (Option Link) → Inline → Type 0
 IsFilled links (I.Leaf piece) = HasBytes piece
-IsFilled links (I.StartEmphasis place count) = 0 < count
-IsFilled links (I.EndEmphasis place count) = 0 < count
-IsFilled links (I.StartStrikethrough place count) = 0 < count
-IsFilled links (I.EndStrikethrough place count) = 0 < count
+IsFilled links (I.StartEmphasis offset count) = 0 < count
+IsFilled links (I.EndEmphasis offset count) = 0 < count
+IsFilled links (I.StartStrikethrough offset count) = 0 < count
+IsFilled links (I.EndStrikethrough offset count) = 0 < count
 IsFilled links (I.StartLink number) =
     (it : Link) × (slice_get links number ≡ Some (Some it)) × (it.source.start < it.text.start) × ShowsBefore it.target it
 IsFilled links (I.EndLink piece) = piece.start < piece.end
@@ -141,26 +147,26 @@ module _ (links : List (Option Link)) (emphasis : List Emphasis)
   closer_filled true piece bytes = bytes.some
   closer_filled false piece bytes = bytes
 
-  byte_filled : (place : ℕ) → HasBytes (record { kind = K.Text; start = place; end = place + 1 })
-  byte_filled place = record { some = omega arith; inner = tt }
+  byte_filled : (offset : ℕ) → HasBytes (record { kind = K.Text; start = offset; end = offset + 1 })
+  byte_filled offset = record { some = omega arith; inner = tt }
 
-  delimiter_filled : (mark : Mark) (place : ℕ) → AllByRecursion (IsFilled links) (delimiter_with mark place)
-  delimiter_filled M.Nothing place = (byte_filled place, tt)
-  delimiter_filled M.OpensEmphasis place = (omega arith, tt)
-  delimiter_filled M.OpensStrong place = (omega arith, tt)
-  delimiter_filled M.ClosesEmphasis place = (omega arith, tt)
-  delimiter_filled M.ClosesStrong place = (omega arith, tt)
-  delimiter_filled M.OpensStrikethrough place = (omega arith, tt)
-  delimiter_filled M.OpensStrikethroughOfTwo place = (omega arith, tt)
-  delimiter_filled M.ClosesStrikethrough place = (omega arith, tt)
-  delimiter_filled M.ClosesStrikethroughOfTwo place = (omega arith, tt)
-  delimiter_filled M.Second place = tt
+  delimiter_filled : (mark : Mark) (offset : ℕ) → AllByRecursion (IsFilled links) (delimiter_with mark offset)
+  delimiter_filled M.Nothing offset = (byte_filled offset, tt)
+  delimiter_filled M.OpensEmphasis offset = (omega arith, tt)
+  delimiter_filled M.OpensStrong offset = (omega arith, tt)
+  delimiter_filled M.ClosesEmphasis offset = (omega arith, tt)
+  delimiter_filled M.ClosesStrong offset = (omega arith, tt)
+  delimiter_filled M.OpensStrikethrough offset = (omega arith, tt)
+  delimiter_filled M.OpensStrikethroughOfTwo offset = (omega arith, tt)
+  delimiter_filled M.ClosesStrikethrough offset = (omega arith, tt)
+  delimiter_filled M.ClosesStrikethroughOfTwo offset = (omega arith, tt)
+  delimiter_filled M.Second offset = tt
 
-  run_filled : (n place : ℕ) → AllByRecursion (IsFilled links) (flat_map (delimiter_at emphasis) (range_with_len place n))
-  run_filled zero place = tt
-  run_filled (suc n) place =
-      all_both (IsFilled links) (delimiter_at emphasis place) (flat_map (delimiter_at emphasis) (range_with_len (place + 1) n))
-      (delimiter_filled (marks_by emphasis place) place) (run_filled n (place + 1))
+  run_filled : (n offset : ℕ) → AllByRecursion (IsFilled links) (flat_map (delimiter_at emphasis) (range_with_len offset n))
+  run_filled zero offset = tt
+  run_filled (suc n) offset =
+      all_both (IsFilled links) (delimiter_at emphasis offset) (flat_map (delimiter_at emphasis) (range_with_len (offset + 1) n))
+      (delimiter_filled (marks_by emphasis offset) offset) (run_filled n (offset + 1))
 
   piece_filled : (kind : PieceKind) (number : ℕ) (piece : Piece) → HasBytes piece
       → AllByRecursion (IsFilled links) (inlines_at kind links emphasis number piece)

@@ -10,7 +10,7 @@ use Rattle.std.proofs.lemmas.Bool.{cases_lt}
 use Rattle.std.proofs.Math.ListN.{get_or-eq_default}
 use Rattle.std.proofs.lemmas.Option.{slice_get_within, get_or_from_slice_get, slice_get-get_or}
 use Rattle.memchr.proofs.lemmas.MatchLemmas.{OccursAt-true}
-use Rattle.markdown_scanners_tree.proofs.ForCallers.{cut_behind_ascii}
+use Rattle.markdown_scanners_tree.proofs.ForCallers.{cut_after_ascii}
 use Rattle.markdown_inlines.specs.Inlines.{Setting}
 use Rattle.markdown_inlines.specs.Links.{Known, IsTarget}
 use Rattle.markdown_inlines.specs.Marks.{ends_link, marks_by}
@@ -49,7 +49,7 @@ label_cut text known from close (Full range) end utf8 is =
     let low : get_or text (close + 1 + 0) 0 ≡ 91 = opens.reads 0 (omega arith) in
     let before : range.start + 1 - 1 ≡ close + 1 + 0 = omega (arith, full.begins) in
     let byte : get_or text (range.start + 1 - 1) 0 ≡ 91 = ap (λ n. get_or text n 0) before ∙ low in
-    cut_behind_ascii text (range.start + 1) utf8 (omega (arith, fits, full.begins)) (omega arith) (omega (arith, byte))
+    cut_after_ascii text (range.start + 1) utf8 (omega (arith, fits, full.begins)) (omega arith) (omega (arith, byte))
 label_cut text known from close Collapsed end utf8 is = tt
 label_cut text known from close Shortcut end utf8 is = tt
 label_cut text known from close (Wiki range) end utf8 is = tt
@@ -111,39 +111,39 @@ module _ (text : List ℕ) (links : List (Option Link)) (emphasis : List Emphasi
   closer_fact true piece known = known.source
   closer_fact false piece known = leaf_fact piece known
 
-  byte_fact : (place : ℕ) → place < length text → get_or text place 0 < 128 → IsFact (byte_at place)
-  byte_fact place inside low =
-      let same : place + 1 - 1 ≡ place = omega arith in
-      let before : get_or text (place + 1 - 1) 0 < 128 = subst (λ n. get_or text n 0 < 128) (sym same) low in (
+  byte_fact : (offset : ℕ) → offset < length text → get_or text offset 0 < 128 → IsFact (byte_at offset)
+  byte_fact offset inside low =
+      let same : offset + 1 - 1 ≡ offset = omega arith in
+      let before : get_or text (offset + 1 - 1) 0 < 128 = subst (λ n. get_or text n 0 < 128) (sym same) low in (
         record {
           some = omega arith;
-          begins = low_cut text place (omega (arith, inside)) low;
-          ends = cut_behind_ascii text (place + 1) utf8 (omega (arith, inside)) (omega arith) before;
+          begins = low_cut text offset (omega (arith, inside)) low;
+          ends = cut_after_ascii text (offset + 1) utf8 (omega (arith, inside)) (omega arith) before;
         },
         tt,
       )
 
-  delimiter_facts : (mark : Mark) (place : ℕ) → place < length text → get_or text place 0 < 128
-      → AllByRecursion IsFact (delimiter_with mark place)
-  delimiter_facts M.Nothing place inside low = (byte_fact place inside low, tt)
-  delimiter_facts M.OpensEmphasis place inside low = (low_cut text place (omega (arith, inside)) low, tt)
-  delimiter_facts M.OpensStrong place inside low = (low_cut text place (omega (arith, inside)) low, tt)
-  delimiter_facts M.ClosesEmphasis place inside low = (low_cut text place (omega (arith, inside)) low, tt)
-  delimiter_facts M.ClosesStrong place inside low = (low_cut text place (omega (arith, inside)) low, tt)
-  delimiter_facts M.OpensStrikethrough place inside low = (low_cut text place (omega (arith, inside)) low, tt)
-  delimiter_facts M.OpensStrikethroughOfTwo place inside low = (low_cut text place (omega (arith, inside)) low, tt)
-  delimiter_facts M.ClosesStrikethrough place inside low = (low_cut text place (omega (arith, inside)) low, tt)
-  delimiter_facts M.ClosesStrikethroughOfTwo place inside low = (low_cut text place (omega (arith, inside)) low, tt)
-  delimiter_facts M.Second place inside low = tt
+  delimiter_facts : (mark : Mark) (offset : ℕ) → offset < length text → get_or text offset 0 < 128
+      → AllByRecursion IsFact (delimiter_with mark offset)
+  delimiter_facts M.Nothing offset inside low = (byte_fact offset inside low, tt)
+  delimiter_facts M.OpensEmphasis offset inside low = (low_cut text offset (omega (arith, inside)) low, tt)
+  delimiter_facts M.OpensStrong offset inside low = (low_cut text offset (omega (arith, inside)) low, tt)
+  delimiter_facts M.ClosesEmphasis offset inside low = (low_cut text offset (omega (arith, inside)) low, tt)
+  delimiter_facts M.ClosesStrong offset inside low = (low_cut text offset (omega (arith, inside)) low, tt)
+  delimiter_facts M.OpensStrikethrough offset inside low = (low_cut text offset (omega (arith, inside)) low, tt)
+  delimiter_facts M.OpensStrikethroughOfTwo offset inside low = (low_cut text offset (omega (arith, inside)) low, tt)
+  delimiter_facts M.ClosesStrikethrough offset inside low = (low_cut text offset (omega (arith, inside)) low, tt)
+  delimiter_facts M.ClosesStrikethroughOfTwo offset inside low = (low_cut text offset (omega (arith, inside)) low, tt)
+  delimiter_facts M.Second offset inside low = tt
 
-  run_facts : (n place end : ℕ) → place + n ≡ end → end ≤ length text
-      → ((k : ℕ) → place ≤ k → k < end → get_or text k 0 < 128)
-      → AllByRecursion IsFact (flat_map (delimiter_at emphasis) (range_with_len place n))
-  run_facts zero place end last inside low = tt
-  run_facts (suc n) place end last inside low =
-      all_both IsFact (delimiter_at emphasis place) (flat_map (delimiter_at emphasis) (range_with_len (place + 1) n))
-      (delimiter_facts (marks_by emphasis place) place (omega (arith, last, inside)) (low place (omega arith) (omega (arith, last))))
-      (run_facts n (place + 1) end (omega (arith, last)) inside (λ k least less. low k (omega (arith, least)) less))
+  run_facts : (n offset end : ℕ) → offset + n ≡ end → end ≤ length text
+      → ((k : ℕ) → offset ≤ k → k < end → get_or text k 0 < 128)
+      → AllByRecursion IsFact (flat_map (delimiter_at emphasis) (range_with_len offset n))
+  run_facts zero offset end last inside low = tt
+  run_facts (suc n) offset end last inside low =
+      all_both IsFact (delimiter_at emphasis offset) (flat_map (delimiter_at emphasis) (range_with_len (offset + 1) n))
+      (delimiter_facts (marks_by emphasis offset) offset (omega (arith, last, inside)) (low offset (omega arith) (omega (arith, last))))
+      (run_facts n (offset + 1) end (omega (arith, last)) inside (λ k least less. low k (omega (arith, least)) less))
 
   piece_facts : (kind : PieceKind) (number : ℕ) (piece : Piece) → piece.kind ≡ kind → IsKnown text piece
       → AllByRecursion IsFact (inlines_at kind links emphasis number piece)

@@ -12,54 +12,54 @@ use Rattle.markdown_scanners_tree.specs.linklabel.Label.{Bracketed, IsLabel, Lab
 use Rattle.markdown_events.proofs.found.InlineFacts.{all_both}
 
 module _ (whole : List ℕ) where
-  -- a kept byte stands at its place
+  -- a kept byte stands at its offset
   abbrev Stands : KeptByte → Type 0
-  Stands k = get_or whole k.place 0 ≡ k.byte
+  Stands k = get_or whole k.offset 0 ≡ k.byte
 
-  here : (place b : ℕ) (bs : List ℕ) → drop place whole ≡ b ∷ bs → get_or whole place 0 ≡ b
-  here place b bs at =
-      ap (λ n. get_or whole n 0) (let same : place ≡ place + 0 = omega arith in same) ∙ sym (get_or-drop place whole 0 0)
+  here : (offset b : ℕ) (bs : List ℕ) → drop offset whole ≡ b ∷ bs → get_or whole offset 0 ≡ b
+  here offset b bs at =
+      ap (λ n. get_or whole n 0) (let same : offset ≡ offset + 0 = omega arith in same) ∙ sym (get_or-drop offset whole 0 0)
       ∙ ap (λ (t : List ℕ). get_or t 0 0) at
 
-  next : (place b : ℕ) (bs : List ℕ) → drop place whole ≡ b ∷ bs → drop (place + 1) whole ≡ bs
-  next place b bs at = sym (drop-drop 1 place whole) ∙ ap (drop 1) at
+  next : (offset b : ℕ) (bs : List ℕ) → drop offset whole ≡ b ∷ bs → drop (offset + 1) whole ≡ bs
+  next offset b bs at = sym (drop-drop 1 offset whole) ∙ ap (drop 1) at
 
-  head_stands : (place : ℕ) (source : List ℕ) → drop place whole ≡ source → AllByRecursion Stands (kept_head place source)
-  head_stands place [] at = tt
-  head_stands place (b ∷ bs) at = elim (cases_Bool (is_line_ending b)) [
+  head_stands : (offset : ℕ) (source : List ℕ) → drop offset whole ≡ source → AllByRecursion Stands (kept_head offset source)
+  head_stands offset [] at = tt
+  head_stands offset (b ∷ bs) at = elim (cases_Bool (is_line_ending b)) [
     | inl ends ↦ rw ends tt
-    | inr goes ↦ rw goes (here place b bs at, head_stands (place + 1) bs (next place b bs at))
+    | inr goes ↦ rw goes (here offset b bs at, head_stands (offset + 1) bs (next offset b bs at))
   ]
 
-  return_stands : (place : ℕ) (bs : List ℕ) → drop place whole ≡ carriage_return ∷ bs → AllByRecursion Stands (kept_return place bs)
-  return_stands place [] at = (here place carriage_return [] at, tt)
-  return_stands place (c ∷ bs) at = elim (cases_Bool (c == line_feed)) [
+  return_stands : (offset : ℕ) (bs : List ℕ) → drop offset whole ≡ carriage_return ∷ bs → AllByRecursion Stands (kept_return offset bs)
+  return_stands offset [] at = (here offset carriage_return [] at, tt)
+  return_stands offset (c ∷ bs) at = elim (cases_Bool (c == line_feed)) [
     | inl feed ↦ rw feed (
-      here place carriage_return (c ∷ bs) at,
-      (here (place + 1) c bs (next place carriage_return (c ∷ bs) at) ∙ eqb-true c line_feed feed, tt),
+      here offset carriage_return (c ∷ bs) at,
+      (here (offset + 1) c bs (next offset carriage_return (c ∷ bs) at) ∙ eqb-true c line_feed feed, tt),
     )
-    | inr other ↦ rw other (here place carriage_return (c ∷ bs) at, tt)
+    | inr other ↦ rw other (here offset carriage_return (c ∷ bs) at, tt)
   ]
 
-  line_stands : (place : ℕ) (source : List ℕ) → drop place whole ≡ source → AllByRecursion Stands (kept_line place source)
-  line_stands place [] at = tt
-  line_stands place (b ∷ bs) at = elim (cases_Bool (b == line_feed)) [
-    | inl feed ↦ rw feed (here place b bs at, tt)
+  line_stands : (offset : ℕ) (source : List ℕ) → drop offset whole ≡ source → AllByRecursion Stands (kept_line offset source)
+  line_stands offset [] at = tt
+  line_stands offset (b ∷ bs) at = elim (cases_Bool (b == line_feed)) [
+    | inl feed ↦ rw feed (here offset b bs at, tt)
     | inr other ↦ elim (cases_Bool (b == carriage_return)) [
       | inl returns ↦ rw (other, returns)
-          (return_stands place bs (at ∙ ap (λ c. c ∷ bs) (eqb-true b carriage_return returns)))
-      | inr plain ↦ rw (other, plain) (here place b bs at, line_stands (place + 1) bs (next place b bs at))
+          (return_stands offset bs (at ∙ ap (λ c. c ∷ bs) (eqb-true b carriage_return returns)))
+      | inr plain ↦ rw (other, plain) (here offset b bs at, line_stands (offset + 1) bs (next offset b bs at))
     ]
   ]
 
-  from_stands : (place : ℕ) (source : List ℕ) (skips : List ℕ) → drop place whole ≡ source → AllByRecursion Stands (kept_from place source skips)
-  from_stands place source [] at = head_stands place source at
-  from_stands place source (skip ∷ skips) at =
+  from_stands : (offset : ℕ) (source : List ℕ) (skips : List ℕ) → drop offset whole ≡ source → AllByRecursion Stands (kept_from offset source skips)
+  from_stands offset source [] at = head_stands offset source at
+  from_stands offset source (skip ∷ skips) at =
       let n = line_len source + skip in
-      all_both Stands (kept_line place source) (kept_from (place + n) (drop n source) skips) (line_stands place source at)
-      (from_stands (place + n) (drop n source) skips (sym (drop-drop n place whole) ∙ ap (drop n) at))
+      all_both Stands (kept_line offset source) (kept_from (offset + n) (drop n source) skips) (line_stands offset source at)
+      (from_stands (offset + n) (drop n source) skips (sym (drop-drop n offset whole) ∙ ap (drop n) at))
 
-  -- the bracket that closes stands at its place
+  -- the bracket that closes stands at its offset
   closes_after : (front : List KeptByte) (found : Option Bracketed) (b : Bracketed) → preceded front found ≡ Some b
       → ((c : Bracketed) → found ≡ Some c → get_or whole c.close 0 ≡ right_bracket) → get_or whole b.close 0 ≡ right_bracket
   closes_after front None b h there = cc
@@ -72,7 +72,7 @@ module _ (whole : List ℕ) where
   closes_byte k units b stands h there = elim (cases_Bool (k.byte == right_bracket)) [
     | inl closes ↦
         (let found = rw closes at h in
-        let close : k.place ≡ b.close = cc in
+        let close : k.offset ≡ b.close = cc in
         ap (λ n. get_or whole n 0) (sym close) ∙ (stands ∙ eqb-true k.byte right_bracket closes))
     | inr unclosed ↦ elim (cases_Bool (k.byte == left_bracket)) [
       | inl opens ↦ absurd (let found = rw (unclosed, opens) at h in cc)
@@ -95,12 +95,12 @@ pub record EndsLow (text : List ℕ) (n : ℕ) : Type 0 where
   pub within : n ≤ length text
   pub low : get_or text (n - 1) 0 < 128
 
-pub low_byte : (text : List ℕ) (place b : ℕ) → get_or text place 0 ≡ b → 0 < b → b < 128 → EndsLow text (place + 1)
-low_byte text place b is some low =
-    let same : place + 1 - 1 ≡ place = omega arith in record {
+pub low_byte : (text : List ℕ) (offset b : ℕ) → get_or text offset 0 ≡ b → 0 < b → b < 128 → EndsLow text (offset + 1)
+low_byte text offset b is some low =
+    let same : offset + 1 - 1 ≡ offset = omega arith in record {
       some = omega arith;
-      within = elim (leb_tells (length text) place) [
-        | inl past ↦ absurd (omega (arith, is, some, get_or_past text place 0 past.1))
+      within = elim (leb_tells (length text) offset) [
+        | inl past ↦ absurd (omega (arith, is, some, get_or_past text offset 0 past.1))
         | inr inside ↦ omega (arith, inside.1)
       ];
       low = omega (arith, ap (λ n. get_or text n 0) same, is, low);

@@ -1,4 +1,4 @@
--- What is known of a piece that begins at a place of a text.
+-- What is known of a piece that begins at an offset of a text.
 use Rattle.std.proofs.Common.{ℕ, suc, List, [], ◌∷◌, ◌++◌, ◌≡◌, ◌<◌, ◌≤◌, ◌+◌, ◌-◌, ◌==◌, ◌∙◌, inl, inr, length, drop, get_or, true}
 use Rattle.std.proofs.Common.{arith, refl, sym, ap, subst}
 use Rattle.std.proofs.Common.{eqb-true}
@@ -9,7 +9,7 @@ use Rattle.std.proofs.lemmas.Bool.Decides.{nat_tests}
 use Rattle.std.proofs.lemmas.List.{get_or-drop}
 use Rattle.std.proofs.lemmas.List.Sums.{prefix_len_passes}
 use Rattle.markdown_scanners_tree.specs.Bytes.{is_punctuation}
-use Rattle.markdown_scanners_tree.proofs.ForCallers.{cut_behind_ascii}
+use Rattle.markdown_scanners_tree.proofs.ForCallers.{cut_after_ascii}
 use Rattle.markdown_inlines.specs.DelimiterRuns.{IsRunOf}
 use Rattle.markdown_inlines.specs.Pieces.{BeginsAt, IsCodePiece}
 use Rattle.markdown_inlines.specs.Sources.{IsSource}
@@ -22,12 +22,12 @@ use Rattle.markdown_inlines.proofs.pieces.PieceEnds.{piece_part, starts_cut}
 use Rattle.markdown_events.specs.Found.{HasParts}
 
 -- before an ASCII byte a text may be cut
-pub low_cut : (text : List ℕ) (place : ℕ) → place ≤ length text → get_or text place 0 < 128 → IsCharBoundary text place
-low_cut text place within low = (within, λ inside high. absurd (omega (arith, low, high)))
+pub low_cut : (text : List ℕ) (offset : ℕ) → offset ≤ length text → get_or text offset 0 < 128 → IsCharBoundary text offset
+low_cut text offset within low = (within, λ inside high. absurd (omega (arith, low, high)))
 
--- the byte so many bytes after a place
-byte_in : (text : List ℕ) (place k : ℕ) (rest : List ℕ) → drop place text ≡ rest → get_or text (place + k) 0 ≡ get_or rest k 0
-byte_in text place k rest parts = sym (get_or-drop place text k 0) ∙ ap (λ (t : List ℕ). get_or t k 0) parts
+-- the byte so many bytes after an offset
+byte_in : (text : List ℕ) (offset k : ℕ) (rest : List ℕ) → drop offset text ≡ rest → get_or text (offset + k) 0 ≡ get_or rest k 0
+byte_in text offset k rest parts = sym (get_or-drop offset text k 0) ∙ ap (λ (t : List ℕ). get_or t k 0) parts
 
 pub byte_after : (front : List ℕ) (b : ℕ) (after : List ℕ) → get_or (front ++ b ∷ after) (length front) 0 ≡ b
 byte_after [] b after = refl
@@ -35,7 +35,7 @@ byte_after (x ∷ front) b after = byte_after front b after
 
 -- each delimiter is ASCII
 abbrev pub HasDelimiters : PieceKind → List ℕ → Piece → Type 0
-HasDelimiters (K.Delimiters run) text piece = (place : ℕ) → piece.start ≤ place → place < piece.end → get_or text place 0 < 128
+HasDelimiters (K.Delimiters run) text piece = (offset : ℕ) → piece.start ≤ offset → offset < piece.end → get_or text offset 0 < 128
 HasDelimiters kind text piece = ⊤
 
 -- what is known of a piece
@@ -60,7 +60,7 @@ module _ (text : List ℕ) (piece : Piece) (len : ℕ) (utf8 : IsUtf8 text) (end
       let before : get_or text (piece.start + 1 - 1) 0 ≡ 60 =
       ap (λ n. get_or text n 0) (let same : piece.start + 1 - 1 ≡ piece.start = omega arith in same) ∙ first in (
         omega (arith, end_is, counted),
-        cut_behind_ascii text (piece.start + 1) utf8 (omega (arith, within, counted)) (omega arith) (omega (arith, before)),
+        cut_after_ascii text (piece.start + 1) utf8 (omega (arith, within, counted)) (omega arith) (omega (arith, before)),
         low_cut text (piece.end - 1) (omega (arith, within, end_is)) (omega (arith, last)),
       )
 
@@ -81,7 +81,7 @@ module _ (text : List ℕ) (piece : Piece) (len : ℕ) (utf8 : IsUtf8 text) (end
       ap (λ n. get_or text n 0) end_at ∙ (byte_in text piece.start (span.content.end + 0) _ refl ∙ closing) in (
         omega (arith, end_is, is.counted, is.is_span.counted, is.strings, is.is_span.in_order),
         omega (arith, end_is, is.counted, is.is_span.counted, is.strings),
-        cut_behind_ascii text (piece.start + backticks) utf8
+        cut_after_ascii text (piece.start + backticks) utf8
             (omega (arith, within, is.counted, is.is_span.counted, is.strings, is.is_span.in_order))
             (omega (arith, some, is.strings)) (omega (arith, first)),
         low_cut text (piece.end - backticks) (omega (arith, within, end_is)) (omega (arith, last)),
@@ -112,15 +112,15 @@ module _ (text : List ℕ) (piece : Piece) (len : ℕ) (utf8 : IsUtf8 text) (end
   parts_of asked K.Closer begins = tt
 
   run_low : (asked : Extensions) (run : DelimiterRun) → IsRunOf asked text piece.start run → len ≡ run.count
-      → (place : ℕ) → piece.start ≤ place → place < piece.end → get_or text place 0 < 128
-  run_low asked run is counted place least less =
+      → (offset : ℕ) → piece.start ≤ offset → offset < piece.end → get_or text offset 0 < 128
+  run_low asked run is counted offset least less =
       let there = longest is in
-      let passes = prefix_len_passes (λ b. b == run.byte) (drop piece.start text) (place - piece.start) 0
+      let passes = prefix_len_passes (λ b. b == run.byte) (drop piece.start text) (offset - piece.start) 0
       (omega (arith, there, counted, end_is, least, less)) in
       let byte = eqb-true _ run.byte passes in
-      let same : get_or text (piece.start + (place - piece.start)) 0 ≡ run.byte = byte_in text piece.start (place - piece.start) _ refl ∙ byte in
-      let at : piece.start + (place - piece.start) ≡ place = omega (arith, least) in
-      let here : get_or text place 0 ≡ run.byte = ap (λ n. get_or text n 0) (sym at) ∙ same in
+      let same : get_or text (piece.start + (offset - piece.start)) 0 ≡ run.byte = byte_in text piece.start (offset - piece.start) _ refl ∙ byte in
+      let at : piece.start + (offset - piece.start) ≡ offset = omega (arith, least) in
+      let here : get_or text offset 0 ≡ run.byte = ap (λ n. get_or text n 0) (sym at) ∙ same in
       omega (arith, here, low is)
     where
       longest : IsRunOf asked text piece.start run → run.count ≡ prefix_len (λ b. b == run.byte) (drop piece.start text)

@@ -7,7 +7,7 @@ use Rattle.std.proofs.lemmas.List.{get_or-drop, length-drop}
 use Rattle.memchr.specs.Find.{occurs_at}
 use Rattle.memchr.proofs.lemmas.MatchLemmas.{OccursAt-true}
 use Rattle.markdown_scanners_tree.specs.NoSkips.{SkipsNothing}
-use Rattle.markdown_scanners_tree.proofs.ForCallers.{cut_behind_ascii}
+use Rattle.markdown_scanners_tree.proofs.ForCallers.{cut_after_ascii}
 use Rattle.markdown_inlines.specs.LinkTails.{IsClosing, IsLinkTail, IsTailEnd}
 use Rattle.markdown_inlines.specs.Links.{IsLabelAt, IsTarget, Known, most_parentheses}
 use Rattle.markdown_inlines.specs.declared.link_tails.LinkTail.{LinkTail}
@@ -19,15 +19,15 @@ use Rattle.markdown_events.proofs.found.LabelEnds.{EndsLow, label_ends, low_byte
 use Rattle.markdown_events.proofs.found.PieceFacts.{byte_after}
 
 -- after so many bytes
-low_after : (text : List ℕ) (place n : ℕ) → EndsLow (drop place text) n → EndsLow text (place + n)
-low_after text place n is =
+low_after : (text : List ℕ) (offset n : ℕ) → EndsLow (drop offset text) n → EndsLow text (offset + n)
+low_after text offset n is =
     let some = is.some in
     let within = is.within in
-    let size = length-drop place text in
-    let at : place + n - 1 ≡ place + (n - 1) = omega (arith, some) in record {
+    let size = length-drop offset text in
+    let at : offset + n - 1 ≡ offset + (n - 1) = omega (arith, some) in record {
       some = omega (arith, some);
       within = omega (arith, some, within, size);
-      low = omega (arith, is.low, ap (λ k. get_or text k 0) at, get_or-drop place text (n - 1) 0);
+      low = omega (arith, is.low, ap (λ k. get_or text k 0) at, get_or-drop offset text (n - 1) 0);
     }
 
 closing_low : (text : List ℕ) (n : ℕ) → IsClosing text n → EndsLow text n
@@ -36,10 +36,10 @@ closing_low text n is =
     ap (λ (t : List ℕ). get_or t (length is.gap) 0) is.parts ∙ byte_after is.gap 41 is.rest in
     subst (EndsLow text) (sym is.counted) (low_byte text (length is.gap) 41 byte (omega arith) (omega arith))
 
-tail_end_low : (text : List ℕ) (place : ℕ) (title : Option (Range ℕ)) (len : ℕ) → IsTailEnd text place title len → EndsLow text len
-tail_end_low text place None len is =
-    subst (EndsLow text) (sym is.len_is) (low_after text place is.closing (closing_low (drop place text) is.closing is.closes))
-tail_end_low text place (Some title) len is =
+tail_end_low : (text : List ℕ) (offset : ℕ) (title : Option (Range ℕ)) (len : ℕ) → IsTailEnd text offset title len → EndsLow text len
+tail_end_low text offset None len is =
+    subst (EndsLow text) (sym is.len_is) (low_after text offset is.closing (closing_low (drop offset text) is.closing is.closes))
+tail_end_low text offset (Some title) len is =
     subst (EndsLow text) (sym is.len_is) (low_after text (title.end + 1) is.closing (closing_low (drop (title.end + 1) text) is.closing is.closes))
 
 tail_low : (most : ℕ) (text : List ℕ) (tail : LinkTail) → IsLinkTail most text tail → EndsLow text tail.len
@@ -55,12 +55,12 @@ label_at_low text from close name is =
     subst (EndsLow text) is.closed (low_after text from is.label.len (label_ends SkipsNothing (drop from text) false is.label is.is_label))
 
 -- two brackets stand there
-brackets_low : (text : List ℕ) (place first : ℕ) → occurs_at text (first ∷ codes "]") place ≡ true → EndsLow text (place + 2)
-brackets_low text place first is =
-    let occurs = OccursAt-true text (first ∷ codes "]") place is in
-    let last : get_or text (place + 1) 0 ≡ 93 = occurs.reads 1 (omega arith) in
-    subst (EndsLow text) (let same : place + 1 + 1 ≡ place + 2 = omega arith in same)
-    (low_byte text (place + 1) 93 last (omega arith) (omega arith))
+brackets_low : (text : List ℕ) (offset first : ℕ) → occurs_at text (first ∷ codes "]") offset ≡ true → EndsLow text (offset + 2)
+brackets_low text offset first is =
+    let occurs = OccursAt-true text (first ∷ codes "]") offset is in
+    let last : get_or text (offset + 1) 0 ≡ 93 = occurs.reads 1 (omega arith) in
+    subst (EndsLow text) (let same : offset + 1 + 1 ≡ offset + 2 = omega arith in same)
+    (low_byte text (offset + 1) 93 last (omega arith) (omega arith))
 
 target_low : (text : List ℕ) (known : Known) (from close : ℕ) (target : LinkTarget) (end : ℕ) → IsTarget text known from close target end
     → EndsLow text end
@@ -77,7 +77,7 @@ target_low text known from close (Wiki range) end is = absurd is
 
 -- a text may be cut after an ASCII byte
 cut_low : (text : List ℕ) (n : ℕ) → IsUtf8 text → EndsLow text n → IsCharBoundary text n
-cut_low text n utf8 is = cut_behind_ascii text n utf8 is.within is.some is.low
+cut_low text n utf8 is = cut_after_ascii text n utf8 is.within is.some is.low
 
 -- and so where a link ends
 pub aimed_end : (text : List ℕ) (known : Known) (it : Link) → IsUtf8 text → IsAimed text known it → IsCharBoundary text it.source.end

@@ -64,15 +64,15 @@ module _ (source : List ℕ) (started : List Started) (rest : List RangedEvent) 
 
   shown_balanced : (targets : Targets) (links : List (Option Link)) (inline : Inline) (from : ℕ) (tag : TagView (List ℕ))
       (shown : List RangedEvent) → Begins source targets links inline from tag shown → AreBalancedIn started (shown ++ rest)
-  shown_balanced targets links (I.StartEmphasis place count) from tag shown begins =
+  shown_balanced targets links (I.StartEmphasis offset count) from tag shown begins =
       subst (λ (s : List RangedEvent). AreBalancedIn started (s ++ rest)) (sym begins.2) gives
-  shown_balanced targets links (I.StartStrikethrough place count) from tag shown begins =
+  shown_balanced targets links (I.StartStrikethrough offset count) from tag shown begins =
       subst (λ (s : List RangedEvent). AreBalancedIn started (s ++ rest)) (sym begins.2) gives
   shown_balanced targets links (I.StartLink number) from tag shown begins =
       subst (λ (s : List RangedEvent). AreBalancedIn started (s ++ rest)) (sym begins.4) (shown_here begins.0.text begins.0.target)
   shown_balanced targets links (I.Leaf piece) from tag shown begins = absurd begins
-  shown_balanced targets links (I.EndEmphasis place count) from tag shown begins = absurd begins
-  shown_balanced targets links (I.EndStrikethrough place count) from tag shown begins = absurd begins
+  shown_balanced targets links (I.EndEmphasis offset count) from tag shown begins = absurd begins
+  shown_balanced targets links (I.EndStrikethrough offset count) from tag shown begins = absurd begins
   shown_balanced targets links (I.EndLink piece) from tag shown begins = absurd begins
 
 module _ (source : List ℕ) (targets : Targets) (links : List (Option Link)) where
@@ -118,15 +118,15 @@ module _ (source : List ℕ) (targets : Targets) (links : List (Option Link)) wh
   balanced (I.Leaf piece ∷ later) starts started elements events nested counted same (here, rest, are, gives, is) =
       subst (AreBalancedIn started) (sym is)
       (leaf_balanced source started rest (balanced later starts started elements rest nested counted same gives) piece.kind piece here are)
-  balanced (I.EndEmphasis place count ∷ later) starts started elements events (first, outer, are, ends, nested) counted same (rest, gives, is) =
+  balanced (I.EndEmphasis offset count ∷ later) starts started elements events (first, outer, are, ends, nested) counted same (rest, gives, is) =
       ended later (balanced later) starts outer first started elements events rest are nested counted same gives is
-  balanced (I.EndStrikethrough place count ∷ later) starts started elements events (first, outer, are, ends, nested) counted same (rest, gives, is) =
+  balanced (I.EndStrikethrough offset count ∷ later) starts started elements events (first, outer, are, ends, nested) counted same (rest, gives, is) =
       ended later (balanced later) starts outer first started elements events rest are nested counted same gives is
   balanced (I.EndLink piece ∷ later) starts started elements events (first, outer, are, ends, nested) counted same (rest, gives, is) =
       ended later (balanced later) starts outer first started elements events rest are nested counted same gives is
-  balanced (I.StartEmphasis place count ∷ later) starts started elements events nested counted same (from, tag, shown, rest, begins, gives, is) =
-      begun later (balanced later) starts (I.StartEmphasis place count) started elements events shown rest from tag begins nested counted same gives is
-  balanced (I.StartStrikethrough place count ∷ later) starts started elements events nested counted same (from, tag, shown, rest, begins, gives, is) =
-      begun later (balanced later) starts (I.StartStrikethrough place count) started elements events shown rest from tag begins nested counted same gives is
+  balanced (I.StartEmphasis offset count ∷ later) starts started elements events nested counted same (from, tag, shown, rest, begins, gives, is) =
+      begun later (balanced later) starts (I.StartEmphasis offset count) started elements events shown rest from tag begins nested counted same gives is
+  balanced (I.StartStrikethrough offset count ∷ later) starts started elements events nested counted same (from, tag, shown, rest, begins, gives, is) =
+      begun later (balanced later) starts (I.StartStrikethrough offset count) started elements events shown rest from tag begins nested counted same gives is
   balanced (I.StartLink number ∷ later) starts started elements events nested counted same (from, tag, shown, rest, begins, gives, is) =
       begun later (balanced later) starts (I.StartLink number) started elements events shown rest from tag begins nested counted same gives is

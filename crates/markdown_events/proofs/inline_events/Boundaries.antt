@@ -93,10 +93,10 @@ module _ (source : List ℕ) where
 
     begins_cut : (inline : Inline) (from to : ℕ) → Fact inline → StandsAt links inline from to → Cut from
     begins_cut (I.Leaf piece) from to fact is = subst Cut is.0 fact.0.begins
-    begins_cut (I.StartEmphasis place count) from to fact is = subst Cut is.0 fact
-    begins_cut (I.EndEmphasis place count) from to fact is = subst Cut is.0 fact
-    begins_cut (I.StartStrikethrough place count) from to fact is = subst Cut is.0 fact
-    begins_cut (I.EndStrikethrough place count) from to fact is = subst Cut is.0 fact
+    begins_cut (I.StartEmphasis offset count) from to fact is = subst Cut is.0 fact
+    begins_cut (I.EndEmphasis offset count) from to fact is = subst Cut is.0 fact
+    begins_cut (I.StartStrikethrough offset count) from to fact is = subst Cut is.0 fact
+    begins_cut (I.EndStrikethrough offset count) from to fact is = subst Cut is.0 fact
     begins_cut (I.StartLink number) from to fact is =
         let both : Some (Some fact.0) ≡ Some (Some is.0) = sym fact.1 ∙ is.1 in
         let same : fact.0 ≡ is.0 = cc in
@@ -112,21 +112,21 @@ module _ (source : List ℕ) where
         → AllByRecursion Cut (open_ends inlines)
     ends_cut [] from last facts is cut = tt
     ends_cut (I.Leaf piece ∷ later) from last facts is cut = ends_cut later is.0 last facts.1 is.2 cut
-    ends_cut (I.EndEmphasis place count ∷ later) from last facts is cut =
+    ends_cut (I.EndEmphasis offset count ∷ later) from last facts is cut =
         (subst Cut (sym is.1.1) (stand_cut later is.0 last facts.1 is.2 cut), ends_cut later is.0 last facts.1 is.2 cut)
-    ends_cut (I.EndStrikethrough place count ∷ later) from last facts is cut =
+    ends_cut (I.EndStrikethrough offset count ∷ later) from last facts is cut =
         (subst Cut (sym is.1.1) (stand_cut later is.0 last facts.1 is.2 cut), ends_cut later is.0 last facts.1 is.2 cut)
     ends_cut (I.EndLink piece ∷ later) from last facts is cut = (facts.0.ends, ends_cut later is.0 last facts.1 is.2 cut)
-    ends_cut (I.StartEmphasis place count ∷ later) from last facts is cut =
+    ends_cut (I.StartEmphasis offset count ∷ later) from last facts is cut =
         later_all Cut (open_ends later) (ends_cut later is.0 last facts.1 is.2 cut)
-    ends_cut (I.StartStrikethrough place count ∷ later) from last facts is cut =
+    ends_cut (I.StartStrikethrough offset count ∷ later) from last facts is cut =
         later_all Cut (open_ends later) (ends_cut later is.0 last facts.1 is.2 cut)
     ends_cut (I.StartLink number ∷ later) from last facts is cut =
         later_all Cut (open_ends later) (ends_cut later is.0 last facts.1 is.2 cut)
 
-    first_cut : (places : List ℕ) → AllByRecursion Cut places → Cut (slice_index places 0)
+    first_cut : (offsets : List ℕ) → AllByRecursion Cut offsets → Cut (slice_index offsets 0)
     first_cut [] all = IsCharBoundary-start source utf8
-    first_cut (place ∷ places) all = all.0
+    first_cut (offset ∷ offsets) all = all.0
 
     -- ---- events
 
@@ -159,27 +159,27 @@ module _ (source : List ℕ) where
         subst (AreAtBoundaries source) (sym is)
         (both_at source here rest (piece_at piece.kind piece here facts.0.0 facts.0.1 are)
         (events_at later elements to last rest facts.1 stand cut all are_rest))
-    events_at (I.EndEmphasis place count ∷ later) elements from last events facts (to, at, stand) cut all (rest, are, is) =
+    events_at (I.EndEmphasis offset count ∷ later) elements from last events facts (to, at, stand) cut all (rest, are, is) =
         ended_at later (events_at later) elements to last events rest facts.1 stand cut all are is
-    events_at (I.EndStrikethrough place count ∷ later) elements from last events facts (to, at, stand) cut all (rest, are, is) =
+    events_at (I.EndStrikethrough offset count ∷ later) elements from last events facts (to, at, stand) cut all (rest, are, is) =
         ended_at later (events_at later) elements to last events rest facts.1 stand cut all are is
     events_at (I.EndLink piece ∷ later) elements from last events facts (to, at, stand) cut all (rest, are, is) =
         ended_at later (events_at later) elements to last events rest facts.1 stand cut all are is
     events_at (I.StartEmphasis p count ∷ later) elements from last events facts (to, at, stand) cut all
-        (place, tag, shown, rest, begins, are, is) =
-        begun_at later (events_at later) elements place to last events shown rest tag facts.1 stand cut all
+        (offset, tag, shown, rest, begins, are, is) =
+        begun_at later (events_at later) elements offset to last events shown rest tag facts.1 stand cut all
         (subst Cut (sym begins.0) facts.0) (subst (AreAtBoundaries source) (sym begins.2) tt) are is
     events_at (I.StartStrikethrough p count ∷ later) elements from last events facts (to, at, stand) cut all
-        (place, tag, shown, rest, begins, are, is) =
-        begun_at later (events_at later) elements place to last events shown rest tag facts.1 stand cut all
+        (offset, tag, shown, rest, begins, are, is) =
+        begun_at later (events_at later) elements offset to last events shown rest tag facts.1 stand cut all
         (subst Cut (sym begins.0) facts.0) (subst (AreAtBoundaries source) (sym begins.2) tt) are is
     events_at (I.StartLink number ∷ later) elements from last events facts (to, at, stand) cut all
-        (place, tag, shown, rest, begins, are, is) =
+        (offset, tag, shown, rest, begins, are, is) =
         let fact = facts.0 in
         let both : Some (Some fact.0) ≡ Some (Some begins.0) = sym fact.1 ∙ begins.1 in
         let same : fact.0 ≡ begins.0 = cc in
         let known = subst (BeginsCut source) same fact.2 in
-        begun_at later (events_at later) elements place to last events shown rest tag facts.1 stand cut all
+        begun_at later (events_at later) elements offset to last events shown rest tag facts.1 stand cut all
         (subst Cut (sym begins.2) known.0)
         (subst (AreAtBoundaries source) (sym begins.4) (shown_at begins.0.text begins.0.target known.1)) are is
 

@@ -84,10 +84,10 @@ module _ (text : List ℕ) (targets : Targets) (links : List (Option Link)) wher
       let to = somewhere text targets it aimed in
       (it, there, source, record { cut = cut; before = before; label = to.0; target = to.1; leads = to.2 })
   known_by (I.EndLink piece) is = is
-  known_by (I.StartEmphasis place count) is = tt
-  known_by (I.EndEmphasis place count) is = tt
-  known_by (I.StartStrikethrough place count) is = tt
-  known_by (I.EndStrikethrough place count) is = tt
+  known_by (I.StartEmphasis offset count) is = tt
+  known_by (I.EndEmphasis offset count) is = tt
+  known_by (I.StartStrikethrough offset count) is = tt
+  known_by (I.EndStrikethrough offset count) is = tt
 
   pub all_known : (inlines : List Inline) → AllByRecursion (IsThere text (leads targets) links) inlines → AllByRecursion IsFact inlines
   all_known [] are = tt
@@ -97,10 +97,10 @@ module _ (text : List ℕ) (targets : Targets) (links : List (Option Link)) wher
   found_by (I.Leaf piece) fact = fact
   found_by (I.StartLink number) fact = fact
   found_by (I.EndLink piece) fact = tt
-  found_by (I.StartEmphasis place count) fact = tt
-  found_by (I.EndEmphasis place count) fact = tt
-  found_by (I.StartStrikethrough place count) fact = tt
-  found_by (I.EndStrikethrough place count) fact = tt
+  found_by (I.StartEmphasis offset count) fact = tt
+  found_by (I.EndEmphasis offset count) fact = tt
+  found_by (I.StartStrikethrough offset count) fact = tt
+  found_by (I.EndStrikethrough offset count) fact = tt
 
   pub all_found : (inlines : List Inline) → AllByRecursion IsFact inlines → AllByRecursion (IsFound text targets links) inlines
   all_found [] facts = tt
@@ -110,10 +110,10 @@ module _ (text : List ℕ) (targets : Targets) (links : List (Option Link)) wher
 
   stands_later : (inline : Inline) (from to : ℕ) → IsFact inline → StandsAt links inline from to → from ≤ to
   stands_later (I.Leaf piece) from to fact is = omega (arith, fact.0.some, is.0, is.1)
-  stands_later (I.StartEmphasis place count) from to fact is = omega (arith, is.0, is.1)
-  stands_later (I.EndEmphasis place count) from to fact is = omega (arith, is.0, is.1)
-  stands_later (I.StartStrikethrough place count) from to fact is = omega (arith, is.0, is.1)
-  stands_later (I.EndStrikethrough place count) from to fact is = omega (arith, is.0, is.1)
+  stands_later (I.StartEmphasis offset count) from to fact is = omega (arith, is.0, is.1)
+  stands_later (I.EndEmphasis offset count) from to fact is = omega (arith, is.0, is.1)
+  stands_later (I.StartStrikethrough offset count) from to fact is = omega (arith, is.0, is.1)
+  stands_later (I.EndStrikethrough offset count) from to fact is = omega (arith, is.0, is.1)
   stands_later (I.StartLink number) from to fact is =
       let both : Some (Some fact.0) ≡ Some (Some is.0) = sym fact.1 ∙ is.1 in
       let same : fact.0 ≡ is.0 = cc in
@@ -127,10 +127,10 @@ module _ (text : List ℕ) (targets : Targets) (links : List (Option Link)) wher
 
   ends_by : (inline : Inline) (from to last limit : ℕ) → StandsAt links inline from to → to ≤ last → last < limit → EndsBelow limit inline
   ends_by (I.Leaf piece) from to last limit is later less = tt
-  ends_by (I.StartEmphasis place count) from to last limit is later less = tt
-  ends_by (I.EndEmphasis place count) from to last limit is later less = omega (arith, is.1, later, less)
-  ends_by (I.StartStrikethrough place count) from to last limit is later less = tt
-  ends_by (I.EndStrikethrough place count) from to last limit is later less = omega (arith, is.1, later, less)
+  ends_by (I.StartEmphasis offset count) from to last limit is later less = tt
+  ends_by (I.EndEmphasis offset count) from to last limit is later less = omega (arith, is.1, later, less)
+  ends_by (I.StartStrikethrough offset count) from to last limit is later less = tt
+  ends_by (I.EndStrikethrough offset count) from to last limit is later less = omega (arith, is.1, later, less)
   ends_by (I.StartLink number) from to last limit is later less = tt
   ends_by (I.EndLink piece) from to last limit is later less = tt
 

@@ -16,7 +16,7 @@ RiseFilled (to ∷ outer) from ((end closer, range) ∷ later) =
 RiseFilled (to ∷ outer) from ((event, range) ∷ later) =
     (from ≤ range.start) × (range.start ≤ range.end) × (range.end ≤ to) × (range.start < to) × RiseFilled (to ∷ outer) range.end later
 
--- from an earlier place on
+-- from an earlier offset on
 pub filled_from : (ends : List ℕ) (from from' : ℕ) (events : List RangedEvent) → from ≤ from' → RiseFilled ends from' events
     → RiseFilled ends from events
 filled_from ends from from' [] less is = tt

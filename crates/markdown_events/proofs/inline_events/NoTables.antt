@@ -80,17 +80,17 @@ module _ (source : List ℕ) (targets : Targets) (links : List (Option Link)) wh
 
   element_begins : (inline : Inline) (from : ℕ) (tag : Tag) (shown rest : List RangedEvent) → Begins source targets links inline from tag shown
       → BeginNoTable rest → IsOther tag × BeginNoTable (shown ++ rest)
-  element_begins (I.StartEmphasis place count) from tag shown rest begins none =
+  element_begins (I.StartEmphasis offset count) from tag shown rest begins none =
       (subst IsOther (sym begins.1) (other_emphasis (count == 2)), subst (Shows rest) (sym begins.2) none)
-  element_begins (I.StartStrikethrough place count) from tag shown rest begins none =
+  element_begins (I.StartStrikethrough offset count) from tag shown rest begins none =
       (subst IsOther (sym begins.1) refl, subst (Shows rest) (sym begins.2) none)
   element_begins (I.StartLink number) from tag shown rest begins none = (
     subst IsOther (sym begins.3.tag_is) (other_link begins.0.is_image _ _ _ _),
     subst (Shows rest) (sym begins.4) (shown_begins source rest none begins.0.text begins.0.target),
   )
   element_begins (I.Leaf piece) from tag shown rest begins none = absurd begins
-  element_begins (I.EndEmphasis place count) from tag shown rest begins none = absurd begins
-  element_begins (I.EndStrikethrough place count) from tag shown rest begins none = absurd begins
+  element_begins (I.EndEmphasis offset count) from tag shown rest begins none = absurd begins
+  element_begins (I.EndStrikethrough offset count) from tag shown rest begins none = absurd begins
   element_begins (I.EndLink piece) from tag shown rest begins none = absurd begins
 
   begin_none : (inlines : List Inline) (elements : List Element) (events : List RangedEvent) → AreEvents source targets links elements inlines events
@@ -98,16 +98,16 @@ module _ (source : List ℕ) (targets : Targets) (links : List (Option Link)) wh
   begin_none [] elements events is = subst BeginNoTable (sym is) tt
   begin_none (I.Leaf piece ∷ later) elements events (here, rest, are, gives, is) =
       subst BeginNoTable (sym is) (piece_begins source rest (begin_none later elements rest gives) piece.kind piece here are)
-  begin_none (I.EndEmphasis place count ∷ later) elements events (rest, gives, is) =
+  begin_none (I.EndEmphasis offset count ∷ later) elements events (rest, gives, is) =
       subst BeginNoTable (sym is) (end_begins source rest (begin_none later _ rest gives) elements)
-  begin_none (I.EndStrikethrough place count ∷ later) elements events (rest, gives, is) =
+  begin_none (I.EndStrikethrough offset count ∷ later) elements events (rest, gives, is) =
       subst BeginNoTable (sym is) (end_begins source rest (begin_none later _ rest gives) elements)
   begin_none (I.EndLink piece ∷ later) elements events (rest, gives, is) =
       subst BeginNoTable (sym is) (end_begins source rest (begin_none later _ rest gives) elements)
-  begin_none (I.StartEmphasis place count ∷ later) elements events (from, tag, shown, rest, begins, gives, is) =
-      subst BeginNoTable (sym is) (element_begins (I.StartEmphasis place count) from tag shown rest begins (begin_none later _ rest gives))
-  begin_none (I.StartStrikethrough place count ∷ later) elements events (from, tag, shown, rest, begins, gives, is) =
-      subst BeginNoTable (sym is) (element_begins (I.StartStrikethrough place count) from tag shown rest begins (begin_none later _ rest gives))
+  begin_none (I.StartEmphasis offset count ∷ later) elements events (from, tag, shown, rest, begins, gives, is) =
+      subst BeginNoTable (sym is) (element_begins (I.StartEmphasis offset count) from tag shown rest begins (begin_none later _ rest gives))
+  begin_none (I.StartStrikethrough offset count ∷ later) elements events (from, tag, shown, rest, begins, gives, is) =
+      subst BeginNoTable (sym is) (element_begins (I.StartStrikethrough offset count) from tag shown rest begins (begin_none later _ rest gives))
   begin_none (I.StartLink number ∷ later) elements events (from, tag, shown, rest, begins, gives, is) =
       subst BeginNoTable (sym is) (element_begins (I.StartLink number) from tag shown rest begins (begin_none later _ rest gives))
 

@@ -1,6 +1,7 @@
 -- What is written of an inline, with what is written of those after it, is written of both.
 use Rattle.std.proofs.Common.{ℕ, zero, suc, List, [], ◌∷◌, ◌++◌, ◌≡◌, ◌<◌, ◌≤◌, ◌+◌, ◌∙◌, refl, sym, ap, subst, drop, length, get_or, arith}
-use Rattle.std.proofs.Common.{Option, map, set, slice_index}
+use Rattle.std.proofs.Common.{Option, None, Some, map, set, slice_get, slice_index}
+use Rattle.std.proofs.lemmas.Option.{get_or_from_slice_get}
 use Rattle.std.specs.Prelude.{⊤}
 use Rattle.std.specs.declared.ops.Range.{Range}
 use Rattle.std.proofs.Common.{append_assoc, append-nil, add-one, drop-cons}
@@ -17,6 +18,12 @@ use Rattle.markdown_events.specs.TagEnds.{tag_end}
 use Rattle.markdown_events.specs.Targets.{Targets}
 use Rattle.markdown_events.specs.declared.elements.Begun.{Begun}
 use Rattle.markdown_events.specs.declared.elements.Element.{Element}
+
+-- a bracket that begins no link is no start of one
+pub no_link : (links : List (Option Link)) (number : ℕ) (it : Link) → get_or links number None ≡ None → slice_get links number ≡ Some (Some it) → ⊥
+no_link links number it none found =
+    let is : None ≡ Some it = sym none ∙ get_or_from_slice_get links number (Some it) None found in
+    absurd (cc)
 
 -- ---- ends of events
 
@@ -253,7 +260,7 @@ module _ (source : List ℕ) (targets : Targets) (links : List (Option Link)) wh
 
   -- ---- the pass
 
-  -- so far it is written: what is written of the inlines from a place on makes the events of all
+  -- so far it is written: what is written of the inlines from an offset on makes the events of all
   pub record Goes (inlines : List Inline) (index : ℕ) (written : Written) : Type 0 where
     pub sound : IsSound written
     pub gives : (rest : List RangedEvent)

@@ -27,28 +27,28 @@ use Rattle.markdown_events.proofs.inline_events.Filled.{RiseFilled, filled_from}
 abbrev tos : List Element → List ℕ
 tos elements = map (λ (e : Element). e.to) elements
 
--- places that rise from one on
+-- offsets that rise from one on
 abbrev Rising : ℕ → List ℕ → Type 0
 Rising from [] = ⊤
 Rising from (to ∷ later) = (from ≤ to) × Rising to later
 
-rising_from : (from from' : ℕ) (places : List ℕ) → from ≤ from' → Rising from' places → Rising from places
+rising_from : (from from' : ℕ) (offsets : List ℕ) → from ≤ from' → Rising from' offsets → Rising from offsets
 rising_from from from' [] less are = tt
 rising_from from from' (to ∷ later) less are = (omega (arith, less, are.0), are.1)
 
-rising_rest : (from last : ℕ) (places : List ℕ) → Rising from (places ++ last ∷ []) → Rising from (drop 1 places ++ last ∷ [])
+rising_rest : (from last : ℕ) (offsets : List ℕ) → Rising from (offsets ++ last ∷ []) → Rising from (drop 1 offsets ++ last ∷ [])
 rising_rest from last [] are = are
 rising_rest from last (to ∷ later) are = rising_from from to (later ++ last ∷ []) are.0 are.1
 
-nonempty : (places : List ℕ) (last : ℕ) → (to : ℕ) × (outer : List ℕ) × (places ++ last ∷ [] ≡ to ∷ outer)
+nonempty : (offsets : List ℕ) (last : ℕ) → (to : ℕ) × (outer : List ℕ) × (offsets ++ last ∷ [] ≡ to ∷ outer)
 nonempty [] last = (last, [], refl)
 nonempty (to ∷ later) last = (to, later ++ last ∷ [], refl)
 
-first_of : (places : List ℕ) (n : ℕ) → length places ≡ suc n → places ≡ slice_index places 0 ∷ drop 1 places
+first_of : (offsets : List ℕ) (n : ℕ) → length offsets ≡ suc n → offsets ≡ slice_index offsets 0 ∷ drop 1 offsets
 first_of [] n is = absurd (omega (arith, is))
 first_of (to ∷ later) n is = refl
 
--- from an earlier place on
+-- from an earlier offset on
 pub rise_from : (ends : List ℕ) (from from' : ℕ) (events : List RangedEvent) → from ≤ from' → RiseIn ends from' events → RiseIn ends from events
 rise_from ends from from' [] less is = tt
 rise_from [] from from' (event ∷ later) less is = absurd is
@@ -109,8 +109,8 @@ module _ (source : List ℕ) (piece : Piece) (to : ℕ) (outer : List ℕ) (rest
   leaf_rises K.SoftBreak here inner is = subst Adds (sym is) lies
   leaf_rises K.Reference here inner is = subst Adds (sym is.3) lies
   leaf_rises (K.Code backticks) here inner is = subst Adds (sym is) lies
-  leaf_rises K.Uri here inner is = subst Adds (sym is) (angled inner)
-  leaf_rises K.Email here inner is = subst Adds (sym is) (angled inner)
+  leaf_rises K.Uri here inner is = subst Adds (sym is) (angled (omega (arith, inner)))
+  leaf_rises K.Email here inner is = subst Adds (sym is) (angled (omega (arith, inner)))
   leaf_rises K.Html here inner is = subst Adds (sym is) lies
   leaf_rises (K.Delimiters run) here inner is = subst Adds (sym is) lies
   leaf_rises K.LinkOpener here inner is = subst Adds (sym is) lies
@@ -127,10 +127,10 @@ module _ (source : List ℕ) (targets : Targets) (links : List (Option Link)) wh
 
   stands_after : (inline : Inline) (from to : ℕ) → Fact inline → StandsAt links inline from to → from < to
   stands_after (I.Leaf piece) from to fact is = omega (arith, fact.some, is.0, is.1)
-  stands_after (I.StartEmphasis place count) from to fact is = omega (arith, fact, is.0, is.1)
-  stands_after (I.EndEmphasis place count) from to fact is = omega (arith, fact, is.0, is.1)
-  stands_after (I.StartStrikethrough place count) from to fact is = omega (arith, fact, is.0, is.1)
-  stands_after (I.EndStrikethrough place count) from to fact is = omega (arith, fact, is.0, is.1)
+  stands_after (I.StartEmphasis offset count) from to fact is = omega (arith, fact, is.0, is.1)
+  stands_after (I.EndEmphasis offset count) from to fact is = omega (arith, fact, is.0, is.1)
+  stands_after (I.StartStrikethrough offset count) from to fact is = omega (arith, fact, is.0, is.1)
+  stands_after (I.EndStrikethrough offset count) from to fact is = omega (arith, fact, is.0, is.1)
   stands_after (I.StartLink number) from to fact is =
       let both : Some (Some fact.0) ≡ Some (Some is.0) = sym fact.1 ∙ is.1 in
       let same : fact.0 ≡ is.0 = cc in
@@ -145,21 +145,21 @@ module _ (source : List ℕ) (targets : Targets) (links : List (Option Link)) wh
       rising_from from is.0 (open_ends later ++ last ∷ [])
       (omega (arith, stands_after (I.Leaf piece) from is.0 facts.0 is.1))
       (ends_rise later is.0 last facts.1 is.2)
-  ends_rise (I.EndEmphasis place count ∷ later) from last facts is =
-      (omega (arith, is.1.0), rising_from (place + count) is.0 (open_ends later ++ last ∷ []) (omega (arith, is.1.1)) (ends_rise later is.0 last facts.1 is.2))
-  ends_rise (I.EndStrikethrough place count ∷ later) from last facts is =
-      (omega (arith, is.1.0), rising_from (place + count) is.0 (open_ends later ++ last ∷ []) (omega (arith, is.1.1)) (ends_rise later is.0 last facts.1 is.2))
+  ends_rise (I.EndEmphasis offset count ∷ later) from last facts is =
+      (omega (arith, is.1.0), rising_from (offset + count) is.0 (open_ends later ++ last ∷ []) (omega (arith, is.1.1)) (ends_rise later is.0 last facts.1 is.2))
+  ends_rise (I.EndStrikethrough offset count ∷ later) from last facts is =
+      (omega (arith, is.1.0), rising_from (offset + count) is.0 (open_ends later ++ last ∷ []) (omega (arith, is.1.1)) (ends_rise later is.0 last facts.1 is.2))
   ends_rise (I.EndLink piece ∷ later) from last facts is = (
     omega (arith, is.1.0, facts.0),
     rising_from piece.end is.0 (open_ends later ++ last ∷ []) (omega (arith, is.1.1)) (ends_rise later is.0 last facts.1 is.2),
   )
-  ends_rise (I.StartEmphasis place count ∷ later) from last facts is =
+  ends_rise (I.StartEmphasis offset count ∷ later) from last facts is =
       rising_from from is.0 (drop 1 (open_ends later) ++ last ∷ [])
-      (omega (arith, stands_after (I.StartEmphasis place count) from is.0 facts.0 is.1))
+      (omega (arith, stands_after (I.StartEmphasis offset count) from is.0 facts.0 is.1))
       (rising_rest is.0 last (open_ends later) (ends_rise later is.0 last facts.1 is.2))
-  ends_rise (I.StartStrikethrough place count ∷ later) from last facts is =
+  ends_rise (I.StartStrikethrough offset count ∷ later) from last facts is =
       rising_from from is.0 (drop 1 (open_ends later) ++ last ∷ [])
-      (omega (arith, stands_after (I.StartStrikethrough place count) from is.0 facts.0 is.1))
+      (omega (arith, stands_after (I.StartStrikethrough offset count) from is.0 facts.0 is.1))
       (rising_rest is.0 last (open_ends later) (ends_rise later is.0 last facts.1 is.2))
   ends_rise (I.StartLink number ∷ later) from last facts is =
       rising_from from is.0 (drop 1 (open_ends later) ++ last ∷ [])
@@ -170,25 +170,25 @@ module _ (source : List ℕ) (targets : Targets) (links : List (Option Link)) wh
   ends_counted : (inlines starts : List Inline) → AreNestedIn links starts inlines → length (open_ends inlines) ≡ length starts
   ends_counted [] starts is = sym (ap length is)
   ends_counted (I.Leaf piece ∷ later) starts is = ends_counted later starts is
-  ends_counted (I.EndEmphasis place count ∷ later) starts (first, outer, are, ends, nested) =
+  ends_counted (I.EndEmphasis offset count ∷ later) starts (first, outer, are, ends, nested) =
       ap suc (ends_counted later outer nested) ∙ sym (ap length are)
-  ends_counted (I.EndStrikethrough place count ∷ later) starts (first, outer, are, ends, nested) =
+  ends_counted (I.EndStrikethrough offset count ∷ later) starts (first, outer, are, ends, nested) =
       ap suc (ends_counted later outer nested) ∙ sym (ap length are)
   ends_counted (I.EndLink piece ∷ later) starts (first, outer, are, ends, nested) =
       ap suc (ends_counted later outer nested) ∙ sym (ap length are)
-  ends_counted (I.StartEmphasis place count ∷ later) starts is = one_less (open_ends later) (ends_counted later _ is)
+  ends_counted (I.StartEmphasis offset count ∷ later) starts is = one_less (open_ends later) (ends_counted later _ is)
     where
-      one_less : (places : List ℕ) → length places ≡ suc (length starts) → length (drop 1 places) ≡ length starts
+      one_less : (offsets : List ℕ) → length offsets ≡ suc (length starts) → length (drop 1 offsets) ≡ length starts
       one_less [] counted = absurd (omega (arith, counted))
       one_less (to ∷ more) counted = omega (arith, counted)
-  ends_counted (I.StartStrikethrough place count ∷ later) starts is = one_less (open_ends later) (ends_counted later _ is)
+  ends_counted (I.StartStrikethrough offset count ∷ later) starts is = one_less (open_ends later) (ends_counted later _ is)
     where
-      one_less : (places : List ℕ) → length places ≡ suc (length starts) → length (drop 1 places) ≡ length starts
+      one_less : (offsets : List ℕ) → length offsets ≡ suc (length starts) → length (drop 1 offsets) ≡ length starts
       one_less [] counted = absurd (omega (arith, counted))
       one_less (to ∷ more) counted = omega (arith, counted)
   ends_counted (I.StartLink number ∷ later) starts is = one_less (open_ends later) (ends_counted later _ is)
     where
-      one_less : (places : List ℕ) → length places ≡ suc (length starts) → length (drop 1 places) ≡ length starts
+      one_less : (offsets : List ℕ) → length offsets ≡ suc (length starts) → length (drop 1 offsets) ≡ length starts
       one_less [] counted = absurd (omega (arith, counted))
       one_less (to ∷ more) counted = omega (arith, counted)
 
@@ -248,27 +248,27 @@ module _ (source : List ℕ) (targets : Targets) (links : List (Option Link)) wh
         )
 
     -- where an element begins, its opener stands
-    opens_at : (inline : Inline) (from next place : ℕ) (tag : TagView (List ℕ)) (shown : List RangedEvent)
-        → Begins source targets links inline place tag shown
-        → StandsAt links inline from next → place ≡ from
-    opens_at (I.StartEmphasis p count) from next place tag shown begins is = begins.0 ∙ is.0
-    opens_at (I.StartStrikethrough p count) from next place tag shown begins is = begins.0 ∙ is.0
-    opens_at (I.StartLink number) from next place tag shown begins is =
+    opens_at : (inline : Inline) (from next offset : ℕ) (tag : TagView (List ℕ)) (shown : List RangedEvent)
+        → Begins source targets links inline offset tag shown
+        → StandsAt links inline from next → offset ≡ from
+    opens_at (I.StartEmphasis p count) from next offset tag shown begins is = begins.0 ∙ is.0
+    opens_at (I.StartStrikethrough p count) from next offset tag shown begins is = begins.0 ∙ is.0
+    opens_at (I.StartLink number) from next offset tag shown begins is =
         let both : Some (Some begins.0) ≡ Some (Some is.0) = sym begins.1 ∙ is.1 in
         let same : begins.0 ≡ is.0 = cc in
         begins.2 ∙ (ap (λ (l : Link). l.source.start) same ∙ is.2)
-    opens_at (I.Leaf piece) from next place tag shown begins is = absurd begins
-    opens_at (I.EndEmphasis p count) from next place tag shown begins is = absurd begins
-    opens_at (I.EndStrikethrough p count) from next place tag shown begins is = absurd begins
-    opens_at (I.EndLink piece) from next place tag shown begins is = absurd begins
+    opens_at (I.Leaf piece) from next offset tag shown begins is = absurd begins
+    opens_at (I.EndEmphasis p count) from next offset tag shown begins is = absurd begins
+    opens_at (I.EndStrikethrough p count) from next offset tag shown begins is = absurd begins
+    opens_at (I.EndLink piece) from next offset tag shown begins is = absurd begins
 
-    shows : (inline : Inline) (from next place : ℕ) (tag : TagView (List ℕ)) (shown : List RangedEvent) → Fact inline
-        → Begins source targets links inline place tag shown → StandsAt links inline from next → Shows shown place next
-    shows (I.StartEmphasis p count) from next place tag shown fact begins is =
-        subst (λ (s : List RangedEvent). Shows s place next) (sym begins.2) (shows_none place next (omega (arith, begins.0, is.1)))
-    shows (I.StartStrikethrough p count) from next place tag shown fact begins is =
-        subst (λ (s : List RangedEvent). Shows s place next) (sym begins.2) (shows_none place next (omega (arith, begins.0, is.1)))
-    shows (I.StartLink number) from next place tag shown fact begins is =
+    shows : (inline : Inline) (from next offset : ℕ) (tag : TagView (List ℕ)) (shown : List RangedEvent) → Fact inline
+        → Begins source targets links inline offset tag shown → StandsAt links inline from next → Shows shown offset next
+    shows (I.StartEmphasis p count) from next offset tag shown fact begins is =
+        subst (λ (s : List RangedEvent). Shows s offset next) (sym begins.2) (shows_none offset next (omega (arith, begins.0, is.1)))
+    shows (I.StartStrikethrough p count) from next offset tag shown fact begins is =
+        subst (λ (s : List RangedEvent). Shows s offset next) (sym begins.2) (shows_none offset next (omega (arith, begins.0, is.1)))
+    shows (I.StartLink number) from next offset tag shown fact begins is =
         let both : Some (Some begins.0) ≡ Some (Some is.0) = sym begins.1 ∙ is.1 in
         let same : begins.0 ≡ is.0 = cc in
         let both' : Some (Some begins.0) ≡ Some (Some fact.0) = sym begins.1 ∙ fact.1 in
@@ -276,41 +276,41 @@ module _ (source : List ℕ) (targets : Targets) (links : List (Option Link)) wh
         let text_is : begins.0.text.start ≡ next = ap (λ (l : Link). l.text.start) same ∙ is.3 in
         let opener = subst (λ (l : Link). l.source.start < l.text.start) (sym same') fact.2 in
         let before = subst (λ (l : Link). ShowsBefore l.target l) (sym same') fact.3 in
-        subst (λ (s : List RangedEvent). Shows s place next) (sym begins.4)
+        subst (λ (s : List RangedEvent). Shows s offset next) (sym begins.4)
         (subst (λ n. Shows (shown_target source begins.0.text begins.0.target) n next) (sym begins.2)
         (subst (λ n. Shows (shown_target source begins.0.text begins.0.target) begins.0.source.start n) text_is
         (target_shows source begins.0 opener begins.0.target before)))
-    shows (I.Leaf piece) from next place tag shown fact begins is = absurd begins
-    shows (I.EndEmphasis p count) from next place tag shown fact begins is = absurd begins
-    shows (I.EndStrikethrough p count) from next place tag shown fact begins is = absurd begins
-    shows (I.EndLink piece) from next place tag shown fact begins is = absurd begins
+    shows (I.Leaf piece) from next offset tag shown fact begins is = absurd begins
+    shows (I.EndEmphasis p count) from next offset tag shown fact begins is = absurd begins
+    shows (I.EndStrikethrough p count) from next offset tag shown fact begins is = absurd begins
+    shows (I.EndLink piece) from next offset tag shown fact begins is = absurd begins
 
-    open_counted : (places : List ℕ) (elements : List Element) (to : ℕ) (outer : List ℕ) → places ++ last ∷ [] ≡ to ∷ outer
-        → tos elements ++ last ∷ [] ≡ to ∷ outer → length places ≡ length elements
-    open_counted places elements to outer ends tos_are =
+    open_counted : (offsets : List ℕ) (elements : List Element) (to : ℕ) (outer : List ℕ) → offsets ++ last ∷ [] ≡ to ∷ outer
+        → tos elements ++ last ∷ [] ≡ to ∷ outer → length offsets ≡ length elements
+    open_counted offsets elements to outer ends tos_are =
         let lengths = ap length (ends ∙ sym tos_are) in
         omega (
           arith,
           lengths,
-          length-append places (last ∷ []),
+          length-append offsets (last ∷ []),
           length-append (tos elements) (last ∷ []),
           length-map elements (λ (e : Element). e.to),
         )
 
     begins_rise : (inline : Inline) (later : List Inline) → Rises later → (starts : List Inline) (elements : List Element) (to : ℕ)
-        (outer : List ℕ) (from next place : ℕ) (events shown rest : List RangedEvent) (tag : TagView (List ℕ)) → Fact inline
+        (outer : List ℕ) (from next offset : ℕ) (events shown rest : List RangedEvent) (tag : TagView (List ℕ)) → Fact inline
         → AllByRecursion Fact later → AreNestedIn links (inline ∷ starts) later → StandsAt links inline from next
         → StandFrom links next later last → drop 1 (open_ends later) ++ last ∷ [] ≡ to ∷ outer
-        → tos elements ++ last ∷ [] ≡ to ∷ outer → AllByRecursion HasRange elements → Begins source targets links inline place tag shown
-        → AreEvents source targets links (record { tag = tag_end tag; from = place; to = end_in later } ∷ elements) later rest
-        → events ≡ ranged (start tag) place (end_in later) ∷ (shown ++ rest) → RiseFilled (to ∷ outer) from events
-    begins_rise inline later rises starts elements to outer from next place events shown rest tag fact facts nested at stands ends tos_are some begins
+        → tos elements ++ last ∷ [] ≡ to ∷ outer → AllByRecursion HasRange elements → Begins source targets links inline offset tag shown
+        → AreEvents source targets links (record { tag = tag_end tag; from = offset; to = end_in later } ∷ elements) later rest
+        → events ≡ ranged (start tag) offset (end_in later) ∷ (shown ++ rest) → RiseFilled (to ∷ outer) from events
+    begins_rise inline later rises starts elements to outer from next offset events shown rest tag fact facts nested at stands ends tos_are some begins
         gives is =
-        let here = opens_at inline from next place tag shown begins at in
+        let here = opens_at inline from next offset tag shown begins at in
         let less = stands_after inline from next fact at in
         subst (λ n. RiseFilled (to ∷ outer) n events) here
-        (begun later rises inline starts elements to outer place next events shown rest tag
-        (shows inline from next place tag shown fact begins at) facts nested stands (omega (arith, here, less)) ends tos_are some gives is)
+        (begun later rises inline starts elements to outer offset next events shown rest tag
+        (shows inline from next offset tag shown fact begins at) facts nested stands (omega (arith, here, less)) ends tos_are some gives is)
 
     rises : (inlines : List Inline) → Rises inlines
     rises [] starts elements to outer from events facts nested stands ends tos_are some is = subst (RiseFilled (to ∷ outer) from) (sym is) tt
@@ -320,21 +320,21 @@ module _ (source : List ℕ) (targets : Targets) (links : List (Option Link)) wh
         let leaf = leaf_rises source piece to outer rest facts.0.some inside (subst (λ n. RiseFilled (to ∷ outer) n rest) (sym at.1) after)
         piece.kind here facts.0.inner are in
         subst (RiseFilled (to ∷ outer) from) (sym is) (subst (λ n. RiseFilled (to ∷ outer) n (here ++ rest)) at.0 leaf)
-    rises (I.EndEmphasis place count ∷ later) starts elements to outer from events facts (first, inner, are, ends_it, nested)
+    rises (I.EndEmphasis offset count ∷ later) starts elements to outer from events facts (first, inner, are, ends_it, nested)
         (next, at, stands) ends tos_are some (rest, gives, is) =
-        let shown : (place + count) ∷ (open_ends later ++ last ∷ []) ≡ to ∷ outer = ends in
-        let there : place + count ≡ to = cc in
+        let shown : (offset + count) ∷ (open_ends later ++ last ∷ []) ≡ to ∷ outer = ends in
+        let there : offset + count ≡ to = cc in
         let others : open_ends later ++ last ∷ [] ≡ outer = cc in
         ended later (rises later) inner elements to outer from next events rest facts.1 nested stands (omega (arith, at.0, at.1))
-        (omega (arith, at.1, there)) others (omega (arith, open_counted (open_ends (I.EndEmphasis place count ∷ later)) elements to outer ends tos_are))
+        (omega (arith, at.1, there)) others (omega (arith, open_counted (open_ends (I.EndEmphasis offset count ∷ later)) elements to outer ends tos_are))
         tos_are some gives is
-    rises (I.EndStrikethrough place count ∷ later) starts elements to outer from events facts (first, inner, are, ends_it, nested)
+    rises (I.EndStrikethrough offset count ∷ later) starts elements to outer from events facts (first, inner, are, ends_it, nested)
         (next, at, stands) ends tos_are some (rest, gives, is) =
-        let shown : (place + count) ∷ (open_ends later ++ last ∷ []) ≡ to ∷ outer = ends in
-        let there : place + count ≡ to = cc in
+        let shown : (offset + count) ∷ (open_ends later ++ last ∷ []) ≡ to ∷ outer = ends in
+        let there : offset + count ≡ to = cc in
         let others : open_ends later ++ last ∷ [] ≡ outer = cc in
         ended later (rises later) inner elements to outer from next events rest facts.1 nested stands (omega (arith, at.0, at.1))
-        (omega (arith, at.1, there)) others (omega (arith, open_counted (open_ends (I.EndStrikethrough place count ∷ later)) elements to outer ends tos_are))
+        (omega (arith, at.1, there)) others (omega (arith, open_counted (open_ends (I.EndStrikethrough offset count ∷ later)) elements to outer ends tos_are))
         tos_are some gives is
     rises (I.EndLink piece ∷ later) starts elements to outer from events facts (first, inner, are, ends_it, nested)
         (next, at, stands) ends tos_are some (rest, gives, is) =
@@ -345,18 +345,18 @@ module _ (source : List ℕ) (targets : Targets) (links : List (Option Link)) wh
         (omega (arith, at.1, there)) others (omega (arith, open_counted (open_ends (I.EndLink piece ∷ later)) elements to outer ends tos_are))
         tos_are some gives is
     rises (I.StartEmphasis p count ∷ later) starts elements to outer from events facts nested (next, at, stands) ends tos_are some
-        (place, tag, shown, rest, begins, gives, is) =
-        begins_rise (I.StartEmphasis p count) later (rises later) starts elements to outer from next place events shown rest tag facts.0 facts.1 nested
+        (offset, tag, shown, rest, begins, gives, is) =
+        begins_rise (I.StartEmphasis p count) later (rises later) starts elements to outer from next offset events shown rest tag facts.0 facts.1 nested
         at stands
         ends tos_are some begins gives is
     rises (I.StartStrikethrough p count ∷ later) starts elements to outer from events facts nested (next, at, stands) ends tos_are some
-        (place, tag, shown, rest, begins, gives, is) =
-        begins_rise (I.StartStrikethrough p count) later (rises later) starts elements to outer from next place events shown rest tag facts.0 facts.1 nested
+        (offset, tag, shown, rest, begins, gives, is) =
+        begins_rise (I.StartStrikethrough p count) later (rises later) starts elements to outer from next offset events shown rest tag facts.0 facts.1 nested
         at stands
         ends tos_are some begins gives is
     rises (I.StartLink number ∷ later) starts elements to outer from events facts nested (next, at, stands) ends tos_are some
-        (place, tag, shown, rest, begins, gives, is) =
-        begins_rise (I.StartLink number) later (rises later) starts elements to outer from next place events shown rest tag facts.0 facts.1 nested
+        (offset, tag, shown, rest, begins, gives, is) =
+        begins_rise (I.StartLink number) later (rises later) starts elements to outer from next offset events shown rest tag facts.0 facts.1 nested
         at stands
         ends tos_are some begins gives is
 
@@ -366,6 +366,6 @@ module _ (source : List ℕ) (targets : Targets) (links : List (Option Link)) wh
     all_rise inlines events facts nested stands are =
         rises inlines [] [] last [] 0 events facts nested stands (alone (open_ends inlines) (ends_counted inlines [] nested)) refl tt are
       where
-        alone : (places : List ℕ) → length places ≡ 0 → places ++ last ∷ [] ≡ last ∷ []
+        alone : (offsets : List ℕ) → length offsets ≡ 0 → offsets ++ last ∷ [] ≡ last ∷ []
         alone [] none = refl
         alone (to ∷ more) none = absurd (omega (arith, none))

@@ -21,6 +21,7 @@ use Rattle.markdown_inlines.specs.declared.pieces.PieceKind.TheVariants as K
 use Rattle.markdown_inlines.proofs.ForCallers.{one_cut}
 use Rattle.markdown_events.specs.InlineEvents.{AreInlineEvents, AreEvents, ArePieceEvents, Begins, EventSetting, RangedEvent, alone}
 use Rattle.markdown_events.specs.InlineEvents.{closing, end_in, ranged, shown_target}
+use Rattle.markdown_events.specs.LineFeeds.{with_line_feeds}
 use Rattle.markdown_events.specs.Meanings.{IsDestination, IsMeaning, IsTitle, IsLinkTag, IsWrittenTarget, link_or_image, link_type}
 use Rattle.markdown_events.specs.TagEnds.{tag_end}
 use Rattle.markdown_blocks.specs.link_definitions.LinkDefinitions.{Target}
@@ -34,9 +35,9 @@ one_meaning source meaning meaning' is is' =
 
 one_title : (title : Option (List ℕ)) (meaning meaning' : List ℕ) → IsTitle title meaning → IsTitle title meaning' → meaning ≡ meaning'
 one_title None meaning meaning' is is' = is ∙ sym is'
-one_title (Some title) meaning meaning' is is' = one_meaning title meaning meaning' is is'
+one_title (Some title) meaning meaning' is is' = one_meaning (with_line_feeds title) meaning meaning' is is'
 
--- one label stands at a place
+-- one label stands at an offset
 one_label : (source : List ℕ) (from close : ℕ) (label label' : List ℕ) → IsLabelAt source from close label
     → IsLabelAt source from close label' → label ≡ label'
 one_label source from close label label' is is' =
@@ -102,9 +103,9 @@ module _ (source : List ℕ) (targets : Targets) where
     one_start : (inline : Inline) (from from' : ℕ) (tag tag' : TagView (List ℕ)) (shown shown' : List RangedEvent)
         → Begins source targets links inline from tag shown → Begins source targets links inline from' tag' shown'
         → (from ≡ from') × (tag ≡ tag') × (shown ≡ shown')
-    one_start (I.StartEmphasis place count) from from' tag tag' shown shown' is is' =
+    one_start (I.StartEmphasis offset count) from from' tag tag' shown shown' is is' =
         (is.0 ∙ sym is'.0, is.1 ∙ sym is'.1, is.2 ∙ sym is'.2)
-    one_start (I.StartStrikethrough place count) from from' tag tag' shown shown' is is' =
+    one_start (I.StartStrikethrough offset count) from from' tag tag' shown shown' is is' =
         (is.0 ∙ sym is'.0, is.1 ∙ sym is'.1, is.2 ∙ sym is'.2)
     one_start (I.StartLink number) from from' tag tag' shown shown' is is' =
         let both : Some (Some is.0) ≡ Some (Some is'.0) = sym is.1 ∙ is'.1 in
@@ -114,8 +115,8 @@ module _ (source : List ℕ) (targets : Targets) where
           is.4 ∙ (ap (λ (l : Link). shown_target source l.text l.target) same ∙ sym is'.4),
         )
     one_start (I.Leaf piece) from from' tag tag' shown shown' is is' = absurd is
-    one_start (I.EndEmphasis place count) from from' tag tag' shown shown' is is' = absurd is
-    one_start (I.EndStrikethrough place count) from from' tag tag' shown shown' is is' = absurd is
+    one_start (I.EndEmphasis offset count) from from' tag tag' shown shown' is is' = absurd is
+    one_start (I.EndStrikethrough offset count) from from' tag tag' shown shown' is is' = absurd is
     one_start (I.EndLink piece) from from' tag tag' shown shown' is is' = absurd is
 
     abbrev HaveOne : List Inline → Type 0
@@ -145,9 +146,9 @@ module _ (source : List ℕ) (targets : Targets) where
         let same = one_piece piece.kind piece here here' are are' in
         let rests = one_list later elements rest rest' gives gives' in
         is ∙ (ap (λ h. h ++ rest) same ∙ (ap (λ r. here' ++ r) rests ∙ sym is'))
-    one_list (I.EndEmphasis place count ∷ later) elements events events' (rest, gives, is) (rest', gives', is') =
+    one_list (I.EndEmphasis offset count ∷ later) elements events events' (rest, gives, is) (rest', gives', is') =
         is ∙ (ap (λ r. closing elements ++ r) (one_list later (drop 1 elements) rest rest' gives gives') ∙ sym is')
-    one_list (I.EndStrikethrough place count ∷ later) elements events events' (rest, gives, is) (rest', gives', is') =
+    one_list (I.EndStrikethrough offset count ∷ later) elements events events' (rest, gives, is) (rest', gives', is') =
         is ∙ (ap (λ r. closing elements ++ r) (one_list later (drop 1 elements) rest rest' gives gives') ∙ sym is')
     one_list (I.EndLink piece ∷ later) elements events events' (rest, gives, is) (rest', gives', is') =
         is ∙ (ap (λ r. closing elements ++ r) (one_list later (drop 1 elements) rest rest' gives gives') ∙ sym is')

@@ -12,7 +12,7 @@ use Rattle.markdown_blocks.specs.declared.containers.ListItem.{ListItem}
 use Rattle.markdown_blocks.specs.declared.lists.ListBlock.{ListBlock}
 use Rattle.markdown_blocks.specs.events.Events.{LeafBlock}
 use Rattle.markdown_blocks.specs.blocks.Pages.{is_blank_kind}
-use Rattle.markdown_blocks.specs.lists.Lists.{Nodes, nothing, leaf_then, container_then, begins_blank, line_behind, lines_passed}
+use Rattle.markdown_blocks.specs.lists.Lists.{Nodes, nothing, leaf_then, container_then, begins_blank, next_line, lines_passed}
 use Rattle.markdown_blocks.specs.lists.Lists.{Child, leaf_child, container_child, child_unless, children, are_alike, are_loose}
 use Rattle.markdown_blocks.specs.lists.Lists.{last_end, list_of, goes_on, lists_among}
 use Rattle.markdown_events.specs.declared.page.levels.ItemList.{ItemList}
@@ -21,7 +21,7 @@ use Rattle.markdown_events.proofs.page.LevelLemmas.{are_marked, same_followed, w
 
 -- how many lines of the page stand before what follows a leaf block
 abbrev pub line_after : LeafBlock → ℕ
-line_after = line_behind
+line_after = next_line
 
 -- an item of this bullet or delimiter
 abbrev pub is_of : ℕ → Option Container → Bool
@@ -125,8 +125,8 @@ or_comm true false = refl
 or_comm false true = refl
 or_comm false false = refl
 
-loose_item : (other : ListItem) (place : ℕ) (inner later : Nodes) → IsLooseRun later → IsLooseRun (container_then (Item other) place inner later)
-loose_item other place inner later loose item child depth line =
+loose_item : (other : ListItem) (offset : ℕ) (inner later : Nodes) → IsLooseRun later → IsLooseRun (container_then (Item other) offset inner later)
+loose_item other offset inner later loose item child depth line =
     let next = container_child (Item other) (suc depth) line (lines_passed line inner) (begins_blank later) (children true (suc depth) line inner) in
     let set_off = is_set_off other inner later in
     let list = list_with other inner set_off (front_list later) in
@@ -158,8 +158,8 @@ loose_item other place inner later loose item child depth line =
 loose_run : (nodes : Nodes) → IsLooseRun nodes
 loose_run nothing = λ item child depth line. refl
 loose_run (leaf_then block later) = loose_leaf block later (loose_run later)
-loose_run (container_then (Item other) place inner later) = loose_item other place inner later (loose_run later)
-loose_run (container_then c place inner later) = λ item child depth line. refl
+loose_run (container_then (Item other) offset inner later) = loose_item other offset inner later (loose_run later)
+loose_run (container_then c offset inner later) = λ item child depth line. refl
 
 -- ---- the list that begins with an item
 
@@ -184,10 +184,10 @@ item_is_loose item inner later depth line =
     (same_followed (Item item) (suc depth) line inner later (are_marked inner))
     ∙ sym (loose_with item inner (is_set_off item inner later) (front_list later))
 
-item_is_listed : (item : ListItem) (place : ℕ) (inner later : Nodes) (depth line : ℕ)
-    → IsListed depth (children false depth line (container_then (Item item) place inner later))
+item_is_listed : (item : ListItem) (offset : ℕ) (inner later : Nodes) (depth line : ℕ)
+    → IsListed depth (children false depth line (container_then (Item item) offset inner later))
     (list_with item inner (is_set_off item inner later) (front_list later))
-item_is_listed item place inner later depth line =
+item_is_listed item offset inner later depth line =
     let passed = lines_passed line inner in
     let first = container_child (Item item) (suc depth) line passed (begins_blank later) (children true (suc depth) line inner) in
     let others = children false depth passed later in
@@ -226,19 +226,19 @@ front_after_leaf block later listed_later list front depth line = by_kind (is_bl
 front_is_listed : (nodes : Nodes) → IsFrontListed nodes
 front_is_listed nothing = λ list front depth line. absurd (cc)
 front_is_listed (leaf_then block later) = front_after_leaf block later (front_is_listed later)
-front_is_listed (container_then (Item item) place inner later) = λ list front depth line.
+front_is_listed (container_then (Item item) offset inner later) = λ list front depth line.
     let is : list_with item inner (is_set_off item inner later) (front_list later) ≡ list = cc in
-    subst (IsListed depth (children false depth line (container_then (Item item) place inner later))) is
-    (item_is_listed item place inner later depth line)
-front_is_listed (container_then c place inner later) = λ list front depth line. absurd (cc)
+    subst (IsListed depth (children false depth line (container_then (Item item) offset inner later))) is
+    (item_is_listed item offset inner later depth line)
+front_is_listed (container_then c offset inner later) = λ list front depth line. absurd (cc)
 
 -- The list that the blocks of a container or of the page begin with, blank lines aside, is one of their lists.
 pub front_list_is_listed : (nodes : Nodes) (list : ItemList) → front_list nodes ≡ Some list → (is_first : Bool) (depth line : ℕ)
     → IsListed depth (children is_first depth line nodes) list
 front_list_is_listed nodes list front false depth line = front_is_listed nodes list front depth line
 front_list_is_listed nothing list front true depth line = absurd (cc)
-front_list_is_listed (container_then c place inner later) list front true depth line =
-    front_is_listed (container_then c place inner later) list front depth line
+front_list_is_listed (container_then c offset inner later) list front true depth line =
+    front_is_listed (container_then c offset inner later) list front depth line
 front_list_is_listed (leaf_then block later) list front true depth line = by_kind (is_blank_kind block.kind) front
   where
     by_kind : (k : Bool) → ◌≡◌ {A = Option ItemList} (if k then front_list later else None) (Some list)

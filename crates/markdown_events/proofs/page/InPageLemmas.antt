@@ -1,5 +1,5 @@
 -- The leaf blocks of a page that is UTF-8 stand in it, as its events are followed one after another.
-use Rattle.std.proofs.Common.{ℕ, zero, suc, ◌+◌, ◌-◌, ◌<◌, ◌≡◌, true, List, [], ◌∷◌, ◌++◌, length, map, replicate, Option, Some, None, inl, inr, arith}
+use Rattle.std.proofs.Common.{ℕ, zero, suc, ◌+◌, ◌-◌, ◌<◌, ◌≡◌, Bool, true, false, List, [], ◌∷◌, ◌++◌, length, map, replicate, Option, Some, None, inl, inr, arith}
 use Rattle.std.proofs.Common.{append-nil, append_assoc, drop, subst, sym}
 use Rattle.std.specs.Prelude.{⊤}
 use Rattle.std.specs.List.{concat}
@@ -8,16 +8,16 @@ use Rattle.std.proofs.lemmas.Bool.Decides.{nat_tests}
 use Rattle.markdown_scanners_tree.specs.line.State.{LineState}
 use Rattle.markdown_scanners_tree.specs.scanners.Fences.{is_fence_byte}
 use Rattle.markdown_blocks.specs.byte_order_mark.ByteOrderMark.{text_start}
-use Rattle.markdown_blocks.specs.blocks.Leaves.{IsLeaf}
-use Rattle.markdown_blocks.specs.blocks.Pages.{AreBlocks, Piece, lines_in, open_behind, outer_of, root}
-use Rattle.markdown_blocks.specs.containers.Containers.{Between, Outer, Rest, after_marker, behind, settled}
+use Rattle.markdown_blocks.specs.blocks.Leaves.{IsLeaf, IsLeafAfter}
+use Rattle.markdown_blocks.specs.blocks.Pages.{AreBlocks, Piece, lines_in, opened_by, outer_of, root}
+use Rattle.markdown_blocks.specs.containers.Containers.{Between, OpenContainers, Rest, after_marker, match_line, past_first_line}
 use Rattle.markdown_blocks.specs.declared.blocks.BlockKind.{BlockKind}
 use Rattle.markdown_blocks.specs.declared.blocks.BlockKind.TheVariants.{Blank, Break, Heading, Setext, Indented, Fenced, Html, Paragraph, Definition, Table}
 use Rattle.markdown_values.specs.declared.values.extensions.Extensions.{Extensions}
 use Rattle.markdown_blocks.specs.declared.containers.Container.{Container}
 use Rattle.markdown_blocks.specs.events.Events.{AreEvents, AreLeaves, Event, IsEventsOf, LeafBlock, Part, block_end, ends, leaf, open_after}
 use Rattle.markdown_blocks.specs.events.Events.{later_lines, lines_taken, part_of, piece_content, started, starts}
-use Rattle.markdown_blocks.specs.first_blocks.Waiting.{waiting_behind}
+use Rattle.markdown_blocks.specs.first_blocks.Waiting.{waiting_next}
 use Rattle.markdown_blocks.specs.laws.Characters.{AreCutOut}
 use Rattle.markdown_blocks.specs.laws.FirstTexts.{FirstsBeginPlain}
 use Rattle.markdown_blocks.specs.laws.Order.{ContentsStand, passed_after}
@@ -53,7 +53,7 @@ started_have start s (c ∷ inner) = started_have start (after_marker s) inner
 fence_low : (byte : ℕ) → is_fence_byte byte ≡ true → byte < 128
 fence_low byte is = grind (arith, nat_tests)
 
-kind_has : (outer : Outer) (kind : BlockKind) (first : Rest) (later rest : List (List ℕ)) → IsLeaf outer kind first later rest → HasAsciiFence kind
+kind_has : (outer : OpenContainers) (kind : BlockKind) (first : Rest) (later rest : List (List ℕ)) → IsLeaf outer kind first later rest → HasAsciiFence kind
 kind_has outer Blank first later rest is = tt
 kind_has outer Break first later rest is = tt
 kind_has outer (Heading level) first later rest is = tt
@@ -64,6 +64,21 @@ kind_has outer (Html kind) first later rest is = tt
 kind_has outer Paragraph first later rest is = tt
 kind_has outer Definition first later rest is = tt
 kind_has outer (Table columns) first later rest is = tt
+
+-- and where the block's first line goes on with the paragraph before it
+kind_has_after : (header : Bool) (outer : OpenContainers) (kind : BlockKind) (first : Rest) (later rest : List (List ℕ))
+    → IsLeafAfter header outer kind first later rest → HasAsciiFence kind
+kind_has_after false outer kind first later rest is = kind_has outer kind first later rest is
+kind_has_after true outer (Fenced count byte) first later rest is = absurd is
+kind_has_after true outer Blank first later rest is = tt
+kind_has_after true outer Break first later rest is = tt
+kind_has_after true outer (Heading level) first later rest is = tt
+kind_has_after true outer (Setext level) first later rest is = tt
+kind_has_after true outer Indented first later rest is = tt
+kind_has_after true outer (Html kind) first later rest is = tt
+kind_has_after true outer Paragraph first later rest is = tt
+kind_has_after true outer Definition first later rest is = tt
+kind_has_after true outer (Table columns) first later rest is = tt
 
 leaves_have : (outer : List Container) (kind : BlockKind) (part : Part) (content : List ℕ) (leaves : List LeafBlock) → HasAsciiFence kind
     → AreLeaves outer kind part content leaves → HaveFences (map leaf leaves)
@@ -82,16 +97,16 @@ pieces_have : (pieces : List Piece) (before : Between) (line start : ℕ) (event
 pieces_have [] before line start events each are = subst HaveFences (sym are) tt
 pieces_have (piece ∷ later) before line start events each (leaves, more, are, is, after) =
     let gone = replicate (length before.containers - length piece.kept) ends in
-    let new = started start (behind before.containers piece.first).state piece.begun in
-    let own = kind_has (outer_of before piece) piece.kind piece.words piece.later (lines_in later ++ []) each.0.leaf in
+    let new = started start (match_line before.containers piece.first).state piece.begun in
+    let own = kind_has_after piece.header (outer_of before piece) piece.kind piece.words piece.later (lines_in later ++ []) each.0.leaf in
     let held = leaves_have (piece.kept ++ piece.begun) piece.kind (part_of line start piece) (piece_content piece) leaves own are in
     subst HaveFences (sym is)
     (both_have (gone ++ new ++ map leaf leaves) more
     (both_have (gone ++ new) (map leaf leaves)
     (both_have gone new (ends_have (length before.containers - length piece.kept))
-    (started_have start (behind before.containers piece.first).state piece.begun))
+    (started_have start (match_line before.containers piece.first).state piece.begun))
     held)
-    (pieces_have later (open_behind before piece) (line + length (piece.first ∷ piece.later))
+    (pieces_have later (opened_by before piece) (line + length (piece.first ∷ piece.later))
     (start + length (concat (piece.first ∷ piece.later))) more each.1 after))
 
 page_fences : (asked : Extensions) (page : List ℕ) (events : List Event) → IsEventsOf asked page events → HaveFences events
@@ -116,12 +131,12 @@ module _ (page : List ℕ) where
   nodes_in nothing outer kept passed waiting rest stand known follow = follow kept waiting known
   nodes_in (leaf_then block later) outer kept passed waiting rest stand known follow = (
     record { cut_out = known.cut.0; fence = known.fences.0; text = stand.1; plain = known.plain.0 },
-    nodes_in later outer (length outer) (block_end block) (waiting_behind waiting (leaf block)) rest stand.2
+    nodes_in later outer (length outer) (block_end block) (waiting_next waiting (leaf block)) rest stand.2
         (record { cut = known.cut.1; fences = known.fences.1; plain = known.plain.1 }) follow,
   )
   nodes_in (container_then container before inner later) outer kept passed waiting rest stand known follow =
       let parted = append_assoc (flatten inner) (ends ∷ flatten later) rest in
-      let within = outer ++ settled container ∷ [] in
+      let within = outer ++ past_first_line container ∷ [] in
       subst (AreInPage page within kept (Some container)) (sym parted)
       (nodes_in inner within kept (suc before) (Some container) (ends ∷ (flatten later ++ rest)) stand.0
       (record {
@@ -130,7 +145,7 @@ module _ (page : List ℕ) where
         plain = subst (FirstsBeginPlain (Some container)) parted known.plain;
       })
       (λ then last more. subst (λ (around : List Container). AreInPage page around (length around) None (flatten later ++ rest))
-      (sym (front_of outer (settled container)))
+      (sym (front_of outer (past_first_line container)))
       (nodes_in later outer (length outer) (passed_after (suc before) inner) None rest stand.1
       (record { cut = more.cut; fences = more.fences; plain = more.plain }) follow)))
 

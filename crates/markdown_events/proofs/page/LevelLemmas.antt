@@ -8,15 +8,15 @@ use Rattle.markdown_blocks.specs.declared.containers.Container.TheVariants.{Quot
 use Rattle.markdown_blocks.specs.declared.containers.ListItem.{ListItem}
 use Rattle.markdown_blocks.specs.events.Events.{LeafBlock}
 use Rattle.markdown_blocks.specs.blocks.Pages.{is_blank_kind}
-use Rattle.markdown_blocks.specs.lists.Lists.{Nodes, nothing, leaf_then, container_then, begins_blank, line_behind, lines_passed}
+use Rattle.markdown_blocks.specs.lists.Lists.{Nodes, nothing, leaf_then, container_then, begins_blank, next_line, lines_passed}
 use Rattle.markdown_blocks.specs.lists.Lists.{Child, leaf_child, container_child, child_unless, children, are_alike, are_parted, ends_blank, ends_blank_line}
-use Rattle.markdown_events.specs.declared.page.levels.Content.{Content}
+use Rattle.markdown_events.specs.declared.page.levels.ContainerContent.{ContainerContent}
 use Rattle.markdown_events.specs.declared.page.levels.ItemList.{ItemList}
 use Rattle.markdown_events.specs.declared.page.levels.LastBlock.{LastBlock}
 use Rattle.markdown_events.specs.declared.page.levels.Level.{Level}
 use Rattle.markdown_events.specs.declared.page.spans.Span.{Span}
 use Rattle.markdown_events.specs.page.Levels.{content_of, is_followed, last_with, last_of, begins_blank_twice, level_of, goes_on, with_block}
-use Rattle.markdown_events.specs.page.Spans.{first_place, block_end, last_end, container_end}
+use Rattle.markdown_events.specs.page.Spans.{first_offset, block_end, last_end, container_end}
 use Rattle.markdown_events.specs.page.Spans.{is_parted, is_set_off, is_alike, list_alone, list_with, front_list, span_of}
 
 -- ---- the last of the blocks
@@ -43,7 +43,7 @@ end_with_leaf block later there to blank = by_kind (is_blank_kind block.kind)
 end_is : (nodes : Nodes) → EndsThere nodes
 end_is nothing = λ to blank. refl
 end_is (leaf_then block later) = end_with_leaf block later (end_is later)
-end_is (container_then c place inner later) = λ to blank. end_is later (container_end inner) (is_followed c inner later)
+end_is (container_then c offset inner later) = λ to blank. end_is later (container_end inner) (is_followed c inner later)
 
 -- whether a blank line follows the last, or ends it, whatever lines stand before
 abbrev pub AreMarked : Nodes → Type 0
@@ -64,20 +64,20 @@ module _ (block : LeafBlock) (later : Nodes) (marked : AreMarked later) where
   )
     where
       by_kind : (depth line to : ℕ) (blank k : Bool)
-          → ends_blank blank (child_unless (k && not false) (leaf_child block line (begins_blank later)) (children false depth (line_behind block) later))
+          → ends_blank blank (child_unless (k && not false) (leaf_child block line (begins_blank later)) (children false depth (next_line block) later))
           ≡ (last_or to blank (last_with k (last_of later) (leaf_alone block later))).is_blank
-      by_kind depth line to blank true = marked.0 depth (line_behind block) to blank
-      by_kind depth line to blank false = marked.0 depth (line_behind block) (block_end block) (begins_blank later)
+      by_kind depth line to blank true = marked.0 depth (next_line block) to blank
+      by_kind depth line to blank false = marked.0 depth (next_line block) (block_end block) (begins_blank later)
 
       by_kind_first : (depth line to : ℕ) (k : Bool)
-          → ends_blank false (child_unless (k && not true) (leaf_child block line (begins_blank later)) (children false depth (line_behind block) later))
+          → ends_blank false (child_unless (k && not true) (leaf_child block line (begins_blank later)) (children false depth (next_line block) later))
           ≡ (last_or to (k && begins_blank later) (last_with k (last_of later) (leaf_alone block later))).is_blank
-      by_kind_first depth line to true = marked.0 depth (line_behind block) to (begins_blank later)
-      by_kind_first depth line to false = marked.0 depth (line_behind block) (block_end block) (begins_blank later)
+      by_kind_first depth line to true = marked.0 depth (next_line block) to (begins_blank later)
+      by_kind_first depth line to false = marked.0 depth (next_line block) (block_end block) (begins_blank later)
 
-marked_with_container : (c : Container) (place : ℕ) (inner later : Nodes) → AreMarked inner → AreMarked later
-    → AreMarked (container_then c place inner later)
-marked_with_container c place inner later marked_inner marked = (λ depth line to blank. here depth line, λ depth line to. here depth line)
+marked_with_container : (c : Container) (offset : ℕ) (inner later : Nodes) → AreMarked inner → AreMarked later
+    → AreMarked (container_then c offset inner later)
+marked_with_container c offset inner later marked_inner marked = (λ depth line to blank. here depth line, λ depth line to. here depth line)
   where
     here : (depth line : ℕ)
         → ends_blank (ends_blank_line c (children true (suc depth) line inner) || begins_blank later)
@@ -90,7 +90,7 @@ marked_with_container c place inner later marked_inner marked = (λ depth line t
 pub are_marked : (nodes : Nodes) → AreMarked nodes
 are_marked nothing = (λ depth line to blank. refl, λ depth line to. refl)
 are_marked (leaf_then block later) = marked_with_leaf block later (are_marked later)
-are_marked (container_then c place inner later) = marked_with_container c place inner later (are_marked inner) (are_marked later)
+are_marked (container_then c offset inner later) = marked_with_container c offset inner later (are_marked inner) (are_marked later)
 
 -- ---- blocks that follow each other
 
@@ -119,15 +119,15 @@ any_with_leaf : (block : LeafBlock) (later : Nodes) → HasLast later → HasLas
 any_with_leaf block later has depth line = by_kind (is_blank_kind block.kind)
   where
     by_kind : (k : Bool)
-        → has_any (child_unless (k && not false) (leaf_child block line (begins_blank later)) (children false depth (line_behind block) later))
+        → has_any (child_unless (k && not false) (leaf_child block line (begins_blank later)) (children false depth (next_line block) later))
         ≡ is_some (last_with k (last_of later) (leaf_alone block later))
-    by_kind true = has depth (line_behind block)
+    by_kind true = has depth (next_line block)
     by_kind false = refl
 
 any_is_last : (nodes : Nodes) → HasLast nodes
 any_is_last nothing = λ depth line. refl
 any_is_last (leaf_then block later) = any_with_leaf block later (any_is_last later)
-any_is_last (container_then c place inner later) = λ depth line. refl
+any_is_last (container_then c offset inner later) = λ depth line. refl
 
 -- no block is alike to a container that is no item
 abbrev is_item : Container → Bool
@@ -148,9 +148,9 @@ alike_with_leaf i block later alike depth line = by_kind (is_blank_kind block.ki
   where
     by_kind : (k : Bool)
         → alike_first (Some (Item i))
-        (child_unless (k && not false) (leaf_child block line (begins_blank later)) (children false depth (line_behind block) later))
+        (child_unless (k && not false) (leaf_child block line (begins_blank later)) (children false depth (next_line block) later))
         ≡ is_alike i (if k then front_list later else None)
-    by_kind true = alike depth (line_behind block)
+    by_kind true = alike depth (next_line block)
     by_kind false = refl
 
 -- the list of an item has its bullet or delimiter
@@ -168,9 +168,9 @@ list_of_item i other inner set_off (Some list) = by_case (other.delimiter == lis
 item_is_on : (i : ListItem) (nodes : Nodes) → IsAlikeFirst i nodes
 item_is_on i nothing = λ depth line. refl
 item_is_on i (leaf_then block later) = alike_with_leaf i block later (item_is_on i later)
-item_is_on i (container_then (Item other) place inner later) =
+item_is_on i (container_then (Item other) offset inner later) =
     λ depth line. sym (list_of_item i other inner (is_set_off other inner later) (front_list later))
-item_is_on i (container_then c place inner later) = λ depth line. refl
+item_is_on i (container_then c offset inner later) = λ depth line. refl
 
 alike_is_on : (c : Container) (nodes : Nodes) (depth line : ℕ) → alike_first (Some c) (children false depth line nodes) ≡ goes_on c (front_list nodes)
 alike_is_on (Item i) nodes depth line = item_is_on i nodes depth line
@@ -190,7 +190,7 @@ parted_leaf false later parted = is_parting (begins_blank later) false later || 
 abbrev pub parted_of : Nodes → Bool
 parted_of nothing = false
 parted_of (leaf_then block later) = parted_leaf (is_blank_kind block.kind) later (parted_of later)
-parted_of (container_then c place inner later) =
+parted_of (container_then c offset inner later) =
     is_parting (is_followed c inner later) (goes_on c (front_list later)) later || parted_of later
 
 abbrev IsParted : Nodes → Type 0
@@ -219,15 +219,15 @@ parted_leaf_is : (block : LeafBlock) (later : Nodes) → IsParted later → IsPa
 parted_leaf_is block later parted depth line = by_kind (is_blank_kind block.kind)
   where
     by_kind : (k : Bool)
-        → are_parted (child_unless (k && not false) (leaf_child block line (begins_blank later)) (children false depth (line_behind block) later))
+        → are_parted (child_unless (k && not false) (leaf_child block line (begins_blank later)) (children false depth (next_line block) later))
         ≡ parted_leaf k later (parted_of later)
-    by_kind true = parted depth (line_behind block)
-    by_kind false = parted_with_leaf block later parted depth (line_behind block) line
+    by_kind true = parted depth (next_line block)
+    by_kind false = parted_with_leaf block later parted depth (next_line block) line
 
 parted_is : (nodes : Nodes) → IsParted nodes
 parted_is nothing = λ depth line. refl
 parted_is (leaf_then block later) = parted_leaf_is block later (parted_is later)
-parted_is (container_then c place inner later) = λ depth line.
+parted_is (container_then c offset inner later) = λ depth line.
     parted_with
     (container_child c (suc depth) line (lines_passed line inner) (begins_blank later) (children true (suc depth) line inner))
     later (parted_is later) depth (lines_passed line inner) (is_followed c inner later) (goes_on c (front_list later))
@@ -248,12 +248,12 @@ whole_parted_leaf block later depth line = by_kind (is_blank_kind block.kind)
     and_true true = refl
     and_true false = refl
 
-    here : are_parted (leaf_child block line (begins_blank later) ∷ children false depth (line_behind block) later)
+    here : are_parted (leaf_child block line (begins_blank later) ∷ children false depth (next_line block) later)
         ≡ (is_parting (begins_blank later) false later || parted_of later)
-    here = parted_with_leaf block later (parted_is later) depth (line_behind block) line
+    here = parted_with_leaf block later (parted_is later) depth (next_line block) line
 
     by_kind : (k : Bool)
-        → are_parted (child_unless (k && not true) (leaf_child block line (begins_blank later)) (children false depth (line_behind block) later))
+        → are_parted (child_unless (k && not true) (leaf_child block line (begins_blank later)) (children false depth (next_line block) later))
         ≡ ((is_some (last_with k (last_of later) (leaf_alone block later)) && (k && begins_blank later)) || parted_leaf k later (parted_of later))
     by_kind true = here ∙ ap (λ b. (is_some (last_of later) && b) || parted_of later) (and_true (begins_blank later))
     by_kind false = here
@@ -261,7 +261,7 @@ whole_parted_leaf block later depth line = by_kind (is_blank_kind block.kind)
 pub whole_parted_is : (nodes : Nodes) (depth line : ℕ) → are_parted (children true depth line nodes) ≡ whole_parted_of nodes
 whole_parted_is nothing depth line = refl
 whole_parted_is (leaf_then block later) depth line = whole_parted_leaf block later depth line
-whole_parted_is (container_then c place inner later) depth line = parted_is (container_then c place inner later) depth line
+whole_parted_is (container_then c offset inner later) depth line = parted_is (container_then c offset inner later) depth line
 
 pub parted_known : (level : Level) (nodes : Nodes) → level ≡ level_of nodes
     → ((is_some level.last && level.begins_blank_twice) || level.is_parted) ≡ is_parted nodes
@@ -271,21 +271,21 @@ parted_known level nodes same =
     ∙ sym (whole_parted_is nodes 0 0)
 
 pub content_known : (level : Level) (nodes : Nodes) → level ≡ level_of nodes → (last : LastBlock)
-    → last ≡ last_or level.place level.begins_blank_twice level.last → (parted : Bool) → parted ≡ is_parted nodes
-    → ◌≡◌ {A = Content} (record { to = last.to; is_parted = parted; ends_blank = last.is_blank }) (content_of nodes)
+    → last ≡ last_or level.offset level.begins_blank_twice level.last → (parted : Bool) → parted ≡ is_parted nodes
+    → ◌≡◌ {A = ContainerContent} (record { to = last.to; is_parted = parted; ends_blank = last.is_blank }) (content_of nodes)
 content_known level nodes same last is_last parted parts =
-    let content : ℕ → Bool → Bool → Content = λ to parted blank. record { to = to; is_parted = parted; ends_blank = blank } in
-    let known : Level → LastBlock = λ l. last_or l.place l.begins_blank_twice l.last in
+    let content : ℕ → Bool → Bool → ContainerContent = λ to parted blank. record { to = to; is_parted = parted; ends_blank = blank } in
+    let known : Level → LastBlock = λ l. last_or l.offset l.begins_blank_twice l.last in
     ap (λ l. content l.to parted l.is_blank) (is_last ∙ ap known same)
     ∙ ap (λ p. content (known (level_of nodes)).to p (known (level_of nodes)).is_blank) parts
-    ∙ ap (λ to. content to (is_parted nodes) (known (level_of nodes)).is_blank) (sym (end_is nodes (first_place nodes) (begins_blank_twice nodes)))
-    ∙ ap (content (container_end nodes) (is_parted nodes)) (sym ((are_marked nodes).1 0 0 (first_place nodes)))
+    ∙ ap (λ to. content to (is_parted nodes) (known (level_of nodes)).is_blank) (sym (end_is nodes (first_offset nodes) (begins_blank_twice nodes)))
+    ∙ ap (content (container_end nodes) (is_parted nodes)) (sym ((are_marked nodes).1 0 0 (first_offset nodes)))
 
 -- ---- one more block
 
 abbrev pub leaf_level : Bool → LeafBlock → Level → Level
-leaf_level true block later = record later { place = block.place; begins_blank = true; begins_blank_twice = later.begins_blank }
-leaf_level false block later = with_block block.place (record { to = block_end block; is_blank = later.begins_blank }) false None later
+leaf_level true block later = record later { offset = block.offset; begins_blank = true; begins_blank_twice = later.begins_blank }
+leaf_level false block later = with_block block.offset (record { to = block_end block; is_blank = later.begins_blank }) false None later
 
 pub level_with_leaf : (block : LeafBlock) (later : Nodes)
     → leaf_level (is_blank_kind block.kind) block (level_of later) ≡ level_of (leaf_then block later)
@@ -293,7 +293,7 @@ level_with_leaf block later = by_kind (is_blank_kind block.kind)
   where
     known : Bool → Bool → Level
     known k parted = record {
-      place = block.place;
+      offset = block.offset;
       last = last_with k (last_of later) (leaf_alone block later);
       is_parted = parted;
       begins_blank = k;
@@ -303,40 +303,40 @@ level_with_leaf block later = by_kind (is_blank_kind block.kind)
 
     by_kind : (k : Bool)
         → leaf_level k block (level_of later)
-        ≡ known k (are_parted (child_unless (k && not false) (leaf_child block 0 (begins_blank later)) (children false 0 (line_behind block) later)))
-    by_kind true = ap (known true) (parted_is later 0 0 ∙ sym (parted_is later 0 (line_behind block)))
+        ≡ known k (are_parted (child_unless (k && not false) (leaf_child block 0 (begins_blank later)) (children false 0 (next_line block) later)))
+    by_kind true = ap (known true) (parted_is later 0 0 ∙ sym (parted_is later 0 (next_line block)))
     by_kind false = ap (known false) (ap (λ p. is_parting (begins_blank later) false later || p) (parted_is later 0 0)
-        ∙ sym (parted_with_leaf block later (parted_is later) 0 (line_behind block) 0))
+        ∙ sym (parted_with_leaf block later (parted_is later) 0 (next_line block) 0))
 
-pub level_with_container : (c : Container) (place : ℕ) (inner later : Nodes)
-    → with_block place (record { to = container_end inner; is_blank = is_followed c inner later }) (goes_on c (front_list later))
-    (front_list (container_then c place inner later)) (level_of later)
-    ≡ level_of (container_then c place inner later)
-level_with_container c place inner later =
+pub level_with_container : (c : Container) (offset : ℕ) (inner later : Nodes)
+    → with_block offset (record { to = container_end inner; is_blank = is_followed c inner later }) (goes_on c (front_list later))
+    (front_list (container_then c offset inner later)) (level_of later)
+    ≡ level_of (container_then c offset inner later)
+level_with_container c offset inner later =
     let level : Bool → Level = λ parted. record {
-      place = place;
+      offset = offset;
       last = Some (last_or (container_end inner) (is_followed c inner later) (last_of later));
       is_parted = parted;
       begins_blank = false;
       begins_blank_twice = false;
-      list = front_list (container_then c place inner later);
+      list = front_list (container_then c offset inner later);
     } in
     ap level (ap (λ p. is_parting (is_followed c inner later) (goes_on c (front_list later)) later || p) (parted_is later 0 0)
-    ∙ sym (parted_is (container_then c place inner later) 0 0))
+    ∙ sym (parted_is (container_then c offset inner later) 0 0))
 
-pub level_known : (c : Container) (place : ℕ) (content : Content) (level : Level) (inner later : Nodes) → content ≡ content_of inner
+pub level_known : (c : Container) (offset : ℕ) (content : ContainerContent) (level : Level) (inner later : Nodes) → content ≡ content_of inner
     → level ≡ level_of later → (blank : Bool) → blank ≡ is_followed c inner later → (more : Bool) → more ≡ goes_on c level.list
-    → (list : Option ItemList) → list ≡ front_list (container_then c place inner later)
-    → with_block place (record { to = content.to; is_blank = blank }) more list level ≡ level_of (container_then c place inner later)
-level_known c place content level inner later same same_later blank is_blank more is_more list is_list =
-    let front = front_list (container_then c place inner later) in
+    → (list : Option ItemList) → list ≡ front_list (container_then c offset inner later)
+    → with_block offset (record { to = content.to; is_blank = blank }) more list level ≡ level_of (container_then c offset inner later)
+level_known c offset content level inner later same same_later blank is_blank more is_more list is_list =
+    let front = front_list (container_then c offset inner later) in
     let followed = is_followed c inner later in
-    ap (λ b. with_block place (record { to = content.to; is_blank = b }) more list level) is_blank
-    ∙ ap (λ m. with_block place (record { to = content.to; is_blank = followed }) m list level) is_more
-    ∙ ap (λ l. with_block place (record { to = content.to; is_blank = followed }) (goes_on c level.list) l level) is_list
-    ∙ ap (λ all. with_block place (record { to = all.to; is_blank = followed }) (goes_on c level.list) front level) same
-    ∙ ap (λ known. with_block place (record { to = container_end inner; is_blank = followed }) (goes_on c known.list) front known) same_later
-    ∙ level_with_container c place inner later
+    ap (λ b. with_block offset (record { to = content.to; is_blank = b }) more list level) is_blank
+    ∙ ap (λ m. with_block offset (record { to = content.to; is_blank = followed }) m list level) is_more
+    ∙ ap (λ l. with_block offset (record { to = content.to; is_blank = followed }) (goes_on c level.list) l level) is_list
+    ∙ ap (λ all. with_block offset (record { to = all.to; is_blank = followed }) (goes_on c level.list) front level) same
+    ∙ ap (λ known. with_block offset (record { to = container_end inner; is_blank = followed }) (goes_on c known.list) front known) same_later
+    ∙ level_with_container c offset inner later
 
 -- ---- what a container spans
 
@@ -344,12 +344,12 @@ abbrev pub span_with : Option ItemList → ℕ → Bool → Span
 span_with (Some list) to more = record { to = to; is_loose = list.is_loose; list_to = list.to; is_last = not more }
 span_with None to more = record { to = to; is_loose = false; list_to = 0; is_last = false }
 
-pub span_is : (c : Container) (place : ℕ) (inner later : Nodes)
-    → span_with (front_list (container_then c place inner later)) (container_end inner) (goes_on c (front_list later)) ≡ span_of c inner later
-span_is (Item i) place inner later = refl
-span_is c place inner later = refl
+pub span_is : (c : Container) (offset : ℕ) (inner later : Nodes)
+    → span_with (front_list (container_then c offset inner later)) (container_end inner) (goes_on c (front_list later)) ≡ span_of c inner later
+span_is (Item i) offset inner later = refl
+span_is c offset inner later = refl
 
-pub span_known : (c : Container) (content : Content) (level : Level) (inner later : Nodes) → content ≡ content_of inner → level ≡ level_of later
+pub span_known : (c : Container) (content : ContainerContent) (level : Level) (inner later : Nodes) → content ≡ content_of inner → level ≡ level_of later
     → (list : Option ItemList) → list ≡ front_list (container_then c 0 inner later) → (more : Bool) → more ≡ goes_on c level.list
     → span_with list content.to more ≡ span_of c inner later
 span_known c content level inner later same same_later list is_list more is_more =

@@ -100,12 +100,12 @@ plain_stand elements outer ((end closer, range) ∷ later) rest (tag, inner, are
     (tag, inner ++ outer, ap (λ e. e ++ outer) are, closes, plain_stand inner outer later rest balanced plain gives)
 plain_stand elements outer ((event, range) ∷ later) rest balanced plain gives = plain_stand elements outer later rest balanced plain gives
 
-module _ (before : ℕ) (places : List ℕ) where
+module _ (before : ℕ) (offsets : List ℕ) where
   started : Started → Started
-  started element = (element.0, page_range before places element.1)
+  started element = (element.0, page_range before offsets element.1)
 
   placed_balanced : (elements : List Started) (events : List RangedEvent) → AreBalancedIn elements events
-      → AreBalancedIn (map started elements) (map (placed before places) events)
+      → AreBalancedIn (map started elements) (map (placed before offsets) events)
   unfolding started
   placed_balanced elements [] none = ap (map started) none
   placed_balanced elements ((start tag, range) ∷ later) balanced = placed_balanced ((tag, range) ∷ elements) later balanced
@@ -113,7 +113,7 @@ module _ (before : ℕ) (places : List ℕ) where
       (tag, map started outer, ap (map started) are, closes, placed_balanced outer later balanced)
   placed_balanced elements ((event, range) ∷ later) balanced = placed_balanced elements later balanced
 
-  placed_plain : (events : List RangedEvent) → BeginNoTable events → BeginNoTable (map (placed before places) events)
+  placed_plain : (events : List RangedEvent) → BeginNoTable events → BeginNoTable (map (placed before offsets) events)
   placed_plain [] plain = tt
   placed_plain ((start tag, range) ∷ later) (other, plain) = (other, placed_plain later plain)
   placed_plain ((end closer, range) ∷ later) plain = placed_plain later plain
@@ -121,7 +121,7 @@ module _ (before : ℕ) (places : List ℕ) where
 
   -- the inlines of a text stand anywhere on the page
   pub inlines_stand : (source : List ℕ) (setting : EventSetting) (inlines : List RangedEvent) → AreInlineEvents source setting inlines
-      → (elements : List Started) (rest : List RangedEvent) → StandIn elements rest → StandIn elements (map (placed before places) inlines ++ rest)
+      → (elements : List Started) (rest : List RangedEvent) → StandIn elements rest → StandIn elements (map (placed before offsets) inlines ++ rest)
   inlines_stand source setting inlines are elements rest gives =
-      plain_stand [] elements (map (placed before places) inlines) rest (placed_balanced [] inlines (events_balance source setting inlines are))
+      plain_stand [] elements (map (placed before offsets) inlines) rest (placed_balanced [] inlines (events_balance source setting inlines are))
       (placed_plain inlines (inlines_begin_none source setting inlines are)) gives

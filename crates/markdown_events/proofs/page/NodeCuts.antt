@@ -1,28 +1,29 @@
 -- The ranges of the events of nodes begin and end at character boundaries of the page, where those of each leaf block do.
-use Rattle.std.proofs.Common.{ℕ, Bool, true, false, ◌==◌, ◌||◌, List, [], ◌∷◌, ◌++◌, length, Option, Some, None, ◌≡◌, ◌-◌, sym, subst, if◌then◌else◌}
+use Rattle.std.proofs.Common.{ℕ, Bool, true, false, ◌==◌, ◌||◌, List, [], ◌∷◌, ◌++◌, length, Option, Some, None, ◌≡◌, sym, subst, if◌then◌else◌}
 use Rattle.std.specs.Prelude.{⊤, IfSome}
 use Rattle.std.specs.Str.{IsUtf8, IsCharBoundary}
 use Rattle.std.proofs.lemmas.Str.{IsCharBoundary-start}
 use Rattle.markdown_values.specs.values.Tags.{item}
 use Rattle.markdown_blocks.specs.blocks.Pages.{is_blank_kind}
-use Rattle.markdown_blocks.specs.containers.Containers.{settled}
+use Rattle.markdown_blocks.specs.containers.Containers.{past_first_line}
 use Rattle.markdown_blocks.specs.declared.containers.Container.{Container}
 use Rattle.markdown_blocks.specs.declared.containers.Container.TheVariants.{Quote, Item, Footnote, TermDefinition}
 use Rattle.markdown_blocks.specs.declared.containers.ListItem.{ListItem}
 use Rattle.markdown_blocks.specs.events.Events.{LeafBlock, leaf}
-use Rattle.markdown_blocks.specs.first_blocks.Waiting.{waiting_behind}
+use Rattle.markdown_blocks.specs.first_blocks.Waiting.{waiting_next}
 use Rattle.markdown_blocks.specs.laws.Characters.{IsCutOut}
 use Rattle.markdown_blocks.specs.lists.Lists.{Nodes, nothing, leaf_then, container_then}
 use Rattle.markdown_events.specs.EventLaws.{AreAtBoundaries}
 use Rattle.markdown_events.specs.InlineEvents.{EventSetting, RangedEvent}
 use Rattle.markdown_events.specs.declared.elements.Element.{Element}
 use Rattle.markdown_events.specs.declared.page.levels.ItemList.{ItemList}
+use Rattle.markdown_events.specs.declared.page.reading.Room.{Room}
 use Rattle.markdown_events.specs.page.LeafEvents.{Place}
 use Rattle.markdown_events.specs.page.PageEvents.{AreNodeEvents, OpenList, after_block, container_tag, element_of, ending, inside, list_after, list_end}
 use Rattle.markdown_events.specs.page.PageEvents.{list_in, list_start, starting}
-use Rattle.markdown_events.specs.page.Spans.{block_end, container_end, first_place, front_list, is_parted}
+use Rattle.markdown_events.specs.page.Spans.{block_end, container_end, first_offset, front_list, is_parted}
 use Rattle.markdown_events.specs.page.Spans.{is_set_off, last_end, list_alone, list_with, span_of}
-use Rattle.markdown_events.specs.page.References.{added}
+use Rattle.markdown_events.specs.page.References.{room_after}
 use Rattle.markdown_events.specs.page.TaskEvents.{AreBlockEvents}
 use Rattle.markdown_events.proofs.inline_events.Boundaries.{both_at}
 use Rattle.markdown_events.proofs.page.RoomLemmas.{in_room}
@@ -44,37 +45,37 @@ module _ (page : List ℕ) (setting : EventSetting) where
   abbrev pub NodesAt : List Container → ℕ → Option Container → Nodes → Type 0
   NodesAt outer kept waiting nothing = ⊤
   NodesAt outer kept waiting (leaf_then block later) =
-      IsCutOut page block × LeafAt outer kept waiting block × NodesAt outer (length outer) (waiting_behind waiting (leaf block)) later
-  NodesAt outer kept waiting (container_then container place inner later) =
-      Cut place × NodesAt (outer ++ settled container ∷ []) kept (Some container) inner × NodesAt outer (length outer) None later
+      IsCutOut page block × LeafAt outer kept waiting block × NodesAt outer (length outer) (waiting_next waiting (leaf block)) later
+  NodesAt outer kept waiting (container_then container offset inner later) =
+      Cut offset × NodesAt (outer ++ past_first_line container ∷ []) kept (Some container) inner × NodesAt outer (length outer) None later
 
   module _ (utf8 : IsUtf8 page) where
     -- ---- where nodes begin and end
 
     first_cut : (nodes : Nodes) (outer : List Container) (kept : ℕ) (waiting : Option Container) → NodesAt outer kept waiting nodes
-        → Cut (first_place nodes)
+        → Cut (first_offset nodes)
     first_cut nothing outer kept waiting at = IsCharBoundary-start page utf8
-    first_cut (leaf_then block later) outer kept waiting at = at.0.place
-    first_cut (container_then container place inner later) outer kept waiting at = at.0
+    first_cut (leaf_then block later) outer kept waiting at = at.0.offset
+    first_cut (container_then container offset inner later) outer kept waiting at = at.0
 
     last_cut : (nodes : Nodes) (outer : List Container) (kept : ℕ) (waiting : Option Container) (from : ℕ) → NodesAt outer kept waiting nodes
         → Cut from → Cut (last_end from nodes)
     last_cut nothing outer kept waiting from at cut = cut
     last_cut (leaf_then block later) outer kept waiting from at cut =
-        last_cut later outer (length outer) (waiting_behind waiting (leaf block)) (if is_blank_kind block.kind then from else block_end block) at.2
+        last_cut later outer (length outer) (waiting_next waiting (leaf block)) (if is_blank_kind block.kind then from else block_end block) at.2
         (by (is_blank_kind block.kind))
       where
         by : (k : Bool) → Cut (if k then from else block_end block)
         by true = cut
         by false = at.0.ends
-    last_cut (container_then container place inner later) outer kept waiting from at cut =
-        last_cut later outer (length outer) None (last_end (first_place inner) inner) at.2
-        (last_cut inner (outer ++ settled container ∷ []) kept (Some container) (first_place inner) at.1
-        (first_cut inner (outer ++ settled container ∷ []) kept (Some container) at.1))
+    last_cut (container_then container offset inner later) outer kept waiting from at cut =
+        last_cut later outer (length outer) None (last_end (first_offset inner) inner) at.2
+        (last_cut inner (outer ++ past_first_line container ∷ []) kept (Some container) (first_offset inner) at.1
+        (first_cut inner (outer ++ past_first_line container ∷ []) kept (Some container) at.1))
 
     end_cut : (inner : Nodes) (outer : List Container) (kept : ℕ) (waiting : Option Container) → NodesAt outer kept waiting inner
         → Cut (container_end inner)
-    end_cut inner outer kept waiting at = last_cut inner outer kept waiting (first_place inner) at (first_cut inner outer kept waiting at)
+    end_cut inner outer kept waiting at = last_cut inner outer kept waiting (first_offset inner) at (first_cut inner outer kept waiting at)
 
     -- ---- lists
 
@@ -95,17 +96,17 @@ module _ (page : List ℕ) (setting : EventSetting) where
         → ListCut (front_list nodes)
     front_cut nothing outer kept waiting at = tt
     front_cut (leaf_then block later) outer kept waiting at =
-        by (is_blank_kind block.kind) (front_cut later outer (length outer) (waiting_behind waiting (leaf block)) at.2)
+        by (is_blank_kind block.kind) (front_cut later outer (length outer) (waiting_next waiting (leaf block)) at.2)
       where
         by : (k : Bool) → ListCut (front_list later) → ListCut (if k then front_list later else None)
         by true cut = cut
         by false cut = tt
-    front_cut (container_then (Item one) place inner later) outer kept waiting at =
+    front_cut (container_then (Item one) offset inner later) outer kept waiting at =
         with_cut one inner (is_set_off one inner later) (front_list later)
-        (end_cut inner (outer ++ settled (Item one) ∷ []) kept (Some (Item one)) at.1) (front_cut later outer (length outer) None at.2)
-    front_cut (container_then Quote place inner later) outer kept waiting at = tt
-    front_cut (container_then Footnote place inner later) outer kept waiting at = tt
-    front_cut (container_then (TermDefinition one) place inner later) outer kept waiting at = tt
+        (end_cut inner (outer ++ past_first_line (Item one) ∷ []) kept (Some (Item one)) at.1) (front_cut later outer (length outer) None at.2)
+    front_cut (container_then Quote offset inner later) outer kept waiting at = tt
+    front_cut (container_then Footnote offset inner later) outer kept waiting at = tt
+    front_cut (container_then (TermDefinition one) offset inner later) outer kept waiting at = tt
 
     -- ---- events
 
@@ -117,23 +118,23 @@ module _ (page : List ℕ) (setting : EventSetting) where
     ending_at element cut = (cut, tt)
 
     abbrev pub NodeEventsAt : Nodes → Type 0
-    NodeEventsAt nodes = (room : ℕ) (here : Place) (waiting : Option Container) (current : Option OpenList) (events : List RangedEvent)
+    NodeEventsAt nodes = (room : Room) (here : Place) (waiting : Option Container) (current : Option OpenList) (events : List RangedEvent)
         → NodesAt here.containers here.kept waiting nodes → OpenCut current → AreNodeEvents page setting room here waiting current nodes events → AreAt events
 
     -- an item, in the list that is open or that begins with it
-    item_at : (one : ListItem) (place : ℕ) (inner later : Nodes) → NodeEventsAt inner → NodeEventsAt later → (room : ℕ) (here : Place) (waiting : Option Container)
+    item_at : (one : ListItem) (offset : ℕ) (inner later : Nodes) → NodeEventsAt inner → NodeEventsAt later → (room : Room) (here : Place) (waiting : Option Container)
         → (now : OpenList) (events front held rest : List RangedEvent)
-        → NodesAt here.containers here.kept waiting (container_then (Item one) place inner later) → Cut now.element.from × Cut now.element.to
+        → NodesAt here.containers here.kept waiting (container_then (Item one) offset inner later) → Cut now.element.from × Cut now.element.to
         → AreAt front → AreNodeEvents page setting room (inside (Item one) now.is_tight here) (Some (Item one)) None inner held
-        → AreNodeEvents page setting (room - added held) (after_block here) None (list_after (span_of (Item one) inner later).is_last now) later rest
-        → events ≡ front ++ starting item place (container_end inner) ++ held ++ ending (element_of item place (container_end inner))
+        → AreNodeEvents page setting (room_after room held) (after_block here) None (list_after (span_of (Item one) inner later).is_last now) later rest
+        → events ≡ front ++ starting item offset (container_end inner) ++ held ++ ending (element_of item offset (container_end inner))
         ++ list_end (span_of (Item one) inner later).is_last now ++ rest → AreAt events
-    item_at one place inner later inner_at later_at room here waiting now events front held rest at listed front_at are_held are_rest is =
+    item_at one offset inner later inner_at later_at room here waiting now events front held rest at listed front_at are_held are_rest is =
         let last = (span_of (Item one) inner later).is_last in
         let end = container_end inner in
-        let to = end_cut inner (here.containers ++ settled (Item one) ∷ []) here.kept (Some (Item one)) at.1 in
-        let begins = starting item place end in
-        let ends = ending (element_of item place end) in
+        let to = end_cut inner (here.containers ++ past_first_line (Item one) ∷ []) here.kept (Some (Item one)) at.1 in
+        let begins = starting item offset end in
+        let ends = ending (element_of item offset end) in
         let first = both_at page front begins front_at ((at.0, to), tt) in
         let second = both_at page (front ++ begins) held first
         (inner_at room (inside (Item one) now.is_tight here) (Some (Item one)) None held at.1 tt are_held) in
@@ -141,7 +142,7 @@ module _ (page : List ℕ) (setting : EventSetting) where
         let with_list = both_at page (front ++ begins ++ held ++ ends) (list_end last now) whole (ended last) in
         subst AreAt (sym is)
         (both_at page (front ++ begins ++ held ++ ends ++ list_end last now) rest with_list
-        (later_at (room - added held) (after_block here) None (list_after last now) rest at.2 (after last) are_rest))
+        (later_at (room_after room held) (after_block here) None (list_after last now) rest at.2 (after last) are_rest))
       where
         ended : (last : Bool) → AreAt (list_end last now)
         ended true = (listed, tt)
@@ -152,40 +153,40 @@ module _ (page : List ℕ) (setting : EventSetting) where
         after false = listed
 
     -- another container
-    other_at : (container : Container) (place : ℕ) (inner later : Nodes) → NodeEventsAt inner → NodeEventsAt later → (room : ℕ) (here : Place)
+    other_at : (container : Container) (offset : ℕ) (inner later : Nodes) → NodeEventsAt inner → NodeEventsAt later → (room : Room) (here : Place)
         → (waiting : Option Container) (events held rest : List RangedEvent)
-        → NodesAt here.containers here.kept waiting (container_then container place inner later)
+        → NodesAt here.containers here.kept waiting (container_then container offset inner later)
         → AreNodeEvents page setting room (inside container false here) (Some container) None inner held
-        → AreNodeEvents page setting (room - added held) (after_block here) None None later rest
-        → events ≡ starting (container_tag container) place (container_end inner) ++ held
-        ++ ending (element_of (container_tag container) place (container_end inner)) ++ rest → AreAt events
-    other_at container place inner later inner_at later_at room here waiting events held rest at are_held are_rest is =
-        let to = end_cut inner (here.containers ++ settled container ∷ []) here.kept (Some container) at.1 in
-        let begins = starting (container_tag container) place (container_end inner) in
-        let ends = ending (element_of (container_tag container) place (container_end inner)) in
+        → AreNodeEvents page setting (room_after room held) (after_block here) None None later rest
+        → events ≡ starting (container_tag container) offset (container_end inner) ++ held
+        ++ ending (element_of (container_tag container) offset (container_end inner)) ++ rest → AreAt events
+    other_at container offset inner later inner_at later_at room here waiting events held rest at are_held are_rest is =
+        let to = end_cut inner (here.containers ++ past_first_line container ∷ []) here.kept (Some container) at.1 in
+        let begins = starting (container_tag container) offset (container_end inner) in
+        let ends = ending (element_of (container_tag container) offset (container_end inner)) in
         let first = both_at page begins held ((at.0, to), tt) (inner_at room (inside container false here) (Some container) None held at.1 tt are_held) in
         let whole = both_at page (begins ++ held) ends first ((at.0, to), tt) in
         subst AreAt (sym is)
-        (both_at page (begins ++ held ++ ends) rest whole (later_at (room - added held) (after_block here) None None rest at.2 tt are_rest))
+        (both_at page (begins ++ held ++ ends) rest whole (later_at (room_after room held) (after_block here) None None rest at.2 tt are_rest))
 
     pub nodes_at : (nodes : Nodes) → NodeEventsAt nodes
     nodes_at nothing room here waiting current events at listed is = subst AreAt (sym is) tt
     nodes_at (leaf_then block later) room here waiting current events at listed (own, rest, are, are_rest, is) =
         subst AreAt (sym is)
         (both_at page own rest (in_room page setting room here waiting block own (λ s block_are. at.1 s here.is_tight own block_are) are)
-        (nodes_at later (room - added own) (after_block here) (waiting_behind waiting (leaf block)) current rest at.2 listed are_rest))
-    nodes_at (container_then (Item one) place inner later) room here waiting None events at listed (held, rest, are_held, are_rest, is) =
+        (nodes_at later (room_after room own) (after_block here) (waiting_next waiting (leaf block)) current rest at.2 listed are_rest))
+    nodes_at (container_then (Item one) offset inner later) room here waiting None events at listed (held, rest, are_held, are_rest, is) =
         let span = span_of (Item one) inner later in
         let to = with_cut one inner (is_set_off one inner later) (front_list later)
-        (end_cut inner (here.containers ++ settled (Item one) ∷ []) here.kept (Some (Item one)) at.1)
+        (end_cut inner (here.containers ++ past_first_line (Item one) ∷ []) here.kept (Some (Item one)) at.1)
         (front_cut later here.containers (length here.containers) None at.2) in
-        item_at one place inner later (nodes_at inner) (nodes_at later) room here waiting (list_in None one place span) events
-        (list_start None one place span) held rest at (at.0, to) ((at.0, to), tt) are_held are_rest is
-    nodes_at (container_then (Item one) place inner later) room here waiting (Some list) events at listed (held, rest, are_held, are_rest, is) =
-        item_at one place inner later (nodes_at inner) (nodes_at later) room here waiting list events [] held rest at listed tt are_held are_rest is
-    nodes_at (container_then Quote place inner later) room here waiting current events at listed (held, rest, are_held, are_rest, is) =
-        other_at Quote place inner later (nodes_at inner) (nodes_at later) room here waiting events held rest at are_held are_rest is
-    nodes_at (container_then Footnote place inner later) room here waiting current events at listed (held, rest, are_held, are_rest, is) =
-        other_at Footnote place inner later (nodes_at inner) (nodes_at later) room here waiting events held rest at are_held are_rest is
-    nodes_at (container_then (TermDefinition one) place inner later) room here waiting current events at listed (held, rest, are_held, are_rest, is) =
-        other_at (TermDefinition one) place inner later (nodes_at inner) (nodes_at later) room here waiting events held rest at are_held are_rest is
+        item_at one offset inner later (nodes_at inner) (nodes_at later) room here waiting (list_in None one offset span) events
+        (list_start None one offset span) held rest at (at.0, to) ((at.0, to), tt) are_held are_rest is
+    nodes_at (container_then (Item one) offset inner later) room here waiting (Some list) events at listed (held, rest, are_held, are_rest, is) =
+        item_at one offset inner later (nodes_at inner) (nodes_at later) room here waiting list events [] held rest at listed tt are_held are_rest is
+    nodes_at (container_then Quote offset inner later) room here waiting current events at listed (held, rest, are_held, are_rest, is) =
+        other_at Quote offset inner later (nodes_at inner) (nodes_at later) room here waiting events held rest at are_held are_rest is
+    nodes_at (container_then Footnote offset inner later) room here waiting current events at listed (held, rest, are_held, are_rest, is) =
+        other_at Footnote offset inner later (nodes_at inner) (nodes_at later) room here waiting events held rest at are_held are_rest is
+    nodes_at (container_then (TermDefinition one) offset inner later) room here waiting current events at listed (held, rest, are_held, are_rest, is) =
+        other_at (TermDefinition one) offset inner later (nodes_at inner) (nodes_at later) room here waiting events held rest at are_held are_rest is

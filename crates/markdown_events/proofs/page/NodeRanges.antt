@@ -1,5 +1,5 @@
 -- The ranges of the events of nodes rise, and lie within those of the elements that hold them, where the nodes stand in order.
-use Rattle.std.proofs.Common.{ℕ, suc, ◌≤◌, Bool, true, false, not, List, [], ◌∷◌, ◌++◌, length, Option, Some, None, ◌≡◌, ◌-◌, refl, sym, ap}
+use Rattle.std.proofs.Common.{ℕ, suc, ◌≤◌, Bool, true, false, not, List, [], ◌∷◌, ◌++◌, length, Option, Some, None, ◌≡◌, refl, sym, ap}
 use Rattle.std.proofs.Common.{subst, ◌∙◌, append_assoc, append-nil, arith, if◌then◌else◌}
 use Rattle.std.specs.Prelude.{⊤}
 use Rattle.markdown_values.specs.values.Events.{start, end}
@@ -10,25 +10,26 @@ use Rattle.markdown_blocks.specs.declared.blocks.BlockKind.TheVariants.{Blank, B
 use Rattle.markdown_blocks.specs.declared.containers.Container.{Container}
 use Rattle.markdown_blocks.specs.declared.containers.Container.TheVariants.{Quote, Item, Footnote, TermDefinition}
 use Rattle.markdown_blocks.specs.declared.containers.ListItem.{ListItem}
-use Rattle.markdown_blocks.specs.containers.Containers.{settled}
+use Rattle.markdown_blocks.specs.containers.Containers.{past_first_line}
 use Rattle.markdown_blocks.specs.declared.first_blocks.Task.{Task}
 use Rattle.markdown_blocks.specs.events.Events.{LeafBlock, leaf}
 use Rattle.markdown_blocks.specs.first_blocks.Tasks.{task_in}
-use Rattle.markdown_blocks.specs.first_blocks.Waiting.{waiting_behind}
+use Rattle.markdown_blocks.specs.first_blocks.Waiting.{waiting_next}
 use Rattle.markdown_blocks.specs.laws.Order.{passed_after}
 use Rattle.markdown_blocks.specs.lists.Lists.{Nodes, nothing, leaf_then, container_then}
 use Rattle.markdown_events.specs.EventLaws.{AreWithin, RiseIn}
 use Rattle.markdown_events.specs.InlineEvents.{EventSetting, RangedEvent, ranged}
 use Rattle.markdown_events.specs.TagEnds.{tag_end}
 use Rattle.markdown_events.specs.declared.page.levels.ItemList.{ItemList}
+use Rattle.markdown_events.specs.declared.page.reading.Room.{Room}
 use Rattle.markdown_events.specs.page.LeafEvents.{AreLeafEventsOf, Place}
-use Rattle.markdown_events.specs.page.References.{added}
+use Rattle.markdown_events.specs.page.References.{room_after}
 use Rattle.markdown_events.specs.page.TaskEvents.{AreBlockEvents, AreEventsWith, task_here}
 use Rattle.markdown_events.proofs.page.RoomLemmas.{in_room}
 use Rattle.markdown_events.specs.page.PageEvents.{AreNodeEvents, OpenList, after_block, container_tag, inside, list_after, list_end, list_in, list_tag}
 use Rattle.markdown_events.specs.page.PageEvents.{outermost}
 use Rattle.markdown_events.specs.page.Places.{element}
-use Rattle.markdown_events.specs.page.Spans.{block_end, container_end, first_place, front_list, is_alike, is_set_off, last_end, list_with, span_of}
+use Rattle.markdown_events.specs.page.Spans.{block_end, container_end, first_offset, front_list, is_alike, is_set_off, last_end, list_with, span_of}
 use Rattle.markdown_events.proofs.inline_events.Rise.{rise_from}
 use Rattle.markdown_events.proofs.page.OnePage.{OtherEvents}
 use Rattle.markdown_events.proofs.page.PageBalance.{reassociated}
@@ -36,15 +37,15 @@ use Rattle.markdown_events.proofs.page.PageBalance.{reassociated}
 -- ---- elements
 
 -- an element that holds what rises up to its end
-pub element_rises : (tag : TagView (List ℕ)) (place to from limit : ℕ) (ends : List ℕ) (inner rest : List RangedEvent) → from ≤ place
-    → place ≤ to → to ≤ limit
-    → ((more : List RangedEvent) → RiseIn (to ∷ limit ∷ ends) to more → RiseIn (to ∷ limit ∷ ends) place (inner ++ more))
-    → RiseIn (limit ∷ ends) to rest → RiseIn (limit ∷ ends) from (element tag place to inner ++ rest)
-element_rises tag place to from limit ends inner rest begins in_order within rises gives =
-    let last = ranged (end (tag_end tag)) place to in
+pub element_rises : (tag : TagView (List ℕ)) (offset to from limit : ℕ) (ends : List ℕ) (inner rest : List RangedEvent) → from ≤ offset
+    → offset ≤ to → to ≤ limit
+    → ((more : List RangedEvent) → RiseIn (to ∷ limit ∷ ends) to more → RiseIn (to ∷ limit ∷ ends) offset (inner ++ more))
+    → RiseIn (limit ∷ ends) to rest → RiseIn (limit ∷ ends) from (element tag offset to inner ++ rest)
+element_rises tag offset to from limit ends inner rest begins in_order within rises gives =
+    let last = ranged (end (tag_end tag)) offset to in
     let closed : RiseIn (to ∷ limit ∷ ends) to (last ∷ rest) = (omega arith, refl, gives) in (
       record { begins = begins; in_order = in_order; ends = within },
-      subst (RiseIn (to ∷ limit ∷ ends) place) (sym (append_assoc inner (last ∷ []) rest)) (rises (last ∷ rest) closed),
+      subst (RiseIn (to ∷ limit ∷ ends) offset) (sym (append_assoc inner (last ∷ []) rest)) (rises (last ∷ rest) closed),
     )
 
 -- ---- where nodes stand
@@ -52,8 +53,8 @@ element_rises tag place to from limit ends inner rest begins in_order within ris
 -- where the first of nodes stands, if any follows what has passed
 abbrev first_or : ℕ → Nodes → ℕ
 first_or passed nothing = passed
-first_or passed (leaf_then block later) = block.place
-first_or passed (container_then container place inner later) = place
+first_or passed (leaf_then block later) = block.offset
+first_or passed (container_then container offset inner later) = offset
 
 abbrev pub AreSome : Nodes → Type 0
 AreSome nothing = ⊥
@@ -73,21 +74,21 @@ module _ (page : List ℕ) (setting : EventSetting) where
   abbrev pub Stand : List Container → ℕ → ℕ → Nodes → Type 0
   Stand outer kept passed nothing = ⊤
   Stand outer kept passed (leaf_then block later) =
-      (passed ≤ block.place) × (block.place ≤ block_end block) × LeafRises passed outer kept block
+      (passed ≤ block.offset) × (block.offset ≤ block_end block) × LeafRises passed outer kept block
       × Stand outer (length outer) (block_end block) later
-  Stand outer kept passed (container_then container place inner later) =
-      (passed ≤ place) × AreSome inner × Stand (outer ++ settled container ∷ []) kept (suc place) inner
-      × Stand outer (length outer) (passed_after (suc place) inner) later
+  Stand outer kept passed (container_then container offset inner later) =
+      (passed ≤ offset) × AreSome inner × Stand (outer ++ past_first_line container ∷ []) kept (suc offset) inner
+      × Stand outer (length outer) (passed_after (suc offset) inner) later
 
   first_later : (outer : List Container) (kept passed : ℕ) (nodes : Nodes) → Stand outer kept passed nodes → passed ≤ first_or passed nodes
   first_later outer kept passed nothing stand = omega arith
   first_later outer kept passed (leaf_then block later) stand = stand.0
-  first_later outer kept passed (container_then container place inner later) stand = stand.0
+  first_later outer kept passed (container_then container offset inner later) stand = stand.0
 
-  first_is : (passed : ℕ) (nodes : Nodes) → AreSome nodes → first_place nodes ≡ first_or passed nodes
+  first_is : (passed : ℕ) (nodes : Nodes) → AreSome nodes → first_offset nodes ≡ first_or passed nodes
   first_is passed nothing some = absurd some
   first_is passed (leaf_then block later) some = refl
-  first_is passed (container_then container place inner later) some = refl
+  first_is passed (container_then container offset inner later) some = refl
 
   end_grows : (nodes : Nodes) (from to : ℕ) → from ≤ to → last_end from nodes ≤ last_end to nodes
   end_grows nothing from to less = less
@@ -97,7 +98,7 @@ module _ (page : List ℕ) (setting : EventSetting) where
           → last_end (if k then from else block_end block) later ≤ last_end (if k then to else block_end block) later
       by_kind true rest = rest
       by_kind false rest = omega arith
-  end_grows (container_then container place inner later) from to less = omega arith
+  end_grows (container_then container offset inner later) from to less = omega arith
 
   -- the last of their ends that is not of a blank line stands between what has passed before them and what has after them
   ends_between : (nodes : Nodes) (outer : List Container) (kept passed from : ℕ) → Stand outer kept passed nodes → from ≤ first_or passed nodes
@@ -117,22 +118,22 @@ module _ (page : List ℕ) (setting : EventSetting) where
       by_kind false rest =
           let there = rest (block_end block) first in
           (omega (arith, before, stand.1, there.0), there.1)
-  ends_between (container_then container place inner later) outer kept passed from stand before =
-      let first = first_later (outer ++ settled container ∷ []) kept (suc place) inner stand.2 in
-      let is = first_is (suc place) inner stand.1 in
-      let held = ends_between inner (outer ++ settled container ∷ []) kept (suc place) (first_place inner) stand.2 (omega (arith, is)) in
-      let after = first_later outer (length outer) (passed_after (suc place) inner) later stand.3 in
-      let there = ends_between later outer (length outer) (passed_after (suc place) inner) (container_end inner) stand.3
+  ends_between (container_then container offset inner later) outer kept passed from stand before =
+      let first = first_later (outer ++ past_first_line container ∷ []) kept (suc offset) inner stand.2 in
+      let is = first_is (suc offset) inner stand.1 in
+      let held = ends_between inner (outer ++ past_first_line container ∷ []) kept (suc offset) (first_offset inner) stand.2 (omega (arith, is)) in
+      let after = first_later outer (length outer) (passed_after (suc offset) inner) later stand.3 in
+      let there = ends_between later outer (length outer) (passed_after (suc offset) inner) (container_end inner) stand.3
       (omega (arith, held.1, after)) in
       (omega (arith, before, first, is, held.0, there.0), there.1)
 
   -- a container ends between its marker and what follows it
-  held_between : (outer : List Container) (kept place : ℕ) (inner : Nodes) → AreSome inner → Stand outer kept (suc place) inner
-      → (suc place ≤ first_place inner) × (first_place inner ≤ container_end inner) × (container_end inner ≤ passed_after (suc place) inner)
-  held_between outer kept place inner some stand =
-      let first = first_later outer kept (suc place) inner stand in
-      let is = first_is (suc place) inner some in
-      let held = ends_between inner outer kept (suc place) (first_place inner) stand (omega (arith, is)) in
+  held_between : (outer : List Container) (kept offset : ℕ) (inner : Nodes) → AreSome inner → Stand outer kept (suc offset) inner
+      → (suc offset ≤ first_offset inner) × (first_offset inner ≤ container_end inner) × (container_end inner ≤ passed_after (suc offset) inner)
+  held_between outer kept offset inner some stand =
+      let first = first_later outer kept (suc offset) inner stand in
+      let is = first_is (suc offset) inner some in
+      let held = ends_between inner outer kept (suc offset) (first_offset inner) stand (omega (arith, is)) in
       (omega (arith, first, is), held.0, held.1)
 
   -- ---- lists
@@ -161,21 +162,21 @@ module _ (page : List ℕ) (setting : EventSetting) where
           → (passed ≤ list.to) × (list.to ≤ last_end (if k then from else block_end block) later)
       by_kind true rest there = let more = rest there in (omega (arith, stand.0, stand.1, more.0), more.1)
       by_kind false rest there = absurd (cc)
-  list_between (container_then (Item one) place inner later) outer kept passed from stand before list is =
-      let held = held_between (outer ++ settled (Item one) ∷ []) kept place inner stand.1 stand.2 in
-      let after = first_later outer (length outer) (passed_after (suc place) inner) later stand.3 in
-      let there = ends_between later outer (length outer) (passed_after (suc place) inner) (container_end inner) stand.3
+  list_between (container_then (Item one) offset inner later) outer kept passed from stand before list is =
+      let held = held_between (outer ++ past_first_line (Item one) ∷ []) kept offset inner stand.1 stand.2 in
+      let after = first_later outer (length outer) (passed_after (suc offset) inner) later stand.3 in
+      let there = ends_between later outer (length outer) (passed_after (suc offset) inner) (container_end inner) stand.3
       (omega (arith, held.2, after)) in
       let same : list_with one inner (is_set_off one inner later) (front_list later) ≡ list = cc in
       subst (λ (l : ItemList). (passed ≤ l.to) × (l.to ≤ last_end (container_end inner) later)) same
       (by_case held there.0
-      (λ on on_is. list_between later outer (length outer) (passed_after (suc place) inner) (container_end inner) stand.3
+      (λ on on_is. list_between later outer (length outer) (passed_after (suc offset) inner) (container_end inner) stand.3
       (omega (arith, held.2, after)) on on_is)
       (is_alike one (front_list later)) refl)
     where
-      by_case : (suc place ≤ first_place inner) × (first_place inner ≤ container_end inner) × (container_end inner ≤ passed_after (suc place) inner)
+      by_case : (suc offset ≤ first_offset inner) × (first_offset inner ≤ container_end inner) × (container_end inner ≤ passed_after (suc offset) inner)
           → container_end inner ≤ last_end (container_end inner) later
-          → ((on : ItemList) → front_list later ≡ Some on → (passed_after (suc place) inner ≤ on.to) × (on.to ≤ last_end (container_end inner) later))
+          → ((on : ItemList) → front_list later ≡ Some on → (passed_after (suc offset) inner ≤ on.to) × (on.to ≤ last_end (container_end inner) later))
           → (alike : Bool) → is_alike one (front_list later) ≡ alike
           → (passed ≤ (list_with one inner (is_set_off one inner later) (front_list later)).to)
           × ((list_with one inner (is_set_off one inner later) (front_list later)).to ≤ last_end (container_end inner) later)
@@ -186,24 +187,24 @@ module _ (page : List ℕ) (setting : EventSetting) where
           let on = goes_to one inner (is_set_off one inner later) (front_list later) alike in
           let rest = goes on.0 on.1 in
           (omega (arith, stand.0, held.0, held.1, held.2, rest.0, on.2), omega (arith, rest.1, on.2))
-  list_between (container_then Quote place inner later) outer kept passed from stand before list is = absurd (cc)
-  list_between (container_then Footnote place inner later) outer kept passed from stand before list is = absurd (cc)
-  list_between (container_then (TermDefinition one) place inner later) outer kept passed from stand before list is = absurd (cc)
+  list_between (container_then Quote offset inner later) outer kept passed from stand before list is = absurd (cc)
+  list_between (container_then Footnote offset inner later) outer kept passed from stand before list is = absurd (cc)
+  list_between (container_then (TermDefinition one) offset inner later) outer kept passed from stand before list is = absurd (cc)
 
   -- an item ends within its list
-  item_fits : (one : ListItem) (place : ℕ) (inner later : Nodes) (outer : List Container) (kept passed : ℕ)
-      → Stand outer kept passed (container_then (Item one) place inner later)
+  item_fits : (one : ListItem) (offset : ℕ) (inner later : Nodes) (outer : List Container) (kept passed : ℕ)
+      → Stand outer kept passed (container_then (Item one) offset inner later)
       → container_end inner ≤ (list_with one inner (is_set_off one inner later) (front_list later)).to
-  item_fits one place inner later outer kept passed stand = by (is_alike one (front_list later)) refl
+  item_fits one offset inner later outer kept passed stand = by (is_alike one (front_list later)) refl
     where
       by : (alike : Bool) → is_alike one (front_list later) ≡ alike
           → container_end inner ≤ (list_with one inner (is_set_off one inner later) (front_list later)).to
       by false alike = omega (arith, last_to one inner (is_set_off one inner later) (front_list later) alike)
       by true alike =
           let on = goes_to one inner (is_set_off one inner later) (front_list later) alike in
-          let between = held_between (outer ++ settled (Item one) ∷ []) kept place inner stand.1 stand.2 in
-          let follows = first_later outer (length outer) (passed_after (suc place) inner) later stand.3 in
-          let there = list_between later outer (length outer) (passed_after (suc place) inner) (container_end inner) stand.3
+          let between = held_between (outer ++ past_first_line (Item one) ∷ []) kept offset inner stand.1 stand.2 in
+          let follows = first_later outer (length outer) (passed_after (suc offset) inner) later stand.3 in
+          let there = list_between later outer (length outer) (passed_after (suc offset) inner) (container_end inner) stand.3
           (omega (arith, between, follows)) on.0 on.1 in
           omega (arith, between, there.0, on.2)
 
@@ -260,7 +261,8 @@ module _ (page : List ℕ) (setting : EventSetting) where
 
   -- what rises after the last of the nodes rises after their events
   abbrev Rises : Nodes → Type 0
-  Rises nodes = (room : ℕ) (here : Place) (waiting : Option Container) (current : Option OpenList) (passed from to : ℕ) (ends outer : List ℕ) (events more : List RangedEvent)
+  Rises nodes = (room : Room) (here : Place) (waiting : Option Container) (current : Option OpenList) (passed from to : ℕ) (ends outer : List ℕ)
+      (events more : List RangedEvent)
       → Stand here.containers here.kept passed nodes → from ≤ passed → last_end from nodes ≤ to → AreOpenTo current nodes ends (to ∷ outer)
       → AreNodeEvents page setting room here waiting current nodes events → RiseIn (to ∷ outer) (last_end from nodes) more
       → RiseIn ends from (events ++ more)
@@ -275,12 +277,14 @@ module _ (page : List ℕ) (setting : EventSetting) where
       first = first_later here.containers (length here.containers) (block_end block) later stand.3
 
       by_kind : (k : Bool) → is_blank_kind block.kind ≡ k → (current : Option OpenList) → last_end (if k then from else block_end block) later ≤ to
-          → AreOpenTo current (leaf_then block later) ends (to ∷ outer) → AreNodeEvents page setting (room - added own) (after_block here) (waiting_behind waiting (leaf block)) current later rest
+          → AreOpenTo current (leaf_then block later) ends (to ∷ outer)
+          → AreNodeEvents page setting (room_after room own) (after_block here) (waiting_next waiting (leaf block)) current later rest
           → RiseIn (to ∷ outer) (last_end (if k then from else block_end block) later) more → RiseIn ends from (own ++ (rest ++ more))
       by_kind true blank current within are_open are_rest gives =
           let none = in_room page setting room here waiting block own (λ s are. blank_block s block here waiting own blank are) are_own in
           subst (λ (es : List RangedEvent). RiseIn ends from (es ++ (rest ++ more))) (sym none)
-          (rises (room - added own) (after_block here) (waiting_behind waiting (leaf block)) current (block_end block) from to ends outer rest more stand.3 (omega (arith, low, stand.0, stand.1)) within
+          (rises (room_after room own) (after_block here) (waiting_next waiting (leaf block)) current (block_end block) from to ends outer rest more
+          stand.3 (omega (arith, low, stand.0, stand.1)) within
           (open_later current are_open) are_rest gives)
         where
           open_later : (current : Option OpenList) → AreOpenTo current (leaf_then block later) ends (to ∷ outer)
@@ -293,78 +297,83 @@ module _ (page : List ℕ) (setting : EventSetting) where
           subst (λ (e : List ℕ). RiseIn e from (own ++ (rest ++ more))) (sym are_open)
           (in_room page setting room here waiting block own
           (λ s are. stand.2 s here.is_tight waiting own are from to outer (rest ++ more) low (omega (arith, there.0, within))
-          (rises (room - added own) (after_block here) (waiting_behind waiting (leaf block)) None (block_end block) (block_end block) to (to ∷ outer) outer rest more stand.3 (omega arith) within refl are_rest gives)) are_own)
+          (rises (room_after room own) (after_block here) (waiting_next waiting (leaf block)) None (block_end block) (block_end block) to (to ∷ outer) outer
+          rest more stand.3 (omega arith) within refl are_rest gives)) are_own)
       by_kind false some (Some list) within (found, is, to_is, are) are_rest gives =
           let test = ap (λ (k : Bool). if k then front_list later else None) some in
           let none : ◌≡◌ {A = Option ItemList} None (Some found) = sym test ∙ is in
           absurd (cc)
 
   -- an item of a list that is open, and what follows it
-  item_in_list : (one : ListItem) (place : ℕ) (inner later : Nodes) → Rises inner → Rises later → (room : ℕ) (here : Place) (list : OpenList) (is_tight : Bool)
+  item_in_list : (one : ListItem) (offset : ℕ) (inner later : Nodes) → Rises inner → Rises later → (room : Room) (here : Place) (list : OpenList)
+      (is_tight : Bool)
       → (passed from to : ℕ) (outer : List ℕ) (held rest more : List RangedEvent)
-      → Stand here.containers here.kept passed (container_then (Item one) place inner later) → from ≤ place → last_end (container_end inner) later ≤ to
+      → Stand here.containers here.kept passed (container_then (Item one) offset inner later) → from ≤ offset → last_end (container_end inner) later ≤ to
       → (list_with one inner (is_set_off one inner later) (front_list later)).to ≡ list.element.to → (alike : Bool)
       → is_alike one (front_list later) ≡ alike → AreNodeEvents page setting room (inside (Item one) is_tight here) (Some (Item one)) None inner held
-      → AreNodeEvents page setting (room - added held) (after_block here) None (list_after (not alike) list) later rest
+      → AreNodeEvents page setting (room_after room held) (after_block here) None (list_after (not alike) list) later rest
       → RiseIn (to ∷ outer) (last_end (container_end inner) later) more
       → RiseIn (list.element.to ∷ to ∷ outer) from
-      (element item place (container_end inner) held ++ (list_end (not alike) list ++ (rest ++ more)))
-  item_in_list one place inner later in_it after_it room here list is_tight passed from to outer held rest more stand low within list_is alike same
+      (element item offset (container_end inner) held ++ (list_end (not alike) list ++ (rest ++ more)))
+  item_in_list one offset inner later in_it after_it room here list is_tight passed from to outer held rest more stand low within list_is alike same
       are_held are_rest gives =
-      element_rises item place (container_end inner) from list.element.to (to ∷ outer) held _ low (omega (arith, between)) fits
-      (λ more closed. in_it room (inside (Item one) is_tight here) (Some (Item one)) None (suc place) place (container_end inner)
+      element_rises item offset (container_end inner) from list.element.to (to ∷ outer) held _ low (omega (arith, between)) fits
+      (λ more closed. in_it room (inside (Item one) is_tight here) (Some (Item one)) None (suc offset) offset (container_end inner)
       (container_end inner ∷ list.element.to ∷ to ∷ outer) (list.element.to ∷ to ∷ outer) held more stand.2 (omega arith) inner_ends refl are_held
-      (rise_from (container_end inner ∷ list.element.to ∷ to ∷ outer) (last_end place inner) (container_end inner) more inner_ends closed))
+      (rise_from (container_end inner ∷ list.element.to ∷ to ∷ outer) (last_end offset inner) (container_end inner) more inner_ends closed))
       (after alike same are_rest)
     where
-      between : (suc place ≤ first_place inner) × (first_place inner ≤ container_end inner) × (container_end inner ≤ passed_after (suc place) inner)
-      between = held_between (here.containers ++ settled (Item one) ∷ []) here.kept place inner stand.1 stand.2
+      between : (suc offset ≤ first_offset inner) × (first_offset inner ≤ container_end inner) × (container_end inner ≤ passed_after (suc offset) inner)
+      between = held_between (here.containers ++ past_first_line (Item one) ∷ []) here.kept offset inner stand.1 stand.2
 
-      inner_ends : last_end place inner ≤ container_end inner
-      inner_ends = end_grows inner place (first_place inner) (omega (arith, between))
+      inner_ends : last_end offset inner ≤ container_end inner
+      inner_ends = end_grows inner offset (first_offset inner) (omega (arith, between))
 
       fits : container_end inner ≤ list.element.to
-      fits = omega (arith, list_is, item_fits one place inner later here.containers here.kept passed stand)
+      fits = omega (arith, list_is, item_fits one offset inner later here.containers here.kept passed stand)
 
       after : (alike : Bool) → is_alike one (front_list later) ≡ alike
-          → AreNodeEvents page setting (room - added held) (after_block here) None (list_after (not alike) list) later rest
+          → AreNodeEvents page setting (room_after room held) (after_block here) None (list_after (not alike) list) later rest
           → RiseIn (list.element.to ∷ to ∷ outer) (container_end inner) (list_end (not alike) list ++ (rest ++ more))
       after false same are_rest =
           let at_end = sym (last_to one inner (is_set_off one inner later) (front_list later) same) ∙ list_is in (
             omega (arith, at_end),
             refl,
             subst (λ n. RiseIn (to ∷ outer) n (rest ++ more)) at_end
-                (after_it (room - added held) (after_block here) None None (passed_after (suc place) inner) (container_end inner) to (to ∷ outer) outer rest more stand.3
+                (after_it (room_after room held) (after_block here) None None (passed_after (suc offset) inner) (container_end inner) to
+                (to ∷ outer) outer rest more stand.3
                 (omega (arith, between)) within refl are_rest gives),
           )
       after true same are_rest =
           let on = goes_to one inner (is_set_off one inner later) (front_list later) same in
-          after_it (room - added held) (after_block here) None (Some list) (passed_after (suc place) inner) (container_end inner) to (list.element.to ∷ to ∷ outer) outer rest more
+          after_it (room_after room held) (after_block here) None (Some list) (passed_after (suc offset) inner) (container_end inner) to
+          (list.element.to ∷ to ∷ outer) outer rest more
           stand.3 (omega (arith, between)) within (on.0, on.1, sym on.2 ∙ list_is, refl) are_rest gives
 
   -- a container that is no item, and what follows it
-  other_rises : (container : Container) (place : ℕ) (inner later : Nodes) → Rises inner → Rises later → (room : ℕ) (here : Place)
+  other_rises : (container : Container) (offset : ℕ) (inner later : Nodes) → Rises inner → Rises later → (room : Room) (here : Place)
       → (passed from to : ℕ) (ends outer : List ℕ) (events more : List RangedEvent)
-      → Stand here.containers here.kept passed (container_then container place inner later) → from ≤ passed → last_end (container_end inner) later ≤ to
-      → ends ≡ to ∷ outer → OtherEvents page setting container place inner later room here events
+      → Stand here.containers here.kept passed (container_then container offset inner later) → from ≤ passed → last_end (container_end inner) later ≤ to
+      → ends ≡ to ∷ outer → OtherEvents page setting container offset inner later room here events
       → RiseIn (to ∷ outer) (last_end (container_end inner) later) more → RiseIn ends from (events ++ more)
-  other_rises container place inner later in_it after_it room here passed from to ends outer events more stand low within are_open
+  other_rises container offset inner later in_it after_it room here passed from to ends outer events more stand low within are_open
       (held, rest, are_held, are_rest, is) gives =
       let tag = container_tag container in
-      let between = held_between (here.containers ++ settled container ∷ []) here.kept place inner stand.1 stand.2 in
-      let follows = first_later here.containers (length here.containers) (passed_after (suc place) inner) later stand.3 in
-      let there = ends_between later here.containers (length here.containers) (passed_after (suc place) inner) (container_end inner) stand.3
+      let between = held_between (here.containers ++ past_first_line container ∷ []) here.kept offset inner stand.1 stand.2 in
+      let follows = first_later here.containers (length here.containers) (passed_after (suc offset) inner) later stand.3 in
+      let there = ends_between later here.containers (length here.containers) (passed_after (suc offset) inner) (container_end inner) stand.3
       (omega (arith, between, follows)) in
-      let inner_ends = end_grows inner place (first_place inner) (omega (arith, between)) in
+      let inner_ends = end_grows inner offset (first_offset inner) (omega (arith, between)) in
       subst (λ (es : List RangedEvent). RiseIn ends from (es ++ more)) (sym is)
-      (subst (λ (e : List ℕ). RiseIn e from (element tag place (container_end inner) held ++ rest ++ more)) (sym are_open)
-      (subst (RiseIn (to ∷ outer) from) (sym (append_assoc (element tag place (container_end inner) held) rest more))
-      (element_rises tag place (container_end inner) from to outer held (rest ++ more) (omega (arith, low, stand.0)) (omega (arith, between))
+      (subst (λ (e : List ℕ). RiseIn e from (element tag offset (container_end inner) held ++ rest ++ more)) (sym are_open)
+      (subst (RiseIn (to ∷ outer) from) (sym (append_assoc (element tag offset (container_end inner) held) rest more))
+      (element_rises tag offset (container_end inner) from to outer held (rest ++ more) (omega (arith, low, stand.0)) (omega (arith, between))
       (omega (arith, there.0, within))
-      (λ more closed. in_it room (inside container false here) (Some container) None (suc place) place (container_end inner)
+      (λ more closed. in_it room (inside container false here) (Some container) None (suc offset) offset (container_end inner)
       (container_end inner ∷ to ∷ outer) (to ∷ outer) held more stand.2 (omega arith) inner_ends refl are_held
-      (rise_from (container_end inner ∷ to ∷ outer) (last_end place inner) (container_end inner) more inner_ends closed))
-      (after_it (room - added held) (after_block here) None None (passed_after (suc place) inner) (container_end inner) to (to ∷ outer) outer rest more stand.3
+      (rise_from (container_end inner ∷ to ∷ outer) (last_end offset inner) (container_end inner) more inner_ends closed))
+      (after_it (room_after room held) (after_block here) None None (passed_after (suc offset) inner) (container_end inner) to
+      (to ∷ outer) outer rest more stand.3
       (omega (arith, between)) within refl are_rest gives))))
 
   nodes_rise : (nodes : Nodes) → Rises nodes
@@ -373,49 +382,49 @@ module _ (page : List ℕ) (setting : EventSetting) where
   nodes_rise nothing room here waiting (Some list) passed from to ends outer events more stand low within (found, none, to_is, are) is gives = absurd (cc)
   nodes_rise (leaf_then block later) room here waiting current passed from to ends outer events more stand low within are_open are gives =
       leaf_then_rises block later (nodes_rise later) room here waiting current passed from to ends outer events more stand low within are_open are gives
-  nodes_rise (container_then (Item one) place inner later) room here waiting None passed from to ends outer events more stand low within are_open
+  nodes_rise (container_then (Item one) offset inner later) room here waiting None passed from to ends outer events more stand low within are_open
       (held, rest, are_held, are_rest, is) gives =
       let span = span_of (Item one) inner later in
-      let now = list_in None one place span in
-      let whole = element item place span.to held in
-      let list = list_between (container_then (Item one) place inner later) here.containers here.kept passed from stand (omega (arith, low, stand.0))
+      let now = list_in None one offset span in
+      let whole = element item offset span.to held in
+      let list = list_between (container_then (Item one) offset inner later) here.containers here.kept passed from stand (omega (arith, low, stand.0))
       (list_with one inner (is_set_off one inner later) (front_list later)) refl in
-      let between = held_between (here.containers ++ settled (Item one) ∷ []) here.kept place inner stand.1 stand.2 in
-      let within_list = item_fits one place inner later here.containers here.kept passed stand in
-      let rises = item_in_list one place inner later (nodes_rise inner) (nodes_rise later) room here now now.is_tight passed place to outer held rest more stand
+      let between = held_between (here.containers ++ past_first_line (Item one) ∷ []) here.kept offset inner stand.1 stand.2 in
+      let within_list = item_fits one offset inner later here.containers here.kept passed stand in
+      let rises = item_in_list one offset inner later (nodes_rise inner) (nodes_rise later) room here now now.is_tight passed offset to outer held rest more stand
       (omega arith) within refl (is_alike one (front_list later)) refl are_held are_rest gives in
       subst (λ (es : List RangedEvent). RiseIn ends from (es ++ more)) (sym is)
       (subst (λ (e : List ℕ). RiseIn e from
-      (ranged (start (list_tag one)) place span.list_to ∷ (whole ++ list_end span.is_last now ++ rest ++ more))) (sym are_open) (
+      (ranged (start (list_tag one)) offset span.list_to ∷ (whole ++ list_end span.is_last now ++ rest ++ more))) (sym are_open) (
         record { begins = omega (arith, low, stand.0); in_order = omega (arith, between, within_list); ends = omega (arith, list.1, within) },
-        subst (RiseIn (span.list_to ∷ to ∷ outer) place) (sym (reassociated whole (list_end span.is_last now) rest more)) rises,
+        subst (RiseIn (span.list_to ∷ to ∷ outer) offset) (sym (reassociated whole (list_end span.is_last now) rest more)) rises,
       ))
-  nodes_rise (container_then (Item one) place inner later) room here waiting (Some list) passed from to ends outer events more stand low within
+  nodes_rise (container_then (Item one) offset inner later) room here waiting (Some list) passed from to ends outer events more stand low within
       (found, front, to_is, are_open) (held, rest, are_held, are_rest, is) gives =
       let span = span_of (Item one) inner later in
-      let whole = element item place span.to held in
+      let whole = element item offset span.to held in
       let same : list_with one inner (is_set_off one inner later) (front_list later) ≡ found = cc in
-      let rises = item_in_list one place inner later (nodes_rise inner) (nodes_rise later) room here list list.is_tight passed from to outer held rest more stand
+      let rises = item_in_list one offset inner later (nodes_rise inner) (nodes_rise later) room here list list.is_tight passed from to outer held rest more stand
       (omega (arith, low, stand.0)) within (ap (λ (l : ItemList). l.to) same ∙ to_is) (is_alike one (front_list later)) refl are_held are_rest gives in
       subst (λ (es : List RangedEvent). RiseIn ends from (es ++ more)) (sym is)
       (subst (λ (e : List ℕ). RiseIn e from (whole ++ list_end span.is_last list ++ rest ++ more)) (sym are_open)
       (subst (RiseIn (list.element.to ∷ to ∷ outer) from) (sym (reassociated whole (list_end span.is_last list) rest more)) rises))
-  nodes_rise (container_then Quote place inner later) room here waiting None passed from to ends outer events more stand low within are_open are gives =
-      other_rises Quote place inner later (nodes_rise inner) (nodes_rise later) room here passed from to ends outer events more stand low within are_open are gives
-  nodes_rise (container_then Footnote place inner later) room here waiting None passed from to ends outer events more stand low within are_open are gives =
-      other_rises Footnote place inner later (nodes_rise inner) (nodes_rise later) room here passed from to ends outer events more stand low within
+  nodes_rise (container_then Quote offset inner later) room here waiting None passed from to ends outer events more stand low within are_open are gives =
+      other_rises Quote offset inner later (nodes_rise inner) (nodes_rise later) room here passed from to ends outer events more stand low within are_open are gives
+  nodes_rise (container_then Footnote offset inner later) room here waiting None passed from to ends outer events more stand low within are_open are gives =
+      other_rises Footnote offset inner later (nodes_rise inner) (nodes_rise later) room here passed from to ends outer events more stand low within
       are_open are gives
-  nodes_rise (container_then (TermDefinition one) place inner later) room here waiting None passed from to ends outer events more stand low within are_open are gives =
-      other_rises (TermDefinition one) place inner later (nodes_rise inner) (nodes_rise later) room here passed from to ends outer events more stand low within
+  nodes_rise (container_then (TermDefinition one) offset inner later) room here waiting None passed from to ends outer events more stand low within are_open are gives =
+      other_rises (TermDefinition one) offset inner later (nodes_rise inner) (nodes_rise later) room here passed from to ends outer events more stand low within
       are_open are gives
-  nodes_rise (container_then c place inner later) room here waiting (Some list) passed from to ends outer events more stand low within (found, none, to_is, are) is gives =
+  nodes_rise (container_then c offset inner later) room here waiting (Some list) passed from to ends outer events more stand low within (found, none, to_is, are) is gives =
       absurd (cc)
 
 -- ---- the page
 
 -- The ranges of a page's events rise, and lie within those of the elements that hold them, where its nodes stand in order and the events of
 -- each leaf block rise.
-pub page_events_rise : (page : List ℕ) (setting : EventSetting) (passed : ℕ) (room : ℕ) (nodes : Nodes) (events : List RangedEvent)
+pub page_events_rise : (page : List ℕ) (setting : EventSetting) (passed : ℕ) (room : Room) (nodes : Nodes) (events : List RangedEvent)
     → Stand page setting [] 0 passed nodes → passed_after passed nodes ≤ length page → AreNodeEvents page setting room outermost None None nodes events
     → AreWithin page events
 page_events_rise page setting passed room nodes events stand within are =

@@ -1,18 +1,19 @@
 -- A page has one list of events.
-use Rattle.std.proofs.Common.{ℕ, false, List, [], ◌∷◌, ◌++◌, Option, Some, None, inl, inr, ◌≡◌, ◌-◌, refl, sym, ap, subst, ◌∙◌, append-nil, append_assoc, arith}
+use Rattle.std.proofs.Common.{ℕ, false, List, [], ◌∷◌, ◌++◌, Option, Some, None, inl, inr, ◌≡◌, refl, sym, ap, subst, ◌∙◌, append-nil, append_assoc, arith}
 use Rattle.std.specs.Bool.{⊤}
 use Rattle.markdown_blocks.proofs.ForCallers.{one_list_of_events, one_list_of_named}
 use Rattle.markdown_blocks.specs.declared.containers.Container.{Container}
 use Rattle.markdown_blocks.specs.declared.containers.Container.TheVariants.{Quote, Item, Footnote, TermDefinition}
 use Rattle.markdown_blocks.specs.events.Events.{Event, starts, leaf, ends, LeafBlock}
-use Rattle.markdown_blocks.specs.first_blocks.Waiting.{waiting_behind}
+use Rattle.markdown_blocks.specs.first_blocks.Waiting.{waiting_next}
 use Rattle.markdown_blocks.specs.link_definitions.LinkDefinitions.{Named, first_of}
 use Rattle.markdown_blocks.specs.lists.Lists.{Nodes, nothing, leaf_then, container_then, flatten}
-use Rattle.markdown_events.specs.InlineEvents.{EventSetting, RangedEvent}
+use Rattle.markdown_events.specs.InlineEvents.{EventSetting, RangedEvent, with_cells}
 use Rattle.markdown_values.specs.declared.values.extensions.Extensions.{Extensions}
+use Rattle.markdown_events.specs.declared.page.reading.Room.{Room}
 use Rattle.markdown_events.specs.page.LeafEvents.{Place}
 use Rattle.markdown_events.specs.page.PageEvents.{ArePageEvents, AreNodeEvents, OpenList, after_block, event_setting, container_tag, element_of}
-use Rattle.markdown_events.specs.page.References.{AreEventsInRoom, added, room_of, without_references}
+use Rattle.markdown_events.specs.page.References.{AreEventsInRoom, added, page_room, room_after, without_references}
 use Rattle.markdown_events.specs.page.Settings.{built}
 use Rattle.markdown_events.specs.page.PageEvents.{ending, inside, list_after, list_end, list_in, list_start, outermost, starting}
 use Rattle.markdown_events.specs.page.Spans.{container_end, span_of}
@@ -94,14 +95,14 @@ one_tree_of_events n m e = (one_tree n m [] [] tt tt (append-nil (flatten n) ∙
 -- ---- a tree has one list of events
 
 -- of a container that is no item, where what it holds and what follows it have one list
-abbrev pub OtherEvents : List ℕ → EventSetting → Container → ℕ → Nodes → Nodes → ℕ → Place → List RangedEvent → Type 0
+abbrev pub OtherEvents : List ℕ → EventSetting → Container → ℕ → Nodes → Nodes → Room → Place → List RangedEvent → Type 0
 OtherEvents page setting container offset inner later room here events =
     (held : List RangedEvent) × (rest : List RangedEvent) × AreNodeEvents page setting room (inside container false here) (Some container) None inner held
-    × AreNodeEvents page setting (room - added held) (after_block here) None None later rest
+    × AreNodeEvents page setting (room_after room held) (after_block here) None None later rest
     × (events ≡ starting (container_tag container) offset (container_end inner) ++ held
     ++ ending (element_of (container_tag container) offset (container_end inner)) ++ rest)
 
-one_of_other : (page : List ℕ) (setting : EventSetting) (container : Container) (offset : ℕ) (inner later : Nodes) (room : ℕ) (here : Place)
+one_of_other : (page : List ℕ) (setting : EventSetting) (container : Container) (offset : ℕ) (inner later : Nodes) (room : Room) (here : Place)
     → (events others : List RangedEvent) → (h : OtherEvents page setting container offset inner later room here events)
     → (k : OtherEvents page setting container offset inner later room here others) → h.0 ≡ k.0 → h.1 ≡ k.1 → events ≡ others
 one_of_other page setting container offset inner later room here events others h k held rest =
@@ -112,36 +113,37 @@ one_of_other page setting container offset inner later room here events others h
 
 -- ---- a block has one list of events
 
-one_list_in_room : (page : List ℕ) (setting : EventSetting) (room : ℕ) (here : Place) (waiting : Option Container) (block : LeafBlock)
+one_list_in_room : (page : List ℕ) (setting : EventSetting) (room : Room) (here : Place) (waiting : Option Container) (block : LeafBlock)
     → (events others : List RangedEvent) → AreEventsInRoom page setting room here waiting block events
     → AreEventsInRoom page setting room here waiting block others → events ≡ others
 one_list_in_room page setting room here waiting block events others (inl (are, fits)) (inl (are_too, fits_too)) =
-    one_list_of_block_events page setting here waiting block events others are are_too
+    one_list_of_block_events page (with_cells room.cells setting) here waiting block events others are are_too
 one_list_in_room page setting room here waiting block events others (inl (are, fits)) (inr (all, are_all, more, text)) =
-    absurd (omega (arith, fits, more, ap added (one_list_of_block_events page setting here waiting block events all are are_all)))
+    absurd (omega (arith, fits, more, ap added (one_list_of_block_events page (with_cells room.cells setting) here waiting block events all are are_all)))
 one_list_in_room page setting room here waiting block events others (inr (all, are_all, more, text)) (inl (are, fits)) =
-    absurd (omega (arith, fits, more, ap added (one_list_of_block_events page setting here waiting block others all are are_all)))
+    absurd (omega (arith, fits, more, ap added (one_list_of_block_events page (with_cells room.cells setting) here waiting block others all are are_all)))
 one_list_in_room page setting room here waiting block events others (inr (all, are_all, more, text)) (inr (all_too, are_all_too, more_too, text_too)) =
-    one_list_of_block_events page (without_references setting) here waiting block events others text text_too
+    one_list_of_block_events page (without_references (with_cells room.cells setting)) here waiting block events others text text_too
 
 -- ---- nodes have one list of events
 
-one_list_of_node_events : (page : List ℕ) (setting : EventSetting) (nodes : Nodes) (room : ℕ) (here : Place) (waiting : Option Container)
+one_list_of_node_events : (page : List ℕ) (setting : EventSetting) (nodes : Nodes) (room : Room) (here : Place) (waiting : Option Container)
     → (current : Option OpenList)
     → (events others : List RangedEvent) → AreNodeEvents page setting room here waiting current nodes events
     → AreNodeEvents page setting room here waiting current nodes others → events ≡ others
 one_list_of_node_events page setting nothing room here waiting current events others h k = h ∙ sym k
 one_list_of_node_events page setting (leaf_then block later) room here waiting current events others h k =
     let leaf_same = one_list_in_room page setting room here waiting block h.0 k.0 h.2 k.2 in
-    let rest_same = one_list_of_node_events page setting later (room - added k.0) (after_block here) (waiting_behind waiting (leaf block)) current h.1 k.1
-    (subst (λ own. AreNodeEvents page setting (room - added own) (after_block here) (waiting_behind waiting (leaf block)) current later h.1) leaf_same h.3) k.3 in
+    let rest_same = one_list_of_node_events page setting later (room_after room k.0) (after_block here) (waiting_next waiting (leaf block)) current h.1 k.1
+    (subst (λ own. AreNodeEvents page setting (room_after room own) (after_block here)
+    (waiting_next waiting (leaf block)) current later h.1) leaf_same h.3) k.3 in
     h.4 ∙ (ap (λ es. es ++ h.1) leaf_same ∙ (ap (λ es. k.0 ++ es) rest_same ∙ sym k.4))
 one_list_of_node_events page setting (container_then (Item one) offset inner later) room here waiting current events others h k =
     let span = span_of (Item one) inner later in
     let now = list_in current one offset span in
     let held = one_list_of_node_events page setting inner room (inside (Item one) now.is_tight here) (Some (Item one)) None h.0 k.0 h.2 k.2 in
-    let rest = one_list_of_node_events page setting later (room - added k.0) (after_block here) None (list_after span.is_last now) h.1 k.1
-    (subst (λ own. AreNodeEvents page setting (room - added own) (after_block here) None (list_after span.is_last now) later h.1) held h.3) k.3 in
+    let rest = one_list_of_node_events page setting later (room_after room k.0) (after_block here) None (list_after span.is_last now) h.1 k.1
+    (subst (λ own. AreNodeEvents page setting (room_after room own) (after_block here) None (list_after span.is_last now) later h.1) held h.3) k.3 in
     h.4 ∙ (ap (λ es. list_start current one offset span ++ starting item offset span.to ++ es ++ ending (element_of item offset span.to)
     ++ list_end span.is_last now ++ h.1) held
     ∙ (ap (λ es. list_start current one offset span ++ starting item offset span.to ++ k.0 ++ ending (element_of item offset span.to)
@@ -149,18 +151,18 @@ one_list_of_node_events page setting (container_then (Item one) offset inner lat
 one_list_of_node_events page setting (container_then Quote offset inner later) room here waiting current events others h k =
     let held = one_list_of_node_events page setting inner room (inside Quote false here) (Some Quote) None h.0 k.0 h.2 k.2 in
     one_of_other page setting Quote offset inner later room here events others h k held
-    (one_list_of_node_events page setting later (room - added k.0) (after_block here) None None h.1 k.1
-    (subst (λ own. AreNodeEvents page setting (room - added own) (after_block here) None None later h.1) held h.3) k.3)
+    (one_list_of_node_events page setting later (room_after room k.0) (after_block here) None None h.1 k.1
+    (subst (λ own. AreNodeEvents page setting (room_after room own) (after_block here) None None later h.1) held h.3) k.3)
 one_list_of_node_events page setting (container_then Footnote offset inner later) room here waiting current events others h k =
     let held = one_list_of_node_events page setting inner room (inside Footnote false here) (Some Footnote) None h.0 k.0 h.2 k.2 in
     one_of_other page setting Footnote offset inner later room here events others h k held
-    (one_list_of_node_events page setting later (room - added k.0) (after_block here) None None h.1 k.1
-    (subst (λ own. AreNodeEvents page setting (room - added own) (after_block here) None None later h.1) held h.3) k.3)
+    (one_list_of_node_events page setting later (room_after room k.0) (after_block here) None None h.1 k.1
+    (subst (λ own. AreNodeEvents page setting (room_after room own) (after_block here) None None later h.1) held h.3) k.3)
 one_list_of_node_events page setting (container_then (TermDefinition one) offset inner later) room here waiting current events others h k =
     let held = one_list_of_node_events page setting inner room (inside (TermDefinition one) false here) (Some (TermDefinition one)) None h.0 k.0 h.2 k.2 in
     one_of_other page setting (TermDefinition one) offset inner later room here events others h k held
-    (one_list_of_node_events page setting later (room - added k.0) (after_block here) None None h.1 k.1
-    (subst (λ own. AreNodeEvents page setting (room - added own) (after_block here) None None later h.1) held h.3) k.3)
+    (one_list_of_node_events page setting later (room_after room k.0) (after_block here) None None h.1 k.1
+    (subst (λ own. AreNodeEvents page setting (room_after room own) (after_block here) None None later h.1) held h.3) k.3)
 
 -- a page has one list of events
 pub one_list_of_page_events : (page : List ℕ) (setting : Extensions) (events others : List RangedEvent) → ArePageEvents page setting events
@@ -169,7 +171,7 @@ one_list_of_page_events page setting events others h k =
     let nodes = one_tree_of_events h.nodes k.nodes
     (one_list_of_events (built setting) page (flatten h.nodes) (flatten k.nodes) h.are_blocks k.are_blocks) in
     let named = one_list_of_named (built setting) page h.named k.named h.are_defined k.are_defined in
-    let first = subst (λ n. AreNodeEvents page (event_setting setting (λ label. first_of label h.named)) (room_of page) outermost None None n events) nodes h.are_events in
-    let second = subst (λ (all : List Named). AreNodeEvents page (event_setting setting (λ label. first_of label all)) (room_of page) outermost None None k.nodes events)
+    let first = subst (λ n. AreNodeEvents page (event_setting setting (λ label. first_of label h.named)) (page_room page) outermost None None n events) nodes h.are_events in
+    let second = subst (λ (all : List Named). AreNodeEvents page (event_setting setting (λ label. first_of label all)) (page_room page) outermost None None k.nodes events)
     named first in
-    one_list_of_node_events page (event_setting setting (λ label. first_of label k.named)) k.nodes (room_of page) outermost None None events others second k.are_events
+    one_list_of_node_events page (event_setting setting (λ label. first_of label k.named)) k.nodes (page_room page) outermost None None events others second k.are_events

@@ -15,7 +15,7 @@ use Rattle.markdown_events.specs.page.OpenElements.{begun, end_events, ended, ne
 use Rattle.markdown_events.specs.page.PageEvents.{event_setting, ArePageEvents, ArePageEventsWith, AreNodeEvents, outermost}
 use Rattle.markdown_events.specs.page.Settings.{built}
 use Rattle.markdown_events.specs.page.Spans.{spans}
-use Rattle.markdown_events.specs.page.References.{AreEventsInRoom, room_of}
+use Rattle.markdown_events.specs.page.References.{AreEventsInRoom, page_room}
 use Rattle.markdown_events.proofs.page.TreeLemmas.{page_tree}
 
 -- with no other labels
@@ -26,7 +26,7 @@ without_more targets = fun_ext (λ label. elim (targets label) as (λ t. elim t 
 pub given_without : (left : PageLeft) (events : List RangedEvent) → GivesWith nowhere left events → Gives left events
 given_without left events g = record {
   rest = g.rest;
-  are_later = subst (λ targets. AreEventsFrom left.page (record { asked = left.extensions; targets = targets }) left.room left.elements left.blocks g.rest)
+  are_later = subst (λ targets. AreEventsFrom left.page (event_setting left.extensions targets) left.room left.elements left.blocks g.rest)
       (without_more (known_as left.known)) g.are_later;
   given = g.given;
 }
@@ -34,7 +34,7 @@ given_without left events g = record {
 pub given_with : (left : PageLeft) (events : List RangedEvent) → Gives left events → GivesWith nowhere left events
 given_with left events g = record {
   rest = g.rest;
-  are_later = subst (λ targets. AreEventsFrom left.page (record { asked = left.extensions; targets = targets }) left.room left.elements left.blocks g.rest)
+  are_later = subst (λ targets. AreEventsFrom left.page (event_setting left.extensions targets) left.room left.elements left.blocks g.rest)
       (sym (without_more (known_as left.known))) g.are_later;
   given = g.given;
 }
@@ -45,22 +45,22 @@ pub page_events_with : (page : List ℕ) (setting : Extensions) (more : Targets)
     → (named : List Named) → HasDefinitions (built setting) page named
     → ((label : List ℕ) → known_as known label ≡ first_of label named)
     → ((nodes : Nodes) → blocks ≡ flatten nodes → found ≡ spans nodes)
-    → AreEventsFrom page (event_setting setting (or_else (known_as known) more)) (room_of page) (none_open found) blocks events
+    → AreEventsFrom page (event_setting setting (or_else (known_as known) more)) (page_room page) (none_open found) blocks events
     → ArePageEventsWith page setting more events
 page_events_with page setting more blocks known found events of_page named defined first are_spans given =
     let tree = events_of_nodes (built setting) page blocks of_page in
     let same : known_as known ≡ (λ label. first_of label named) = fun_ext first in
-    let spanned = subst (λ all. AreEventsFrom page (event_setting setting (or_else (known_as known) more)) (room_of page) (none_open all) blocks events)
+    let spanned = subst (λ all. AreEventsFrom page (event_setting setting (or_else (known_as known) more)) (page_room page) (none_open all) blocks events)
     (are_spans tree.0 tree.1) given in
-    let flat = subst (λ all. AreEventsFrom page (event_setting setting (or_else (known_as known) more)) (room_of page) (none_open (spans tree.0)) all events)
+    let flat = subst (λ all. AreEventsFrom page (event_setting setting (or_else (known_as known) more)) (page_room page) (none_open (spans tree.0)) all events)
     tree.1 spanned in
     record {
       nodes = tree.0;
       are_blocks = subst (λ all. IsEventsOf (built setting) page all) tree.1 of_page;
       named = named;
       are_defined = defined;
-      are_events = subst (λ (targets : Targets). AreNodeEvents page (event_setting setting (or_else targets more)) (room_of page) outermost None None tree.0 events) same
-          (page_tree page (event_setting setting (or_else (known_as known) more)) (room_of page) tree.0 events flat);
+      are_events = subst (λ (targets : Targets). AreNodeEvents page (event_setting setting (or_else targets more)) (page_room page) outermost None None tree.0 events) same
+          (page_tree page (event_setting setting (or_else (known_as known) more)) (page_room page) tree.0 events flat);
     }
 
 -- without other labels they are those of the page
@@ -71,18 +71,18 @@ page_events page setting events are = record {
   are_blocks = are.are_blocks;
   named = are.named;
   are_defined = are.are_defined;
-  are_events = subst (λ targets. AreNodeEvents page (event_setting setting targets) (room_of page) outermost None None are.nodes events)
+  are_events = subst (λ targets. AreNodeEvents page (event_setting setting targets) (page_room page) outermost None None are.nodes events)
       (without_more (λ label. first_of label are.named)) are.are_events;
 }
 
 -- ---- one block event
 
-pub given_start : (more : Targets) (old : PageLeft) (container : Container) (place : ℕ) (blocks : List Event) (events : List RangedEvent)
-    → old.ready ≡ [] → old.blocks ≡ starts container place ∷ blocks
-    → GivesWith more (left_with old (start_events container place (next_span old.elements.spans) old.elements.elements) (begun container place
+pub given_start : (more : Targets) (old : PageLeft) (container : Container) (offset : ℕ) (blocks : List Event) (events : List RangedEvent)
+    → old.ready ≡ [] → old.blocks ≡ starts container offset ∷ blocks
+    → GivesWith more (left_with old (start_events container offset (next_span old.elements.spans) old.elements.elements) (begun container offset
     old.elements) blocks) events
     → GivesWith more old events
-given_start more old container place blocks events none next g = record {
+given_start more old container offset blocks events none next g = record {
   rest = events;
   are_later = subst (λ all. AreEventsFrom old.page (setting_with more old) old.room old.elements all events) (sym next) (g.rest, g.are_later, g.given);
   given = ap (λ ready. ready ++ events) (sym none);

@@ -1,10 +1,9 @@
 -- Where no label is defined, references add nothing.
-use Rattle.std.proofs.Common.{ℕ, Bool, true, false, ◌+◌, ◌==◌, List, [], ◌∷◌, ◌++◌, length, map, Option, Some, None, ◌≡◌, ◌∙◌, refl, sym, ap, subst, arith}
+use Rattle.std.proofs.Common.{ℕ, Bool, true, false, ◌+◌, ◌==◌, List, [], ◌∷◌, ◌++◌, length, map, Option, Some, None, ◌≡◌, ◌∙◌, refl, sym, subst, arith}
 use Rattle.std.proofs.Common.{if◌then◌else◌}
 use Rattle.std.specs.declared.ops.Range.{Range}
 use Rattle.markdown_values.specs.values.Events.{EventView, end, html, start, text}
-use Rattle.markdown_values.specs.values.Tags.{TagView, block_quote, code_block, emphasis, html_block, paragraph, strong, table, table_cell}
-use Rattle.markdown_values.specs.declared.values.LinkType.{LinkType}
+use Rattle.markdown_values.specs.values.Tags.{TagView, code_block, emphasis, html_block, paragraph, strong, table, table_cell}
 use Rattle.markdown_values.specs.declared.values.LinkType.TheVariants as Kind
 use Rattle.markdown_blocks.specs.cells.Contents.{content_of_cell}
 use Rattle.markdown_blocks.specs.declared.blocks.BlockKind.{BlockKind}
@@ -14,7 +13,7 @@ use Rattle.markdown_blocks.specs.declared.containers.Container.{Container}
 use Rattle.markdown_blocks.specs.declared.first_blocks.Task.{Task}
 use Rattle.markdown_blocks.specs.events.Events.{LeafBlock}
 use Rattle.markdown_blocks.specs.cells.Cells.{cells_of}
-use Rattle.markdown_blocks.specs.rows.Rows.{TextAt, rows_of}
+use Rattle.markdown_blocks.specs.rows.Rows.{TextAt}
 use Rattle.markdown_blocks.specs.link_definitions.LinkDefinitions.{Target}
 use Rattle.markdown_inlines.specs.declared.inlines.Inline.{Inline}
 use Rattle.markdown_inlines.specs.declared.inlines.Inline.TheVariants as I
@@ -29,11 +28,12 @@ use Rattle.markdown_events.specs.Meanings.{IsLinkTag, IsWrittenTarget, has_pipe,
 use Rattle.markdown_events.specs.TagEnds.{tag_end}
 use Rattle.markdown_events.specs.Targets.{nowhere}
 use Rattle.markdown_events.specs.declared.elements.Element.{Element}
-use Rattle.markdown_events.specs.page.LeafEvents.{AreLeafEventsOf, Place, in_paragraph, line_events, lines_in_page, lines_place, placed, plain_heading}
+use Rattle.markdown_events.specs.declared.page.table_events.Columns.{Columns}
+use Rattle.markdown_events.specs.page.LeafEvents.{AreLeafEventsOf, Place, in_paragraph, line_events, lines_offset, placed, plain_heading}
 use Rattle.markdown_events.specs.page.Places.{element}
 use Rattle.markdown_events.specs.page.References.{added, added_by, without_references}
 use Rattle.markdown_events.specs.page.Spans.{block_end}
-use Rattle.markdown_events.specs.page.TableEvents.{AreCellEvents, AreRowEvents, row_len, row_tag, shown_cells}
+use Rattle.markdown_events.specs.page.TableEvents.{AreCellEvents, AreRowEvents, columns_of, row_len, row_tag, rows_in, shown_cells}
 use Rattle.markdown_events.specs.page.TaskEvents.{AreBlockEvents, AreEventsWith, after_marker, marker_event, task_here}
 use Rattle.markdown_events.proofs.page.RoomLemmas.{added_both}
 
@@ -187,28 +187,29 @@ module _ (page : List ℕ) (setting : EventSetting) where
   cells_add before row [] events is = subst AddNothing (sym is) refl
   cells_add before row (cell ∷ later) events (inlines, rest, are, are_rest, is) =
       let content = content_of_cell row cell in
-      let own = element_holds table_cell (before + cell.start) (before + cell.end) (map (placed before content.places) inlines) refl
-      (text_adds content.text before content.places inlines are) in
+      let own = element_holds table_cell (before + cell.start) (before + cell.end) (map (placed before content.offsets) inlines) refl
+      (text_adds content.text before content.offsets inlines are) in
       subst AddNothing (sym is) (omega (
         arith,
         own,
         cells_add before row later rest are_rest,
         added_both (element table_cell (before + cell.start)
-            (before + cell.end) (map (placed before content.places) inlines)) rest,
+            (before + cell.end) (map (placed before content.offsets) inlines)) rest,
       ))
 
   row_is_plain : (is_head : Bool) → added_by (start (row_tag is_head)) ≡ 0
   row_is_plain true = refl
   row_is_plain false = refl
 
-  rows_add : (columns before : ℕ) (is_head : Bool) (rows : List TextAt) (events : List RangedEvent) → AreRowEvents Text columns before is_head rows events
+  rows_add : (columns : Columns) (before : ℕ) (is_head : Bool) (rows : List TextAt) (events : List RangedEvent)
+      → AreRowEvents Text columns before is_head rows events
       → AddNothing events
   rows_add columns before is_head [] events is = subst AddNothing (sym is) refl
   rows_add columns before is_head (row ∷ later) events (cells, rest, are, are_rest, is) =
-      let from = before + row.place in
+      let from = before + row.offset in
       let to = from + row_len row.text in
       let own = element_holds (row_tag is_head) from to cells (row_is_plain is_head)
-      (cells_add from row.text (shown_cells columns (row_len row.text) (cells_of row.text)) cells are) in
+      (cells_add from row.text (shown_cells columns.are_filled columns.count (row_len row.text) (cells_of row.text)) cells are) in
       subst AddNothing (sym is) (omega (arith, own, rows_add columns before false later rest are_rest, added_both (element (row_tag is_head) from to cells) rest))
 
   -- ---- leaf blocks
@@ -219,32 +220,32 @@ module _ (page : List ℕ) (setting : EventSetting) where
   leaf_adds Definition here block events is = subst AddNothing (sym is) refl
   leaf_adds Break here block events is = subst AddNothing (sym is) refl
   leaf_adds (Heading level) here block events (inner, are, is) =
-      subst AddNothing (sym is) (element_holds (plain_heading level) block.place (block_end block) inner refl (subst AddNothing (sym are.are_events) (text_adds _ _ _ are.inlines are.are_inlines)))
+      subst AddNothing (sym is) (element_holds (plain_heading level) block.offset (block_end block) inner refl (subst AddNothing (sym are.are_events) (text_adds _ _ _ are.inlines are.are_inlines)))
   leaf_adds (Setext level) here block events (inner, are, is) =
-      subst AddNothing (sym is) (element_holds (plain_heading level) block.place (block_end block) inner refl (subst AddNothing (sym are.are_events) (text_adds _ _ _ are.inlines are.are_inlines)))
+      subst AddNothing (sym is) (element_holds (plain_heading level) block.offset (block_end block) inner refl (subst AddNothing (sym are.are_events) (text_adds _ _ _ are.inlines are.are_inlines)))
   leaf_adds Paragraph here block events (inner, are, is) =
       subst AddNothing (sym is)
       (paragraph_holds here.is_tight block inner (subst AddNothing (sym are.are_events) (text_adds _ _ _ are.inlines are.are_inlines)))
   leaf_adds Indented here block events (inner, are, is) =
       subst AddNothing (sym is)
-      (element_holds (code_block None) (lines_place block inner) (block_end block) inner refl (subst AddNothing (sym are.are_events) (placed_add _ _ _ ∙ lines_add text (λ line. refl) 0 _)))
+      (element_holds (code_block None) (lines_offset block inner) (block_end block) inner refl (subst AddNothing (sym are.are_events) (placed_add _ _ _ ∙ lines_add text (λ line. refl) 0 _)))
   leaf_adds (Fenced count byte) here block events (inner, info, are, meaning, is) =
       subst AddNothing (sym is)
-      (element_holds (code_block (Some info)) (lines_place block inner) (block_end block) inner refl (subst AddNothing (sym are.are_events) (placed_add _ _ _ ∙ lines_add text (λ line. refl) 0 _)))
+      (element_holds (code_block (Some info)) (lines_offset block inner) (block_end block) inner refl (subst AddNothing (sym are.are_events) (placed_add _ _ _ ∙ lines_add text (λ line. refl) 0 _)))
   leaf_adds (Html kind) here block events (inner, are, is) =
       subst AddNothing (sym is)
-      (element_holds html_block (lines_place block inner) (block_end block) inner refl (subst AddNothing (sym are.are_events) (placed_add _ _ _ ∙ lines_add html (λ line. refl) 0 _)))
+      (element_holds html_block (lines_offset block inner) (block_end block) inner refl (subst AddNothing (sym are.are_events) (placed_add _ _ _ ∙ lines_add html (λ line. refl) 0 _)))
   leaf_adds (Table columns) here block events are =
-      subst AddNothing (sym are.are_events) (element_holds (table are.alignments) block.place (block_end block) are.rows refl
-      (rows_add columns block.start true (rows_of here.kept here.containers (lines_in_page page block)) are.rows are.are_rows))
+      subst AddNothing (sym are.are_events) (element_holds (table are.alignments) block.offset (block_end block) are.rows refl
+      (rows_add (columns_of setting.cells columns (rows_in page here block)) block.start true (rows_in page here block) are.rows are.are_rows))
 
-  with_adds : (task : Option Task) (here : Place) (block : LeafBlock) (events : List RangedEvent) → AreEventsWith task page Text here block events
+  pub with_adds : (task : Option Task) (here : Place) (block : LeafBlock) (events : List RangedEvent) → AreEventsWith task page Text here block events
       → AddNothing events
   with_adds None here block events are = leaf_adds block.kind here block events are
   with_adds (Some task) here block events are =
       let content = after_marker task are.content in
-      let inlines = map (placed block.start content.places) are.inlines in
-      let none = text_adds content.text block.start content.places are.inlines are.are_inlines in
+      let inlines = map (placed block.start content.offsets) are.inlines in
+      let none = text_adds content.text block.start content.offsets are.inlines are.are_inlines in
       let marked : AddNothing (marker_event task ∷ inlines) = omega (arith, none) in
       subst AddNothing (sym are.are_events) (paragraph_holds here.is_tight block (marker_event task ∷ inlines) marked)
 

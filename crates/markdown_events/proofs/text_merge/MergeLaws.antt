@@ -11,9 +11,9 @@ pub joined_texts : (words more : List ℕ) (range next : Range ℕ) (later : Lis
     → joined (text words, range) (joined (text more, next) later)
     ≡ joined (text (words ++ more), record { start = range.start; end = next.end }) later
 joined_texts words more range next [] = refl
-joined_texts words more range next ((text last, place) ∷ later) =
-    ap (λ (all : List ℕ). (text all, record { start = range.start; end = place.end }) ∷ later) (sym (append_assoc words more last))
-joined_texts words more range next ((event, place) ∷ later) = refl
+joined_texts words more range next ((text last, offset) ∷ later) =
+    ap (λ (all : List ℕ). (text all, record { start = range.start; end = offset.end }) ∷ later) (sym (append_assoc words more last))
+joined_texts words more range next ((event, offset) ∷ later) = refl
 
 -- nothing is joined to an event that is no text
 pub joined_other : (event : RangedEvent) (later : List RangedEvent) → is_text event ≡ false → joined event later ≡ event ∷ later
@@ -31,8 +31,8 @@ joined_before joining (event, range) later is_none = refl
 after_text : (words more : List ℕ) (range next : Range ℕ) (later : List RangedEvent) → AreParted ((text words, range) ∷ later)
     → AreParted ((text more, next) ∷ later)
 after_text words more range next [] parted = tt
-after_text words more range next ((text last, place) ∷ later) parted = absurd parted
-after_text words more range next ((event, place) ∷ later) parted = parted
+after_text words more range next ((text last, offset) ∷ later) parted = absurd parted
+after_text words more range next ((event, offset) ∷ later) parted = parted
 
 joined_parted : (event : RangedEvent) (later : List RangedEvent) → AreParted later → AreParted (joined event later)
 joined_parted (text words, range) [] parted = tt

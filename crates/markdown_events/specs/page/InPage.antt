@@ -2,14 +2,14 @@
 use Rattle.std.specs.Prelude.{ℕ, ◌-◌, ◌<◌, ◌≡◌, List, [], ◌∷◌, ◌++◌, length, take, Option, Some, None, ⊤}
 use Rattle.std.specs.List.{prefix_len}
 use Rattle.markdown_scanners_tree.specs.Bytes.{is_space_or_tab}
-use Rattle.markdown_blocks.specs.containers.Containers.{settled}
+use Rattle.markdown_blocks.specs.containers.Containers.{past_first_line}
 use Rattle.markdown_blocks.specs.declared.blocks.BlockKind.{BlockKind}
 use Rattle.markdown_blocks.specs.declared.blocks.BlockKind.TheVariants.{Fenced, Paragraph}
 use Rattle.markdown_blocks.specs.declared.containers.Container.{Container}
 use Rattle.markdown_blocks.specs.declared.first_blocks.Task.{Task}
 use Rattle.markdown_blocks.specs.events.Events.{Event, LeafBlock, starts, leaf, ends}
 use Rattle.markdown_blocks.specs.first_blocks.Tasks.{task_of}
-use Rattle.markdown_blocks.specs.first_blocks.Waiting.{waiting_behind}
+use Rattle.markdown_blocks.specs.first_blocks.Waiting.{waiting_next}
 use Rattle.markdown_blocks.specs.laws.Characters.{IsCutOut}
 use Rattle.markdown_blocks.specs.laws.FirstTexts.{BeginsPlain}
 use Rattle.markdown_blocks.specs.laws.Order.{HoldsText}
@@ -31,9 +31,9 @@ pub record IsInPage (page : List ℕ) (outer : List Container) (kept : ℕ) (wai
 abbrev pub AreInPage : List ℕ → List Container → ℕ → Option Container → List Event → Type 0
 AreInPage page outer kept waiting [] = ⊤
 AreInPage page outer kept waiting (starts container before ∷ later) =
-    AreInPage page (outer ++ settled container ∷ []) kept (Some container) later
+    AreInPage page (outer ++ past_first_line container ∷ []) kept (Some container) later
 AreInPage page outer kept waiting (leaf block ∷ later) =
-    IsInPage page outer kept waiting block × AreInPage page outer (length outer) (waiting_behind waiting (leaf block)) later
+    IsInPage page outer kept waiting block × AreInPage page outer (length outer) (waiting_next waiting (leaf block)) later
 AreInPage page outer kept waiting (ends ∷ later) =
     let around = take (length outer - 1) outer in AreInPage page around (length around) None later
 

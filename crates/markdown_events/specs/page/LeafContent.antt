@@ -14,8 +14,8 @@ line_event is_html = if is_html then html else text
 -- Each byte of a content has an offset in its block, which begins after so many bytes of the page; there a byte's offset and the one
 -- after it are numbers too.
 pub record CanPlace (before : ℕ) (content : Placed) : Type 0 where
-  pub each : length content.places ≡ length content.text
-  pub fits : (offset : ℕ) → offset < length content.text → before + slice_index content.places offset + 1 < 2 ^ 64
+  pub each : length content.offsets ≡ length content.text
+  pub fits : (offset : ℕ) → offset < length content.text → before + slice_index content.offsets offset + 1 < 2 ^ 64
   pub begins : before < 2 ^ 64
 
 -- no event ends after so many bytes
@@ -25,8 +25,8 @@ EndWithin count (event ∷ later) = (event.1.end ≤ count) × EndWithin count l
 
 -- the text of a leaf block begins within its lines
 pub record HasPlace (block : LeafBlock) : Type 0 where
-  pub begins : block.start ≤ block.place
-  pub ends : block.place ≤ block_end block
+  pub begins : block.start ≤ block.offset
+  pub ends : block.offset ≤ block_end block
 
 -- each range stands within the lines of the block
 abbrev pub LieInBlock : LeafBlock → List RangedEvent → Type 0

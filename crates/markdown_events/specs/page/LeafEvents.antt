@@ -22,17 +22,17 @@ IsContentOf page here block content = IsContent block.kind here.containers here.
 
 -- what a block holds, between its start and its end
 abbrev pub enclosed : TagView (List ℕ) → LeafBlock → List RangedEvent → List RangedEvent
-enclosed tag block inner = element tag block.place (block_end block) inner
+enclosed tag block inner = element tag block.offset (block_end block) inner
 
 -- Where a block of lines begins: with its text, or where its first line does, which may have spaces or a part of a tab before that text
 -- (2.2, 4.6).
-abbrev pub lines_place : LeafBlock → List RangedEvent → ℕ
-lines_place block [] = block.place
-lines_place block (first ∷ later) = min block.place first.1.start
+abbrev pub lines_offset : LeafBlock → List RangedEvent → ℕ
+lines_offset block [] = block.offset
+lines_offset block (first ∷ later) = min block.offset first.1.start
 
 -- lines of code or HTML, between the start and the end of their block
 abbrev pub enclosed_lines : TagView (List ℕ) → LeafBlock → List RangedEvent → List RangedEvent
-enclosed_lines tag block lines = element tag (lines_place block lines) (block_end block) lines
+enclosed_lines tag block lines = element tag (lines_offset block lines) (block_end block) lines
 
 -- an event for each of the lines, before the first of which stands so much of a content
 abbrev pub line_events : (List ℕ → EventView (List ℕ)) → ℕ → List (List ℕ) → List RangedEvent
@@ -44,7 +44,7 @@ line_events event from (line ∷ lines) =
 pub record AreLineEvents (page : List ℕ) (here : Place) (block : LeafBlock) (event : List ℕ → EventView (List ℕ)) (events : List RangedEvent) : Type 0 where
   pub content : Placed
   pub is_content : IsContentOf page here block content
-  pub are_events : events ≡ map (placed block.start content.places) (line_events event 0 (lines_of content.text))
+  pub are_events : events ≡ map (placed block.start content.offsets) (line_events event 0 (lines_of content.text))
 
 -- the inlines of a paragraph or a heading
 pub record AreTextEvents (page : List ℕ) (setting : EventSetting) (here : Place) (block : LeafBlock) (events : List RangedEvent) : Type 0 where
@@ -52,7 +52,7 @@ pub record AreTextEvents (page : List ℕ) (setting : EventSetting) (here : Plac
   pub inlines : List RangedEvent
   pub is_content : IsContentOf page here block content
   pub are_inlines : AreInlineEvents content.text setting inlines
-  pub are_events : events ≡ map (placed block.start content.places) inlines
+  pub are_events : events ≡ map (placed block.start content.offsets) inlines
 
 -- what the inlines are enclosed by: nothing where they are a paragraph of a tight list (5.3)
 abbrev pub in_paragraph : Bool → LeafBlock → List RangedEvent → List RangedEvent
@@ -66,7 +66,7 @@ plain_heading level = heading level None [] []
 abbrev pub AreLeafEventsOf : BlockKind → List ℕ → EventSetting → Place → LeafBlock → List RangedEvent → Type 0
 AreLeafEventsOf Blank page setting here block events = events ≡ []
 AreLeafEventsOf Definition page setting here block events = events ≡ []
-AreLeafEventsOf Break page setting here block events = events ≡ ranged rule block.place (block_end block) ∷ []
+AreLeafEventsOf Break page setting here block events = events ≡ ranged rule block.offset (block_end block) ∷ []
 AreLeafEventsOf (Heading level) page setting here block events =
     (inner : List RangedEvent) × AreTextEvents page setting here block inner × (events ≡ enclosed (plain_heading level) block inner)
 AreLeafEventsOf (Setext level) page setting here block events =

@@ -6,16 +6,16 @@ use Rattle.markdown_blocks.specs.events.Events.{Event, ends}
 use Rattle.markdown_blocks.specs.blocks.Pages.{is_blank_kind}
 use Rattle.markdown_blocks.specs.lists.Lists.{Nodes, nothing, leaf_then, container_then, flatten}
 use Rattle.markdown_blocks.specs.lists.Lists.{begins_blank, children, are_parted, ends_blank, ends_blank_line}
-use Rattle.markdown_events.specs.declared.page.levels.Content.{Content}
+use Rattle.markdown_events.specs.declared.page.levels.ContainerContent.{ContainerContent}
 use Rattle.markdown_events.specs.declared.page.levels.ItemList.{ItemList}
 use Rattle.markdown_events.specs.declared.page.levels.LastBlock.{LastBlock}
 use Rattle.markdown_events.specs.declared.page.levels.Level.{Level}
 use Rattle.markdown_events.specs.declared.page.spans.Span.{Span}
-use Rattle.markdown_events.specs.page.Spans.{first_place, block_end, container_end, is_parted, is_alike, front_list, spans}
+use Rattle.markdown_events.specs.page.Spans.{first_offset, block_end, container_end, is_parted, is_alike, front_list, spans}
 
 -- ---- all blocks in a container
 
-abbrev pub content_of : Nodes → Content
+abbrev pub content_of : Nodes → ContainerContent
 content_of nodes = record {
   to = container_end nodes;
   is_parted = is_parted nodes;
@@ -37,7 +37,7 @@ abbrev pub last_of : Nodes → Option LastBlock
 last_of nothing = None
 last_of (leaf_then block later) =
     last_with (is_blank_kind block.kind) (last_of later) (record { to = block_end block; is_blank = begins_blank later })
-last_of (container_then container place inner later) =
+last_of (container_then container offset inner later) =
     last_with false (last_of later) (record { to = container_end inner; is_blank = is_followed container inner later })
 
 abbrev pub begins_blank_twice : Nodes → Bool
@@ -46,7 +46,7 @@ begins_blank_twice nodes = false
 
 abbrev pub level_of : Nodes → Level
 level_of nodes = record {
-  place = first_place nodes;
+  offset = first_offset nodes;
   last = last_of nodes;
   is_parted = are_parted (children false 0 0 nodes);
   begins_blank = begins_blank nodes;
@@ -63,8 +63,8 @@ goes_on container list = false
 
 -- blocks before which a block begins here, one more item of their list or not, that begins this list or none
 abbrev pub with_block : ℕ → LastBlock → Bool → Option ItemList → Level → Level
-with_block place block more list later = record {
-  place = place;
+with_block offset block more list later = record {
+  offset = offset;
   last = Some (unwrap_or later.last block);
   is_parted = (is_some later.last && (block.is_blank && not more)) || later.is_parted;
   begins_blank = false;

@@ -3,12 +3,12 @@ use Rattle.std.specs.Prelude.{ℕ, Bool, true, false, not, ◌-◌, List, [], �
 use Rattle.markdown_values.specs.values.Tags.{item}
 use Rattle.markdown_values.specs.declared.values.tags.TagEnd.{TagEnd}
 use Rattle.markdown_values.specs.declared.values.tags.TagEnd.TheVariants as End
-use Rattle.markdown_blocks.specs.containers.Containers.{settled}
+use Rattle.markdown_blocks.specs.containers.Containers.{past_first_line}
 use Rattle.markdown_blocks.specs.declared.containers.Container.{Container}
 use Rattle.markdown_blocks.specs.declared.containers.Container.TheVariants.{Item}
 use Rattle.markdown_blocks.specs.declared.containers.ListItem.{ListItem}
 use Rattle.markdown_blocks.specs.events.Events.{LeafBlock, leaf}
-use Rattle.markdown_blocks.specs.first_blocks.Waiting.{waiting_behind}
+use Rattle.markdown_blocks.specs.first_blocks.Waiting.{waiting_next}
 use Rattle.markdown_values.specs.values.Events.{EventView, start, end}
 use Rattle.markdown_events.specs.InlineEvents.{RangedEvent, ranged}
 use Rattle.markdown_events.specs.declared.page.open_elements.Edge.{Edge}
@@ -77,48 +77,48 @@ place_in s = record { containers = s.containers; kept = s.kept; is_tight = is_ti
 
 -- with the list that an item is in, which is open or begins with it
 abbrev pub begun_list : ListItem → ℕ → Span → OpenElement
-begun_list one place span = record {
-  element = element_of (list_tag one) place span.list_to;
+begun_list one offset span = record {
+  element = element_of (list_tag one) offset span.list_to;
   is_tight = not span.is_loose;
   is_last = false;
 }
 
 abbrev pub with_list : ListItem → ℕ → Span → List OpenElement → List OpenElement
-with_list one place span [] = begun_list one place span ∷ []
-with_list one place span (first ∷ outer) =
-    if is_list first.element.tag then first ∷ outer else begun_list one place span ∷ first ∷ outer
+with_list one offset span [] = begun_list one offset span ∷ []
+with_list one offset span (first ∷ outer) =
+    if is_list first.element.tag then first ∷ outer else begun_list one offset span ∷ first ∷ outer
 
 -- the elements that are open after a container begins with this span, before whose marker so many bytes of the page stand
 abbrev pub opened : Container → ℕ → Span → List OpenElement → List OpenElement
-opened (Item one) place span elements =
-    let lists = with_list one place span elements in
-    record { element = element_of item place span.to; is_tight = is_tight_in lists; is_last = span.is_last } ∷ lists
-opened container place span elements =
-    record { element = element_of (container_tag container) place span.to; is_tight = false; is_last = false } ∷ elements
+opened (Item one) offset span elements =
+    let lists = with_list one offset span elements in
+    record { element = element_of item offset span.to; is_tight = is_tight_in lists; is_last = span.is_last } ∷ lists
+opened container offset span elements =
+    record { element = element_of (container_tag container) offset span.to; is_tight = false; is_last = false } ∷ elements
 
 -- the starts of the list that a container begins, which is in a list or not, and of the container
 abbrev pub list_starts : Container → Bool → ℕ → Span → List RangedEvent
-list_starts (Item one) true place span = []
-list_starts (Item one) false place span = starting (list_tag one) place span.list_to
-list_starts container is_in_list place span = []
+list_starts (Item one) true offset span = []
+list_starts (Item one) false offset span = starting (list_tag one) offset span.list_to
+list_starts container is_in_list offset span = []
 
 abbrev pub start_events : Container → ℕ → Span → List OpenElement → List RangedEvent
-start_events container place span elements =
-    list_starts container (is_some (innermost_list elements)) place span ++ starting (container_tag container) place span.to
+start_events container offset span elements =
+    list_starts container (is_some (innermost_list elements)) offset span ++ starting (container_tag container) offset span.to
 
 -- after a container has begun
 abbrev pub begun : Container → ℕ → OpenElements → OpenElements
-begun container place s = record {
+begun container offset s = record {
   spans = drop 1 s.spans;
-  containers = s.containers ++ settled container ∷ [];
+  containers = s.containers ++ past_first_line container ∷ [];
   kept = s.kept;
   waiting = Some container;
-  elements = opened container place (next_span s.spans) s.elements;
+  elements = opened container offset (next_span s.spans) s.elements;
 }
 
 -- after a leaf block
 abbrev pub passed : LeafBlock → OpenElements → OpenElements
-passed block s = record s { kept = length s.containers; waiting = waiting_behind s.waiting (leaf block) }
+passed block s = record s { kept = length s.containers; waiting = waiting_next s.waiting (leaf block) }
 
 -- the innermost element has ended, and if it is the last item of a list, so has that
 abbrev pub closed : List OpenElement → List OpenElement

@@ -20,14 +20,14 @@ pub record Place : Type 0 where
 
 -- the range in the page of a range of a content, whose block begins after so many bytes
 abbrev pub page_range : ℕ → List ℕ → Range ℕ → Range ℕ
-page_range before places range =
-    let from = before + slice_index places range.start in record {
+page_range before offsets range =
+    let from = before + slice_index offsets range.start in record {
       start = from;
-      end = if nat_lt range.start range.end then before + slice_index places (range.end - 1) + 1 else from;
+      end = if nat_lt range.start range.end then before + slice_index offsets (range.end - 1) + 1 else from;
     }
 
 abbrev pub placed : ℕ → List ℕ → RangedEvent → RangedEvent
-placed before places event = (event.0, page_range before places event.1)
+placed before offsets event = (event.0, page_range before offsets event.1)
 
 -- the lines of the page that a leaf block has
 abbrev pub lines_in_page : List ℕ → LeafBlock → List (List ℕ)

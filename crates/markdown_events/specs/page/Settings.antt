@@ -5,7 +5,7 @@ use Rattle.markdown_values.specs.declared.values.extensions.Extensions.{Extensio
 use Rattle.markdown_values.specs.declared.values.extensions.Options.{Options}
 use Rattle.markdown_values.specs.values.Extensions.{asked_by, bits_of, extension_bits}
 use Rattle.markdown_events.specs.declared.settings.NewError.{NewError}
-use Rattle.markdown_events.specs.declared.settings.NewError.TheVariants.{NotBuilt, Refused}
+use Rattle.markdown_events.specs.declared.settings.NewError.TheVariants.{Unsupported, Refused}
 
 -- those of the extensions that events are built of: footnotes and definition lists are text
 abbrev pub built : Extensions → Extensions
@@ -17,5 +17,5 @@ not_built options = without 32 (bits_of options) (extension_bits (built (asked_b
 
 -- what an error says of the options: which of them are not built, at least one; or nothing, where memory was refused
 abbrev pub Explains : Options → NewError → Type 0
-Explains options (NotBuilt named) = (bits_of named ≡ not_built options) × ¬ (not_built options ≡ 0)
+Explains options (Unsupported named) = (bits_of named ≡ not_built options) × ¬ (not_built options ≡ 0)
 Explains options (Refused error) = ⊤

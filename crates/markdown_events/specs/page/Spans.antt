@@ -12,20 +12,20 @@ use Rattle.markdown_events.specs.declared.page.spans.Span.{Span}
 -- ---- where they end
 
 -- how many stand before the first of the nodes
-abbrev pub first_place : Nodes → ℕ
-first_place nothing = 0
-first_place (leaf_then block later) = block.place
-first_place (container_then container place inner later) = place
+abbrev pub first_offset : Nodes → ℕ
+first_offset nothing = 0
+first_offset (leaf_then block later) = block.offset
+first_offset (container_then container offset inner later) = offset
 
 -- Where the last of the blocks ends that is not blank, if this is where the one before them does. A container ends with its last
 -- block that is not blank; one without such a block ends where the rest of its line begins.
 abbrev pub last_end : ℕ → Nodes → ℕ
 last_end end nothing = end
 last_end end (leaf_then block later) = last_end (if is_blank_kind block.kind then end else block_end block) later
-last_end end (container_then container place inner later) = last_end (last_end (first_place inner) inner) later
+last_end end (container_then container offset inner later) = last_end (last_end (first_offset inner) inner) later
 
 abbrev pub container_end : Nodes → ℕ
-container_end inner = last_end (first_place inner) inner
+container_end inner = last_end (first_offset inner) inner
 
 -- ---- the lists of items (5.3)
 
@@ -63,9 +63,9 @@ list_with item inner set_off (Some list) =
 abbrev pub front_list : Nodes → Option ItemList
 front_list nothing = None
 front_list (leaf_then block later) = if is_blank_kind block.kind then front_list later else None
-front_list (container_then (Item item) place inner later) =
+front_list (container_then (Item item) offset inner later) =
     Some (list_with item inner (is_set_off item inner later) (front_list later))
-front_list (container_then container place inner later) = None
+front_list (container_then container offset inner later) = None
 
 -- ---- what is known of each container where it begins
 
@@ -88,4 +88,4 @@ span_of container inner later = record { to = container_end inner; is_loose = fa
 abbrev pub spans : Nodes → List Span
 spans nothing = []
 spans (leaf_then block later) = spans later
-spans (container_then container place inner later) = span_of container inner later ∷ spans inner ++ spans later
+spans (container_then container offset inner later) = span_of container inner later ∷ spans inner ++ spans later

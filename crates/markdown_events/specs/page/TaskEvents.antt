@@ -19,7 +19,7 @@ task_here asked waiting block = None
 
 -- a content after so many bytes
 abbrev pub after : ℕ → Placed → Placed
-after count content = record { text = drop count content.text; places = drop count content.places; is_lent = content.is_lent }
+after count content = record { text = drop count content.text; offsets = drop count content.offsets; is_lent = content.is_lent }
 
 -- how many bytes of a text are its marker, which has so many, and "at least one whitespace character before any other content"
 abbrev pub marker_end : ℕ → List ℕ → ℕ
@@ -30,7 +30,7 @@ after_marker task content = after (marker_end task.len content.text) content
 
 -- where a marker stands in the page
 abbrev pub marker_event : Task → RangedEvent
-marker_event task = ranged (task_list_marker task.is_checked) task.place (task.place + task.len)
+marker_event task = ranged (task_list_marker task.is_checked) task.offset (task.offset + task.len)
 
 -- These are the events of a paragraph with this marker: the marker, and the inlines of the rest of its content.
 pub record AreTaskEvents (page : List ℕ) (setting : EventSetting) (here : Place) (block : LeafBlock) (task : Task) (events : List RangedEvent) : Type 0 where
@@ -39,7 +39,7 @@ pub record AreTaskEvents (page : List ℕ) (setting : EventSetting) (here : Plac
   pub is_content : IsContentOf page here block content
   pub are_inlines : AreInlineEvents (after_marker task content).text setting inlines
   pub are_events : events
-      ≡ in_paragraph here.is_tight block (marker_event task ∷ map (placed block.start (after_marker task content).places) inlines)
+      ≡ in_paragraph here.is_tight block (marker_event task ∷ map (placed block.start (after_marker task content).offsets) inlines)
 
 -- the events of a leaf block, which begins with this marker or with none
 abbrev pub AreEventsWith : Option Task → List ℕ → EventSetting → Place → LeafBlock → List RangedEvent → Type 0

@@ -9,7 +9,7 @@ use markdown_blocks::byte_order_mark::text_start;
 use markdown_blocks::containers::Container;
 use markdown_blocks::events::{BlockEvent, BlockEvents};
 use markdown_blocks::link_definitions::LinkDefinitions;
-use markdown_blocks::taken::Taken;
+use markdown_blocks::taken::Extent;
 use markdown_blocks::walk::Walk;
 use markdown_values::values::Extensions;
 use std::alloc::{AllocError, Global};
@@ -48,7 +48,7 @@ fn read_bytes<'a>(
     let mut lines = 0;
     let mut bytes = text_start(page);
     loop {
-        let before = Taken { lines, bytes };
+        let before = Extent { lines, bytes };
         let depth = walk.containers().len();
         let Some(step) = walk.next_block(alloc, &mut content, &page[bytes..], true)? else {
             push_ends(&mut blocks, depth)?;

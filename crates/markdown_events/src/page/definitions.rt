@@ -1,5 +1,6 @@
 //! The link reference definitions of a page. (CommonMark 0.31.2, section 4.7)
-ghost use Rattle.std.specs.Prelude.{◌≡◌, IfNone, IfOk, IfSome, None, Some};
+ghost use Rattle.std.specs.Prelude.{◌≡◌, IfErr, IfNone, IfOk, IfSome, None, Some};
+ghost use Rattle.std.specs.Str.{IsUtf8};
 ghost use Rattle.markdown_values.specs.strings.Text.{cow_text};
 ghost use Rattle.markdown_blocks.specs.link_definitions.LinkDefinitions.{known_as};
 ghost use Rattle.markdown_blocks.specs.link_definitions.Listed.{AreListed};
@@ -7,7 +8,7 @@ ghost use Rattle.markdown_events.specs.Meanings.{IsTargetMeaning};
 ghost use Rattle.markdown_events.specs.Targets.{or_else, seen_target};
 
 use crate::definitions::{Definitions, Target};
-use crate::parts::{meaning_of, text_of};
+use crate::parts::{meaning_of, text_of, title_meaning};
 use markdown_blocks::link_definitions::{KnownDefinitions, LinkDefinition, LinkDefinitions};
 use markdown_values::strings::CowStr;
 use std::alloc::{AllocError, Global};
@@ -77,7 +78,7 @@ fn target_meaning<'a>(alloc: Global, written: Target<'a>) -> Result<Target<'a>, 
 {
     let destination = meaning_of(alloc, written.destination)?;
     let title = match written.title {
-        Some(title) => Some(meaning_of(alloc, title)?),
+        Some(title) => Some(title_meaning(alloc, title)?),
         None => None,
     };
     Ok(Target { destination, title })
@@ -161,7 +162,8 @@ fn copy_of(alloc: Global, bytes: &[u8]) -> Result<CowStr<'static>, AllocError>
 
 // The text that bytes of a definition are.
 fn text_in(bytes: &[u8]) -> Result<&str, AllocError>
-    ensures { IfOk result (λ text. text.now ≡ bytes.now) }
+    ensures text { IfOk result (λ text. text.now ≡ bytes.now) }
+    ensures refused { IfErr result (λ _. ¬ (IsUtf8 bytes.now)) }
 {
     // Most texts are ASCII, of which it costs little to tell.
     if bytes.is_ascii() {

@@ -90,10 +90,10 @@ pub(crate) fn content_in<'a>(
     ensures content { IfOk result (λ content. IsContent leaf.entry.kind
         here.entry.containers.now here.entry.kept
         (lines_in_page page.now (seen_leaf leaf.entry)) content) }
-    ensures places { IfOk result (λ content. CanPlace leaf.entry.start content) }
+    ensures offsets { IfOk result (λ content. CanPlace leaf.entry.start content) }
 {
     if is_plain_line(leaf) {
-        let offset = leaf.place.saturating_sub(leaf.start);
+        let offset = leaf.offset.saturating_sub(leaf.start);
         return Ok(line_content(alloc, leaf.text, offset));
     }
     let lines = lines_in(page.as_bytes(), leaf);
@@ -168,10 +168,10 @@ pub(crate) fn in_page<'a>(
     before: usize,
     content: &Content,
 ) -> Vec<(Event<'a>, Range<usize>)>
-    requires places { CanPlace before content.now }
+    requires offsets { CanPlace before content.now }
     requires within { EndWithin (length content.now.text) (map seen_event events.items) }
     ensures { map seen_event result.items
-        ≡ map (placed before content.now.places) (map seen_event events.entry.items) }
+        ≡ map (placed before content.now.offsets) (map seen_event events.entry.items) }
 {
     let mut events = events;
     move_to_page(&mut events, before, content);
@@ -182,13 +182,13 @@ pub(crate) fn in_page<'a>(
 // block.
 #[inline(always)]
 fn move_to_page(events: &mut [(Event, Range<usize>)], before: usize, content: &Content)
-    requires places { CanPlace before content.now }
+    requires offsets { CanPlace before content.now }
     requires within { EndWithin (length content.now.text) (map seen_event events.old) }
     ensures { map seen_event events.new
-        ≡ map (placed before content.now.places) (map seen_event events.old) }
+        ≡ map (placed before content.now.offsets) (map seen_event events.old) }
 {
     // Most contents are one run of the page.
-    match content.run_place() {
+    match content.source_start() {
         Some(origin) => move_run(events, before, content, origin),
         None => move_runs(events, before, content),
     }
@@ -201,7 +201,7 @@ fn move_run(events: &mut [(Event, Range<usize>)], before: usize, content: &Conte
     requires within { EndWithin (length content.now.text) (map seen_event events.old) }
     requires run { StandsFrom origin content.now }
     ensures { map seen_event events.new
-        ≡ map (placed before content.now.places) (map seen_event events.old) }
+        ≡ map (placed before content.now.offsets) (map seen_event events.old) }
 {
     for event in events.iter_mut() {
         event.1 = run_range(before, content, origin, event.1.start, event.1.end);
@@ -219,7 +219,7 @@ fn run_range(
     requires fit { CanPlace before content.now }
     requires within { end ≤ length content.now.text }
     requires run { StandsFrom origin content.now }
-    ensures { result ≡ page_range before content.now.places
+    ensures { result ≡ page_range before content.now.offsets
         (record { start = start; end = end }) }
 {
     if start < end {
@@ -234,12 +234,12 @@ fn move_runs(events: &mut [(Event, Range<usize>)], before: usize, content: &Cont
     requires fit { CanPlace before content.now }
     requires within { EndWithin (length content.now.text) (map seen_event events.old) }
     ensures { map seen_event events.new
-        ≡ map (placed before content.now.places) (map seen_event events.old) }
+        ≡ map (placed before content.now.offsets) (map seen_event events.old) }
 {
     let mut run = Run {
         start: 0,
         end: 0,
-        place: 0,
+        source: 0,
     };
     for event in events.iter_mut() {
         event.1 = page_range(before, content, &mut run, event.1.start, event.1.end);
@@ -259,7 +259,7 @@ fn page_range(
     requires fit { CanPlace before content.now }
     requires within { end ≤ length content.now.text }
     requires run { IsRunOf content.now run.old }
-    ensures range { result ≡ page_range before content.now.places
+    ensures range { result ≡ page_range before content.now.offsets
         (record { start = start; end = end }) }
     ensures run { IsRunOf content.now run.new }
 {
@@ -267,7 +267,7 @@ fn page_range(
         *run = content.run_at(start);
     }
     if is_within(*run, start, end) {
-        let from = before + run.place + (start - run.start);
+        let from = before + run.source + (start - run.start);
         return from..from + (end - start);
     }
     placed_range(before, content, start, end)
@@ -280,14 +280,14 @@ fn is_within(run: Run, start: usize, end: usize) -> bool
     run.start <= start && start < end && end <= run.end
 }
 
-// The range in the page of a range of the content, by the places of its first and its last byte.
+// The range in the page of a range of the content, by the offsets of its first and its last byte.
 //
 // It is not inlined: most contents are one run, whose ranges are moved in fewer instructions without it.
 #[inline(never)]
 fn placed_range(before: usize, content: &Content, start: usize, end: usize) -> Range<usize>
-    requires places { CanPlace before content.now }
+    requires offsets { CanPlace before content.now }
     requires within { end ≤ length content.now.text }
-    ensures { result ≡ page_range before content.now.places
+    ensures { result ≡ page_range before content.now.offsets
         (record { start = start; end = end }) }
 {
     let from = before + place_in(content, start);
@@ -298,13 +298,13 @@ fn placed_range(before: usize, content: &Content, start: usize, end: usize) -> R
     }
 }
 
-// The place of a byte of the content in the lines of its block.
+// The offset of a byte of the content in the lines of its block.
 fn place_in(content: &Content, offset: usize) -> usize
-    requires { length content.now.places ≡ length content.now.text }
-    ensures { result ≡ slice_index content.now.places offset }
+    requires { length content.now.offsets ≡ length content.now.text }
+    ensures { result ≡ slice_index content.now.offsets offset }
 {
     if offset < content.text().len() {
-        content.place(offset)
+        content.source_offset(offset)
     } else {
         0
     }

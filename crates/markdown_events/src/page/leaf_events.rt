@@ -14,7 +14,7 @@ ghost use Rattle.markdown_events.specs.InlineEvents.{EventSetting, ranged, seen_
 ghost use Rattle.markdown_events.specs.Meanings.{IsMeaning};
 ghost use Rattle.markdown_events.specs.page.InPage.{HasAsciiFence};
 ghost use Rattle.markdown_events.specs.page.LeafContent.{HasPlace, LieInBlock};
-ghost use Rattle.markdown_events.specs.page.LeafEvents.{AreLeafEvents, AreLeafEventsOf, HasNoEvents, enclosed, enclosed_lines, in_paragraph, lines_place, plain_heading};
+ghost use Rattle.markdown_events.specs.page.LeafEvents.{AreLeafEvents, AreLeafEventsOf, HasNoEvents, enclosed, enclosed_lines, in_paragraph, lines_offset, plain_heading};
 ghost use Rattle.markdown_events.specs.page.Spans.{block_end};
 ghost use Rattle.markdown_events.specs.page.Readings.{seen_place, seen_reading};
 
@@ -174,12 +174,12 @@ fn html_events<'a>(
 #[inline(never)]
 fn rule<'a>(alloc: Global, leaf: Leaf) -> Result<VecDeque<(Event<'a>, Range<usize>)>, AllocError>
     ensures rule { IfOk result (λ events. map seen_event events.items
-        ≡ ranged rule leaf.entry.place (block_end (seen_leaf leaf.entry)) ∷ []) }
+        ≡ ranged rule leaf.entry.offset (block_end (seen_leaf leaf.entry)) ∷ []) }
     ensures within { IfOk result (λ events. HasPlace (seen_leaf leaf.entry)
         → LieInBlock (seen_leaf leaf.entry) (map seen_event events.items)) }
 {
     let mut events = VecDeque::new(alloc);
-    events.push_back((Event::Rule, leaf.place..leaf.start + leaf.bytes))?;
+    events.push_back((Event::Rule, leaf.offset..leaf.start + leaf.bytes))?;
     Ok(events)
 }
 
@@ -197,7 +197,7 @@ fn enclosed<'a>(
         → LieInBlock (seen_leaf leaf.entry) (map seen_event inner.entry.items)
         → LieInBlock (seen_leaf leaf.entry) (map seen_event events.items)) }
 {
-    block_element(tag, leaf.place, leaf.start + leaf.bytes, inner)
+    block_element(tag, leaf.offset, leaf.start + leaf.bytes, inner)
 }
 
 // Lines of code or HTML, between the start and the end of their block.
@@ -213,17 +213,17 @@ fn enclosed_lines<'a>(
         → LieInBlock (seen_leaf leaf.entry) (map seen_event lines.entry.items)
         → LieInBlock (seen_leaf leaf.entry) (map seen_event events.items)) }
 {
-    let from = lines_place(leaf, &lines);
+    let from = lines_offset(leaf, &lines);
     block_element(tag, from, leaf.start + leaf.bytes, lines)
 }
 
 // Where a block of lines begins: with its text, or where its first line does. (2.2, 4.6)
-fn lines_place(leaf: Leaf, lines: &[(Event, Range<usize>)]) -> usize
-    ensures { result ≡ lines_place (seen_leaf leaf.entry) (map seen_event lines.now) }
+fn lines_offset(leaf: Leaf, lines: &[(Event, Range<usize>)]) -> usize
+    ensures { result ≡ lines_offset (seen_leaf leaf.entry) (map seen_event lines.now) }
 {
     match lines {
-        [first, ..] => leaf.place.min(first.1.start),
-        [] => leaf.place,
+        [first, ..] => leaf.offset.min(first.1.start),
+        [] => leaf.offset,
     }
 }
 

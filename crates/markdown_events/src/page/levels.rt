@@ -34,7 +34,7 @@ pub(crate) struct LastBlock {
 
 /// All that stands in a container.
 #[derive(Clone, Copy)]
-pub(crate) struct Content {
+pub(crate) struct ContainerContent {
     /// How many bytes of the page stand before what follows the container.
     pub(crate) to: usize,
     /// Whether a blank line stands between two of the blocks.
@@ -47,7 +47,7 @@ pub(crate) struct Content {
 #[derive(Clone, Copy)]
 pub(crate) struct Level {
     // How many bytes of the page stand before the first of them, blank lines too.
-    place: usize,
+    offset: usize,
     // The last of them that is not blank.
     last: Option<LastBlock>,
     // Whether a blank line stands between two of them.
@@ -67,7 +67,7 @@ impl Level {
         ensures { result ≡ level_of nothing }
     {
         Level {
-            place: 0,
+            offset: 0,
             last: None,
             is_parted: false,
             begins_blank: false,
@@ -84,25 +84,25 @@ impl Level {
             → self.new ≡ level_of (leaf_then (seen_leaf block.entry) later) }
     {
         if is_blank(block.kind) {
-            self.add_blank_line(block.place);
+            self.add_blank_line(block.offset);
             return;
         }
         let last = LastBlock {
             to: block.start + block.bytes,
             is_blank: self.begins_blank,
         };
-        self.add_block(block.place, last);
+        self.add_block(block.offset, last);
     }
 
     /// The blocks with a container before them, in which these stand.
     pub(crate) fn with_container(
         self,
         container: Container,
-        place: usize,
-        content: Content,
+        offset: usize,
+        content: ContainerContent,
     ) -> Level
         ensures { (inner later : Nodes) → content ≡ content_of inner → self ≡ level_of later
-            → result ≡ level_of (container_then container place inner later) }
+            → result ≡ level_of (container_then container offset inner later) }
     {
         let block = LastBlock {
             to: content.to,
@@ -110,11 +110,11 @@ impl Level {
         };
         let is_alike = goes_on(container, self.list);
         let list = self.list_begun(container, content);
-        self.with_block(place, block, is_alike, list)
+        self.with_block(offset, block, is_alike, list)
     }
 
     /// What the container spans in which these stand, before the blocks.
-    pub(crate) fn span_of(self, container: Container, content: Content) -> Span
+    pub(crate) fn span_of(self, container: Container, content: ContainerContent) -> Span
         ensures { (inner later : Nodes) → content ≡ content_of inner → self ≡ level_of later
             → result ≡ span_of container inner later }
     {
@@ -135,14 +135,14 @@ impl Level {
     }
 
     /// The blocks where no others stand before them in their container.
-    pub(crate) fn content(self) -> Content
+    pub(crate) fn content(self) -> ContainerContent
         ensures { (nodes : Nodes) → self ≡ level_of nodes → result ≡ content_of nodes }
     {
         let last = self.last.unwrap_or(LastBlock {
-            to: self.place,
+            to: self.offset,
             is_blank: self.begins_blank_twice,
         });
-        Content {
+        ContainerContent {
             to: last.to,
             is_parted: self.is_parted(),
             ends_blank: last.is_blank,
@@ -157,7 +157,7 @@ impl Level {
     }
 
     // Whether a blank line follows the container in which these stand, or ends it.
-    fn is_followed(self, container: Container, content: Content) -> bool
+    fn is_followed(self, container: Container, content: ContainerContent) -> bool
         ensures { (inner later : Nodes) → content ≡ content_of inner → self ≡ level_of later
             → result ≡ is_followed container inner later }
     {
@@ -166,10 +166,10 @@ impl Level {
     }
 
     // The list that the container begins in which these stand, if it is an item.
-    fn list_begun(self, container: Container, content: Content) -> Option<ItemList>
-        ensures { (place : ℕ) → (inner later : Nodes) → content ≡ content_of inner
+    fn list_begun(self, container: Container, content: ContainerContent) -> Option<ItemList>
+        ensures { (offset : ℕ) → (inner later : Nodes) → content ≡ content_of inner
             → self ≡ level_of later
-            → result ≡ front_list (container_then container place inner later) }
+            → result ≡ front_list (container_then container offset inner later) }
     {
         match container {
             Container::Item(item) => {
@@ -181,28 +181,28 @@ impl Level {
     }
 
     // Adds a blank line before the blocks, which begins here.
-    fn add_blank_line(&mut self, place: usize)
+    fn add_blank_line(&mut self, offset: usize)
         ensures { self.new ≡ record self.old {
-          place = place;
+          offset = offset;
           begins_blank = true;
           begins_blank_twice = self.old.begins_blank;
         } }
     {
-        self.place = place;
+        self.offset = offset;
         self.begins_blank_twice = self.begins_blank;
         self.begins_blank = true;
     }
 
     // Adds a block before the blocks that is not blank, begins here, and begins no list.
-    fn add_block(&mut self, place: usize, block: LastBlock)
-        ensures { self.new ≡ with_block place block false None self.old }
+    fn add_block(&mut self, offset: usize, block: LastBlock)
+        ensures { self.new ≡ with_block offset block false None self.old }
     {
         if self.last.is_some() {
             self.is_parted = block.is_blank || self.is_parted;
         } else {
             self.last = Some(block);
         }
-        self.place = place;
+        self.offset = offset;
         self.begins_blank = false;
         self.begins_blank_twice = false;
         self.list = None;
@@ -212,16 +212,16 @@ impl Level {
     // list or not, and that begins this list or none.
     fn with_block(
         self,
-        place: usize,
+        offset: usize,
         block: LastBlock,
         is_alike: bool,
         list: Option<ItemList>,
     ) -> Level
-        ensures { result ≡ with_block place block is_alike list self }
+        ensures { result ≡ with_block offset block is_alike list self }
     {
         let is_parted = self.last.is_some() && block.is_blank && !is_alike;
         Level {
-            place,
+            offset,
             last: Some(self.last.unwrap_or(block)),
             is_parted: is_parted || self.is_parted,
             begins_blank: false,
@@ -252,7 +252,7 @@ fn goes_on(container: Container, list: Option<ItemList>) -> bool
 // this list that go on with it.
 fn list_with(
     item: ListItem,
-    content: Content,
+    content: ContainerContent,
     is_followed: bool,
     list: Option<ItemList>,
 ) -> ItemList

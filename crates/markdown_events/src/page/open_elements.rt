@@ -16,7 +16,7 @@ use crate::elements::Element;
 use crate::page::reading::Place;
 use crate::page::spans::Span;
 use markdown_blocks::blocks::BlockKind;
-use markdown_blocks::containers::{Container, ListItem, settled};
+use markdown_blocks::containers::{Container, ListItem, past_first_line};
 use markdown_blocks::events::Leaf;
 use markdown_values::strings::CowStr;
 use markdown_values::values::{Event, Tag, TagEnd};
@@ -131,19 +131,19 @@ impl OpenElements {
     pub(crate) fn begin(
         &mut self,
         container: Container,
-        place: usize,
+        offset: usize,
     ) -> Result<(Option<Edge>, Edge), AllocError>
-        ensures begun { OnOk result (self.new ≡ begun container place self.old) }
+        ensures begun { OnOk result (self.new ≡ begun container offset self.old) }
         ensures starts { IfOk result (λ starts.
             map edge_event (option_to_list starts.0 ++ starts.1 ∷ [])
-            ≡ start_events container place (next_span self.old.spans) self.old.elements) }
+            ≡ start_events container offset (next_span self.old.spans) self.old.elements) }
         ensures refused { IfErr result (λ _. self.new ≡ self.old) }
     {
         let span = self.next_span();
         let is_in_list = is_in_list(&self.elements);
-        self.containers.push(settled(container))?;
+        self.containers.push(past_first_line(container))?;
         let count = self.elements.len();
-        if let Err(refused) = open_container(&mut self.elements, container, place, span) {
+        if let Err(refused) = open_container(&mut self.elements, container, offset, span) {
             self.elements.truncate(count);
             self.containers.pop();
             return Err(refused);
@@ -151,8 +151,8 @@ impl OpenElements {
         self.spans.pop();
         self.waiting = Some(container);
         Ok((
-            list_start(is_in_list, container, place, span),
-            container_start(container, place, span),
+            list_start(is_in_list, container, offset, span),
+            container_start(container, offset, span),
         ))
     }
 
@@ -197,16 +197,16 @@ impl OpenElements {
 fn open_container(
     elements: &mut Vec<OpenElement>,
     container: Container,
-    place: usize,
+    offset: usize,
     span: Span,
 ) -> Result<(), AllocError>
     ensures opened { OnOk result (reverse elements.new.items
-        ≡ opened container place span (reverse elements.old.items)) }
+        ≡ opened container offset span (reverse elements.old.items)) }
     ensures kept { take (length elements.old.items) elements.new.items ≡ elements.old.items }
 {
     let (is_tight, is_last) = match container {
         Container::Item(item) => {
-            open_list(elements, item, place, span)?;
+            open_list(elements, item, offset, span)?;
             (is_tight_in(elements), span.is_last)
         }
         _ => (false, false),
@@ -214,7 +214,7 @@ fn open_container(
     elements.push(OpenElement {
         element: Element {
             tag: end_tag(container),
-            from: place,
+            from: offset,
             to: span.to,
         },
         is_tight,
@@ -227,11 +227,11 @@ fn open_container(
 fn open_list(
     elements: &mut Vec<OpenElement>,
     item: ListItem,
-    place: usize,
+    offset: usize,
     span: Span,
 ) -> Result<(), AllocError>
     ensures opened { OnOk result (reverse elements.new.items
-        ≡ with_list item place span (reverse elements.old.items)) }
+        ≡ with_list item offset span (reverse elements.old.items)) }
     ensures kept { take (length elements.old.items) elements.new.items ≡ elements.old.items }
 {
     if is_in_list(elements) {
@@ -240,7 +240,7 @@ fn open_list(
     elements.push(OpenElement {
         element: Element {
             tag: TagEnd::List(is_ordered(item)),
-            from: place,
+            from: offset,
             to: span.list_to,
         },
         is_tight: !span.is_loose,
@@ -260,9 +260,9 @@ fn is_in_list(elements: &[OpenElement]) -> bool
 }
 
 // The start of the list that a container begins, which is in a list or not.
-fn list_start(is_in_list: bool, container: Container, place: usize, span: Span) -> Option<Edge>
+fn list_start(is_in_list: bool, container: Container, offset: usize, span: Span) -> Option<Edge>
     ensures { map edge_event (option_to_list result)
-        ≡ list_starts container is_in_list place span }
+        ≡ list_starts container is_in_list offset span }
 {
     let Container::Item(item) = container else {
         return None;
@@ -272,18 +272,18 @@ fn list_start(is_in_list: bool, container: Container, place: usize, span: Span) 
     }
     Some(Edge {
         kind: EdgeKind::List(item),
-        from: place,
+        from: offset,
         to: span.list_to,
     })
 }
 
 // The start of a container.
-fn container_start(container: Container, place: usize, span: Span) -> Edge
-    ensures { edge_event result ∷ [] ≡ starting (container_tag container) place span.to }
+fn container_start(container: Container, offset: usize, span: Span) -> Edge
+    ensures { edge_event result ∷ [] ≡ starting (container_tag container) offset span.to }
 {
     Edge {
         kind: EdgeKind::Container(container),
-        from: place,
+        from: offset,
         to: span.to,
     }
 }

@@ -11,6 +11,15 @@ pub(crate) struct Reading<'a, 'r, D> {
     pub(crate) asked: Extensions,
     /// Where labels lead.
     pub(crate) definitions: &'r D,
+    pub(crate) room: Room,
+}
+
+/// How many bytes references may still add to a page, and how many cells its rows may still be filled
+/// in with.
+#[derive(Clone, Copy)]
+pub(crate) struct Room {
+    pub(crate) references: usize,
+    pub(crate) cells: usize,
 }
 
 /// Where a leaf block stands: in these containers, of which its first line goes on with `kept`,

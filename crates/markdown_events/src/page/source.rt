@@ -203,7 +203,9 @@ impl<'a, 'c> Placed<'a, 'c> {
         if offset >= self.content.text().len() {
             return None;
         }
-        let from = self.before.saturating_add(self.content.place(offset));
+        let from = self
+            .before
+            .saturating_add(self.content.source_offset(offset));
         let run = self.page.get(from..from.saturating_add(words.len()))?;
         if run.as_bytes() == words {
             Some(run)

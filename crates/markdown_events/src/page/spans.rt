@@ -77,7 +77,7 @@ impl Reader {
             → IsKnownOf (seen_event event.entry ∷ events) self.new) }
     {
         match event {
-            BlockEvent::Start(container, place) => self.start(container, place),
+            BlockEvent::Start(container, offset) => self.start(container, offset),
             BlockEvent::Block(leaf) => {
                 self.level.add_leaf(leaf);
                 Ok(())
@@ -91,16 +91,16 @@ impl Reader {
     }
 
     // A container begins.
-    fn start(&mut self, container: Container, place: usize) -> Result<(), AllocError>
+    fn start(&mut self, container: Container, offset: usize) -> Result<(), AllocError>
         ensures { OnOk result ((events : List Event) → IsKnownOf events self.old
-            → IsKnownOf (starts container place ∷ events) self.new) }
+            → IsKnownOf (starts container offset ∷ events) self.new) }
     {
         let Some(later) = self.outer.pop() else {
             return Ok(());
         };
         let content = self.level.content();
         self.spans.push(later.span_of(container, content))?;
-        self.level = later.with_container(container, place, content);
+        self.level = later.with_container(container, offset, content);
         Ok(())
     }
 }

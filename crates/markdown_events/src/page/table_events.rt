@@ -1,16 +1,18 @@
 //! The events of a table. (GitHub Flavored Markdown 0.29, section 4.10)
-ghost use Rattle.std.specs.Prelude.{◌≡◌, ◌+◌, ◌-◌, ◌^◌, ◌<◌, ◌≤◌, [], ◌∷◌, true, ℕ, suc, length, map, IfOk, OnOk};
+ghost use Rattle.std.specs.Prelude.{◌≡◌, ◌+◌, ◌-◌, ◌*◌, ◌^◌, ◌<◌, ◌≤◌, [], ◌∷◌, true, ℕ, suc, length, map, IfNone, IfOk, IfSome, IsTrue, OnOk};
 ghost use Rattle.std.specs.Str.{IsCharBoundary, IsUtf8};
 ghost use Rattle.markdown_values.specs.strings.Text.{cow_text};
 ghost use Rattle.markdown_values.specs.values.Tags.{tag_view};
 ghost use Rattle.markdown_blocks.specs.cells.Cells.{cells_of};
 ghost use Rattle.markdown_blocks.specs.events.Events.{seen_leaf};
 ghost use Rattle.markdown_blocks.specs.laws.Characters.{IsCutOut};
-ghost use Rattle.markdown_blocks.specs.rows.Rows.{seen_row};
+ghost use Rattle.markdown_blocks.specs.rows.Rows.{rows_of, seen_row};
+ghost use Rattle.markdown_scanners_tree.specs.scanners.TextLines.{lines_of};
 ghost use Rattle.markdown_events.specs.InlineEvents.{seen_event};
 ghost use Rattle.markdown_events.specs.page.LeafContent.{HasPlace, LieInBlock};
 ghost use Rattle.markdown_events.specs.TagEnds.{tag_end};
-ghost use Rattle.markdown_events.specs.page.TableEvents.{Adds, AreCellEvents, AreRowEvents, AreTableEvents, AreUtf8, RowsEndBy, row_len, row_tag, shown_cells};
+ghost use Rattle.markdown_events.specs.page.TableEvents.{Adds, AreCellEvents, AreRowEvents, AreTableEvents, AreUtf8, RowsEndBy};
+ghost use Rattle.markdown_events.specs.page.TableEvents.{are_filled, row_len, row_tag, shown_cells};
 ghost use Rattle.markdown_events.specs.page.Readings.{seen_place, seen_reading};
 
 use crate::definitions::Definitions;
@@ -24,7 +26,7 @@ use markdown_blocks::cells::{Cell, Cells, cells_of};
 use markdown_blocks::content::cell_content;
 use markdown_blocks::events::Leaf;
 use markdown_blocks::rows::{Row, Rows, alignments_of, rows_of};
-use markdown_scanners_tree::scanners::line_head;
+use markdown_scanners_tree::scanners::{line_head, scan_lines};
 use markdown_values::values::{Event, Tag, TagEnd};
 use std::alloc::{AllocError, Global};
 use std::collections::VecDeque;
@@ -32,8 +34,8 @@ use std::ops::Range;
 
 /// The events of a table with so many columns, each with its range in the page.
 ///
-/// The time is linear in the lines and in the events: each row has as many cells as there are
-/// columns, however few its line has.
+/// The time is linear in the lines and in the events. Where rows are filled in, each has as many cells
+/// as there are columns, however few its line has.
 #[inline(never)]
 pub(crate) fn table_events<'a, D: Definitions<'a>>(
     reading: &Reading<'a, '_, D>,
@@ -52,7 +54,11 @@ pub(crate) fn table_events<'a, D: Definitions<'a>>(
     let lines = lines_in(reading.page.as_bytes(), leaf);
     let alignments = alignments_of(reading.alloc, lines, here.containers)?;
     let rows = rows_of(lines, here.containers, here.kept);
-    let (from, to) = (leaf.place, leaf.start + leaf.bytes);
+    let columns = Columns {
+        count: columns,
+        are_filled: are_filled(reading.room.cells, columns, lines, here),
+    };
+    let (from, to) = (leaf.offset, leaf.start + leaf.bytes);
     // A table has two events more than its rows.
     let mut events = take_room(reading.alloc, &mut memory.events, 2)?;
     push_event(&mut events, Event::Start(Tag::Table(alignments)), from, to)?;
@@ -61,14 +67,63 @@ pub(crate) fn table_events<'a, D: Definitions<'a>>(
     Ok(VecDeque::from(events))
 }
 
-// Adds the events of the rows of a table with so many columns, before whose lines so many bytes of
-// the page stand.
+// How many columns a table has, and whether its rows are filled in, so that each has as many cells.
+#[derive(Clone, Copy)]
+struct Columns {
+    count: usize,
+    are_filled: bool,
+}
+
+// Whether in the rows of these lines, which are a table with so many columns that stands here, no
+// more cells are missing than so many.
+fn are_filled(cells: usize, columns: usize, lines: &[u8], here: Place<'_>) -> bool
+    ensures { result ≡ are_filled cells columns
+        (rows_of here.entry.kept here.entry.containers.now (lines_of lines.now)) }
+{
+    if has_few_lines(cells, columns, lines) {
+        return true;
+    }
+    miss_few(cells, columns, rows_of(lines, here.containers, here.kept))
+}
+
+// Whether rows of so many columns have no more than so many cells, if there are as many as lines.
+fn has_few_lines(cells: usize, columns: usize, lines: &[u8]) -> bool
+    ensures { IsTrue result → length (lines_of lines.now) * columns ≤ cells }
+{
+    let mut left = cells;
+    for _line in scan_lines(lines) {
+        if columns > left {
+            return false;
+        }
+        left -= columns;
+    }
+    true
+}
+
+// Whether no more cells are missing in rows of so many columns than so many.
+fn miss_few(cells: usize, columns: usize, rows: Rows) -> bool
+    ensures { result ≡ are_filled cells columns rows.entry }
+{
+    let mut rows = rows;
+    let mut left = cells;
+    while let Some(row) = rows.next() {
+        let missing = columns.saturating_sub(cells_of(row.text).count());
+        if missing > left {
+            return false;
+        }
+        left -= missing;
+    }
+    true
+}
+
+// Adds the events of the rows of a table with these columns, before whose lines so many bytes of the
+// page stand.
 fn push_rows<'a, D: Definitions<'a>>(
     reading: &Reading<'a, '_, D>,
     memory: &mut InlineMemory<'a>,
     events: &mut Vec<(Event<'a>, Range<usize>)>,
     before: usize,
-    columns: usize,
+    columns: Columns,
     rows: Rows,
 ) -> Result<(), AllocError>
     requires within { RowsEndBy before (2 ^ 64 - 1) rows }
@@ -92,17 +147,17 @@ fn push_row<'a, D: Definitions<'a>>(
     memory: &mut InlineMemory<'a>,
     events: &mut Vec<(Event<'a>, Range<usize>)>,
     before: usize,
-    columns: usize,
+    columns: Columns,
     row: Row,
     is_head: bool,
 ) -> Result<(), AllocError>
-    requires fits { before + row.place + length row.text.now < 2 ^ 64 }
+    requires fits { before + row.offset + length row.text.now < 2 ^ 64 }
     requires utf8 { IsUtf8 row.text.now }
     ensures { OnOk result (Adds (AreRowEvents (seen_reading D.targets reading.now)
         columns before is_head (seen_row row.entry ∷ []))
         (map seen_event events.old.items) (map seen_event events.new.items)) }
 {
-    let from = before + row.place;
+    let from = before + row.offset;
     let to = from + row_len(row.text);
     let (tag, end) = row_tags(is_head);
     push_event(events, Event::Start(tag), from, to)?;
@@ -141,34 +196,39 @@ fn push_cells<'a, D: Definitions<'a>>(
     memory: &mut InlineMemory<'a>,
     events: &mut Vec<(Event<'a>, Range<usize>)>,
     before: usize,
-    columns: usize,
+    columns: Columns,
     text: &[u8],
 ) -> Result<(), AllocError>
     requires fits { before + length text.now < 2 ^ 64 }
     requires utf8 { IsUtf8 text.now }
     ensures { OnOk result (Adds (AreCellEvents (seen_reading D.targets reading.now)
-        before text.now (shown_cells columns (row_len text.now) (cells_of text.now)))
+        before text.now (shown_cells columns.are_filled columns.count (row_len text.now)
+        (cells_of text.now)))
         (map seen_event events.old.items) (map seen_event events.new.items)) }
 {
     let end = row_len(text);
     let mut cells = cells_of(text);
-    let mut left = columns;
+    let mut left = columns.count;
     while left > 0 {
-        let cell = next_cell(&mut cells, end);
+        let Some(cell) = next_cell(&mut cells, end, columns.are_filled) else {
+            return Ok(());
+        };
         push_cell(reading, memory, events, before, text, cell)?;
         left -= 1;
     }
     Ok(())
 }
 
-// The next cell, or an empty one at the end of the row.
-fn next_cell(cells: &mut Cells, end: usize) -> Cell
-    ensures { (columns : ℕ) → shown_cells (suc columns) end cells.old
-        ≡ result ∷ shown_cells columns end cells.new }
+// The next cell; after the last an empty one at the end of the row, if that is filled in.
+fn next_cell(cells: &mut Cells, end: usize, is_filled: bool) -> Option<Cell>
+    ensures next { IfSome result (λ cell. (columns : ℕ) → shown_cells is_filled (suc columns) end
+        cells.old ≡ cell ∷ shown_cells is_filled columns end cells.new) }
+    ensures none { IfNone result ((columns : ℕ) → shown_cells is_filled columns end cells.old ≡ []) }
 {
     match cells.next() {
-        Some(cell) => cell,
-        None => Cell { start: end, end },
+        Some(cell) => Some(cell),
+        None if is_filled => Some(Cell { start: end, end }),
+        None => None,
     }
 }
 

@@ -87,13 +87,16 @@ fn with_marker<'a>(
     events: Vec<(Event<'a>, Range<usize>)>,
     task: Task,
 ) -> Result<Vec<(Event<'a>, Range<usize>)>, AllocError>
-    requires fits { task.place + task.len < 2 ^ 64 }
+    requires fits { task.offset + task.len < 2 ^ 64 }
     ensures { IfOk result (λ all. map seen_event all.items
         ≡ marker_event task ∷ map seen_event events.entry.items) }
 {
-    let end = task.place + task.len;
+    let end = task.offset + task.len;
     let mut events = events;
-    events.insert(0, (Event::TaskListMarker(task.is_checked), task.place..end))?;
+    events.insert(
+        0,
+        (Event::TaskListMarker(task.is_checked), task.offset..end),
+    )?;
     Ok(events)
 }
 
@@ -105,11 +108,11 @@ fn rest_in_page<'a>(
     content: &Content,
     front: usize,
 ) -> Vec<(Event<'a>, Range<usize>)>
-    requires places { CanPlace before content.now }
+    requires offsets { CanPlace before content.now }
     requires within { EndWithin (length (drop front content.now.text))
         (map seen_event events.items) }
     ensures { map seen_event result.items
-        ≡ map (placed before (after front content.now).places) (map seen_event events.entry.items) }
+        ≡ map (placed before (after front content.now).offsets) (map seen_event events.entry.items) }
 {
     let mut events = events;
     move_rest(&mut events, before, content, front);
@@ -118,10 +121,10 @@ fn rest_in_page<'a>(
 
 // Moves the ranges of such events to the page.
 fn move_rest(events: &mut [(Event, Range<usize>)], before: usize, content: &Content, front: usize)
-    requires places { CanPlace before content.now }
+    requires offsets { CanPlace before content.now }
     requires within { EndWithin (length (drop front content.now.text)) (map seen_event events.old) }
     ensures { map seen_event events.new
-        ≡ map (placed before (after front content.now).places) (map seen_event events.old) }
+        ≡ map (placed before (after front content.now).offsets) (map seen_event events.old) }
 {
     for event in events.iter_mut() {
         event.1 = rest_range(before, content, front, event.1.start, event.1.end);
@@ -136,27 +139,27 @@ fn rest_range(
     start: usize,
     end: usize,
 ) -> Range<usize>
-    requires places { CanPlace before content.now }
+    requires offsets { CanPlace before content.now }
     requires within { end ≤ length (drop front content.now.text) }
-    ensures { result ≡ page_range before (after front content.now).places
+    ensures { result ≡ page_range before (after front content.now).offsets
         (record { start = start; end = end }) }
 {
-    let from = before + place_after(content, front, start);
+    let from = before + offset_after(content, front, start);
     if start < end {
-        from..before + place_after(content, front, end - 1) + 1
+        from..before + offset_after(content, front, end - 1) + 1
     } else {
         from..from
     }
 }
 
-// The place of a byte in the lines of its block, by its offset in what the content has after `front`
+// The offset of a byte in the lines of its block, by its offset in what the content has after `front`
 // bytes.
-fn place_after(content: &Content, front: usize, offset: usize) -> usize
-    requires { length content.now.places ≡ length content.now.text }
-    ensures { result ≡ slice_index (after front content.now).places offset }
+fn offset_after(content: &Content, front: usize, offset: usize) -> usize
+    requires { length content.now.offsets ≡ length content.now.text }
+    ensures { result ≡ slice_index (after front content.now).offsets offset }
 {
     if offset < content.text().len().saturating_sub(front) {
-        content.place(front + offset)
+        content.source_offset(front + offset)
     } else {
         0
     }

@@ -1,7 +1,7 @@
 use Rattle.std.proofs.Common.{[], arith, refl, rules, map, subst}
 use Rattle.std.specs.List.{All}
 use Rattle.markdown_events.specs.EventLaws.{AreWithin}
-use Rattle.markdown_events.specs.InlineEvents.{AreEvents, AreInlineEvents, EventSetting, seen_event}
+use Rattle.markdown_events.specs.InlineEvents.{AreEvents, AreInlineEvents, EventSetting, event_setting, seen_event}
 use Rattle.markdown_events.specs.Passes.{IsFound}
 use Rattle.markdown_events.specs.Targets.{Targets}
 use Rattle.markdown_events.proofs.inline_events.Found.{text_found, text_ends, text_within}
@@ -25,7 +25,7 @@ push_inlines-requires g c = λ lifetimes.
 
 pub returns-clause-balanced : goal.returns-clause-balanced
 returns-clause-balanced g c =
-    let setting : EventSetting = record { asked = c.args.extensions; targets = g.D.Definitions.targets c.args.definitions.now } in
+    let setting : EventSetting = event_setting c.args.extensions (g.D.Definitions.targets c.args.definitions.now) in
     let are : AreInlineEvents c.args.source.now setting (map seen_event c.into_parts-events.result.0.items) = search rules in
     events_balance c.args.source.now setting (map seen_event c.into_parts-events.result.0.items) are
 

@@ -6,7 +6,7 @@ use Rattle.markdown_events.proofs.link_tags.read_label.Goals as goal
 pub returns-in-Some : goal.returns-in-Some
 returns-in-Some c = λ close name is.
     let found = rw c.in-Some.is at c.in_ok-label.ensures.found in
-    let same : found.label ≡ is.label = one_label_unskipped (drop c.args.place c.args.text.now) found.label is.label found.is_label is.is_label in
+    let same : found.label ≡ is.label = one_label_unskipped (drop c.args.offset c.args.text.now) found.label is.label found.is_label is.is_label in
     found.named ∙ (ap (λ (l : Label). l.text) same ∙ sym is.named)
 
 pub returns-in-None : goal.returns-in-None

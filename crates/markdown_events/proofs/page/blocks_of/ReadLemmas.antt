@@ -9,7 +9,7 @@ use Rattle.markdown_blocks.specs.blocks.Pages.{root}
 use Rattle.markdown_blocks.specs.containers.Containers.{Between}
 use Rattle.markdown_values.specs.declared.values.extensions.Extensions.{Extensions}
 use Rattle.markdown_blocks.specs.declared.step.Step.{Step}
-use Rattle.markdown_blocks.specs.declared.taken.Taken.{Taken}
+use Rattle.markdown_blocks.specs.declared.taken.Extent.{Extent}
 use Rattle.markdown_blocks.specs.declared.containers.Container.{Container}
 use Rattle.markdown_blocks.specs.definitions.Definitions.{IsDefinition}
 use Rattle.markdown_blocks.specs.events.Events.{Event, IsEventsOf, LeafBlock, ends, leaf, leaf_of, open_after, started}
@@ -26,6 +26,7 @@ from_here open_now text line start = record {
   extensions = open_now.extensions;
   containers = open_now.containers;
   term = open_now.term;
+  paragraph = open_now.paragraph;
   begun = length open_now.containers;
   line = line;
   start = start;
@@ -43,7 +44,7 @@ whole_page asked page events g = (
 )
 
 -- with the events of a block those that are left are given
-pub block_given : (old new : Between) (lines : List ℕ) (step : Step) → IsStep old lines [] step new → (before : Taken) (content : List ℕ)
+pub block_given : (old new : Between) (lines : List ℕ) (step : Step) → IsStep old lines [] step new → (before : Extent) (content : List ℕ)
     → IsContentOf step new.containers content → (here later : List Event)
     → GivesBlock new.containers content (block_left step before (length old.containers)) here
     → Gives (from_here new (drop step.block.taken.bytes lines) (before.lines + step.block.taken.lines) (before.bytes + step.block.taken.bytes)) later
@@ -66,7 +67,7 @@ block_given old new lines step s before content gathered here later given g =
 -- at the end of the page all containers end
 pub all_end : (open_now : Between) (text : List ℕ) (line start : ℕ) → text ≡ []
     → Gives (from_here open_now text line start) (replicate (length open_now.containers) ends)
-all_end open_now text line start last = ended_page text open_now.extensions open_now.containers open_now.term line start (length open_now.containers) last
+all_end open_now text line start last = ended_page text open_now.extensions open_now.containers open_now.term open_now.paragraph line start (length open_now.containers) last
 
 -- no definition stands in no content
 pub none_in_nothing : (content : List ℕ) → length content ≡ 0 → (d : ReferenceDefinition) → ¬ IsDefinition content d
@@ -83,8 +84,8 @@ leaf_given outer content left block nothing ended begun some is = record {
     λ none. omega (arith, some, ap length none),
     inr (none_in_nothing (drop left.used content) (omega (arith, nothing, length-drop left.used content)), is, refl),
   );
-  given = sym (ap (λ n. replicate n ends ++ started left.front left.place (drop left.begun outer) ++ map leaf (block ∷ [])) ended
-      ∙ ap (λ cs. started left.front left.place cs ++ map leaf (block ∷ [])) (drop_all left.begun outer begun));
+  given = sym (ap (λ n. replicate n ends ++ started left.front left.position (drop left.begun outer) ++ map leaf (block ∷ [])) ended
+      ∙ ap (λ cs. started left.front left.position cs ++ map leaf (block ∷ [])) (drop_all left.begun outer begun));
 }
 
 -- a block has a line

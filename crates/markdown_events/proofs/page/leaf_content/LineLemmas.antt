@@ -15,7 +15,7 @@ use Rattle.markdown_blocks.proofs.ForCallers.{line_cut}
 use Rattle.markdown_events.specs.InlineEvents.{RangedEvent, ranged, seen_event}
 use Rattle.markdown_events.specs.page.LeafContent.{EndWithin, line_event}
 use Rattle.markdown_events.specs.page.LeafEvents.{line_events}
-use Rattle.markdown_events.proofs.parts.RestLemmas.{from_place}
+use Rattle.markdown_events.proofs.parts.RestLemmas.{from_offset}
 
 -- where the first line of a text ends, the text may be cut
 line_ends : (text : List ℕ) (n : ℕ) → IsUtf8 text → 0 < length text → n ≤ length text → n ≡ line_length text → IsCharBoundary text n
@@ -31,7 +31,7 @@ pub line_there : (text bytes : List ℕ) (from n : ℕ) → bytes ≡ text → f
     → (from < length text) × (n ≡ line_length (drop from text)) × (from + n ≤ length text)
 line_there text bytes from n same low is within =
     let sizes = ap length same in
-    let rest = from_place bytes from in (
+    let rest = from_offset bytes from in (
       omega (arith, low, sizes),
       is ∙ (ap line_length rest ∙ ap (λ (t : List ℕ). line_length (drop from t)) same),
       omega (arith, within, ap length rest, length-drop from bytes, sizes, low),

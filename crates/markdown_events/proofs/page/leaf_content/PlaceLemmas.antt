@@ -54,54 +54,54 @@ events_within source events are = rise_within (length source) (length source ∷
 
 -- ---- on the page
 
-pub places_rise : (from : ℕ) (places : List ℕ) (i j : ℕ) → DoNotFall from places → i ≤ j → j < length places
-    → (from ≤ slice_index places i) × (slice_index places i ≤ slice_index places j)
-places_rise from [] i j rise less low = absurd (omega (arith, low))
-places_rise from (place ∷ places) zero zero rise less low = (rise.0, omega arith)
-places_rise from (place ∷ places) zero (suc j) rise less low =
-    let more = places_rise place places 0 j rise.1 (omega arith) (omega (arith, low)) in
+pub offsets_rise : (from : ℕ) (offsets : List ℕ) (i j : ℕ) → DoNotFall from offsets → i ≤ j → j < length offsets
+    → (from ≤ slice_index offsets i) × (slice_index offsets i ≤ slice_index offsets j)
+offsets_rise from [] i j rise less low = absurd (omega (arith, low))
+offsets_rise from (offset ∷ offsets) zero zero rise less low = (rise.0, omega arith)
+offsets_rise from (offset ∷ offsets) zero (suc j) rise less low =
+    let more = offsets_rise offset offsets 0 j rise.1 (omega arith) (omega (arith, low)) in
     (rise.0, omega (arith, more))
-places_rise from (place ∷ places) (suc i) zero rise less low = absurd (omega (arith, less))
-places_rise from (place ∷ places) (suc i) (suc j) rise less low =
-    let more = places_rise place places i j rise.1 (omega (arith, less)) (omega (arith, low)) in
+offsets_rise from (offset ∷ offsets) (suc i) zero rise less low = absurd (omega (arith, less))
+offsets_rise from (offset ∷ offsets) (suc i) (suc j) rise less low =
+    let more = offsets_rise offset offsets i j rise.1 (omega (arith, less)) (omega (arith, low)) in
     (omega (arith, rise.0, more), more.1)
 
 module _ (before bytes : ℕ) (lines : List ℕ) (content : Placed) (few : length lines ≤ bytes)
-    (each : length content.places ≡ length content.text) (stands : AreBytesOf lines content) (rises : DoNotFall 0 content.places) where
-  low : (offset : ℕ) → slice_index content.places offset ≤ bytes
+    (each : length content.offsets ≡ length content.text) (stands : AreBytesOf lines content) (rises : DoNotFall 0 content.offsets) where
+  low : (offset : ℕ) → slice_index content.offsets offset ≤ bytes
   low offset = elim (leb_tells (length content.text) offset) [
-    | inl past ↦ (let none : slice_index content.places offset ≡ 0 = get_or_past content.places offset 0 (omega (arith, past.1, each)) in
+    | inl past ↦ (let none : slice_index content.offsets offset ≡ 0 = get_or_past content.offsets offset 0 (omega (arith, past.1, each)) in
         omega (arith, none))
     | inr inside ↦ (let there = stands offset (omega (arith, inside.1)) in
         omega (arith, there.0, few))
   ]
 
   -- a range of the content stands in the lines
-  range_lies : (range : Range ℕ) → range.end ≤ length content.text → LiesIn before (before + bytes) (page_range before content.places range)
+  range_lies : (range : Range ℕ) → range.end ≤ length content.text → LiesIn before (before + bytes) (page_range before content.offsets range)
   range_lies range within = by (nat_lt range.start range.end) (λ is. ltb-true range.start range.end is)
     where
       by : (test : Bool) → (test ≡ true → range.start < range.end) → LiesIn before (before + bytes) (record {
-        start = before + slice_index content.places range.start;
-        end = if test then before + slice_index content.places (range.end - 1) + 1 else before + slice_index content.places range.start;
+        start = before + slice_index content.offsets range.start;
+        end = if test then before + slice_index content.offsets (range.end - 1) + 1 else before + slice_index content.offsets range.start;
       })
       by false less = record { begins = omega arith; in_order = omega arith; ends = omega (arith, low range.start) }
       by true less =
           let some : range.start < range.end = less refl in
-          let rise = places_rise 0 content.places range.start (range.end - 1) rises
+          let rise = offsets_rise 0 content.offsets range.start (range.end - 1) rises
           (omega (arith, some)) (omega (arith, some, within, each)) in
           let last = stands (range.end - 1) (omega (arith, some, within)) in
           record { begins = omega arith; in_order = omega (arith, rise.1); ends = omega (arith, last.0, few) }
 
   -- so do events
   pub placed_lie : (events : List RangedEvent) → EndWithin (length content.text) events
-      → LieIn before (before + bytes) (map (placed before content.places) events)
+      → LieIn before (before + bytes) (map (placed before content.offsets) events)
   placed_lie [] within = tt
   placed_lie (event ∷ events) within = (range_lies event.1 within.0, placed_lie events within.1)
 
 -- the events in a content of a block lie within its lines
 pub block_lies : (page : List ℕ) (block : LeafBlock) (outer : List Container) (kept : ℕ) (content : Placed)
     → IsContent block.kind outer kept (lines_in_page page block) content → (events : List RangedEvent)
-    → EndWithin (length content.text) events → LieInBlock block (map (placed block.start content.places) events)
+    → EndWithin (length content.text) events → LieInBlock block (map (placed block.start content.offsets) events)
 block_lies page block outer kept content is events within =
     let lines = take block.bytes (drop block.start page) in
     placed_lie block.start block.bytes lines content (omega (arith, length-take block.bytes (drop block.start page)))

@@ -17,7 +17,7 @@ use Rattle.markdown_events.specs.page.LeafEvents.{page_range, placed}
 -- The events before the index are moved, and the others as they were; none of those ends after the content.
 pub record AreMovedTo (before : ℕ) (content : Placed) (old now : List (Event × Range ℕ)) (index : ℕ) : Type 0 where
   pub moved : map seen_event now
-      ≡ map (placed before content.places) (take index (map seen_event old)) ++ drop index (map seen_event old)
+      ≡ map (placed before content.offsets) (take index (map seen_event old)) ++ drop index (map seen_event old)
   pub within : EndWithin (length content.text) (drop index (map seen_event old))
 
 -- those after the next end within the content too
@@ -40,7 +40,7 @@ module _ (before : ℕ) (content : Placed) (old now : List (Event × Range ℕ))
   seen = map seen_event old
 
   change : RangedEvent → RangedEvent
-  change = placed before content.places
+  change = placed before content.offsets
 
   counted : index < length seen
   unfolding seen
@@ -84,18 +84,18 @@ module _ (before : ℕ) (content : Placed) (old now : List (Event × Range ℕ))
 
   -- and is moved
   pub moved_more : (event : Event × Range ℕ) (range : Range ℕ)
-      → range ≡ page_range before content.places (get_or now index event).1
+      → range ≡ page_range before content.offsets (get_or now index event).1
       → AreMovedTo before content old (set now index ((get_or now index event).0, range)) (index + 1)
   unfolding seen change
   moved_more event range is =
       let next = get_or now index event in
       let new : Event × Range ℕ = (next.0, range) in
-      let place = get_or seen index (seen_event event) in
+      let offset = get_or seen index (seen_event event) in
       let changed : seen_event new ≡ change (seen_event next) = ap (λ (r : Range ℕ). seen_event (next.0, r)) is in
-      let written : set (map seen_event now) index (change place) ≡ map change (take (index + 1) seen) ++ drop (index + 1) seen =
-      map_over_more change seen (map seen_event now) index place counted moved
+      let written : set (map seen_event now) index (change offset) ≡ map change (take (index + 1) seen) ++ drop (index + 1) seen =
+      map_over_more change seen (map seen_event now) index offset counted moved
       (sym (as_before (seen_event event))
-      ∙ get_or_default (map seen_event now) index (seen_event event) place (omega (arith, counted, same_count, length-map now seen_event)))
+      ∙ get_or_default (map seen_event now) index (seen_event event) offset (omega (arith, counted, same_count, length-map now seen_event)))
       in record {
         moved = map-set seen_event now index new
             ∙ (ap (set (map seen_event now) index) (changed ∙ ap change (as_seen event)) ∙ written);
@@ -105,10 +105,10 @@ module _ (before : ℕ) (content : Placed) (old now : List (Event × Range ℕ))
 
 -- in the end all are
 pub all_moved : (before : ℕ) (content : Placed) (old now : List (Event × Range ℕ)) (index : ℕ) → length old ≤ index
-    → AreMovedTo before content old now index → map seen_event now ≡ map (placed before content.places) (map seen_event old)
+    → AreMovedTo before content old now index → map seen_event now ≡ map (placed before content.offsets) (map seen_event old)
 all_moved before content old now index past holds =
     let seen = map seen_event old in
-    let change = placed before content.places in
+    let change = placed before content.offsets in
     let counted = length-map old seen_event in
     holds.moved ∙ (ap (λ rest. map change (take index seen) ++ rest) (drop_all index seen (omega (arith, past, counted)))
     ∙ (append-nil (map change (take index seen)) ∙ ap (map change) (take_all index seen (omega (arith, past, counted)))))
@@ -119,23 +119,23 @@ range_of start end = record { start = start; end = end }
 
 pub in_run : (before : ℕ) (content : Placed) (run : Run) (start end : ℕ) → IsRunOf content run → run.start ≤ start → start < end
     → end ≤ run.end
-    → range_of (before + run.place + (start - run.start)) (before + run.place + (start - run.start) + (end - start))
-    ≡ page_range before content.places (range_of start end)
+    → range_of (before + run.source + (start - run.start)) (before + run.source + (start - run.start) + (end - start))
+    ≡ page_range before content.offsets (range_of start end)
 in_run before content run start end is low less high =
-    let first = is.places start low (omega (arith, less, high)) in
-    let last = is.places (end - 1) (omega (arith, low, less)) (omega (arith, less, high)) in
+    let first = is.offsets start low (omega (arith, less, high)) in
+    let last = is.offsets (end - 1) (omega (arith, low, less)) (omega (arith, less, high)) in
     rw (lt-ltb start end less)
-    (ap (λ n. range_of n (before + run.place + (start - run.start) + (end - start))) (omega (arith, first))
-    ∙ ap (λ n. range_of (before + slice_index content.places start) n) (omega (arith, last, low, less)))
+    (ap (λ n. range_of n (before + run.source + (start - run.start) + (end - start))) (omega (arith, first))
+    ∙ ap (λ n. range_of (before + slice_index content.offsets start) n) (omega (arith, last, low, less)))
 
--- the place of a byte of it is a number, also with the bytes before the block
+-- the offset of a byte of it is a number, also with the bytes before the block
 pub run_fits : (before : ℕ) (content : Placed) (run : Run) (at : ℕ) → IsRunOf content run → CanPlace before content → run.start ≤ at
-    → at < run.end → before + run.place + (at - run.start) + 1 < 2 ^ 64
+    → at < run.end → before + run.source + (at - run.start) + 1 < 2 ^ 64
 run_fits before content run at is can low high =
-    omega (arith, is.places at low high, can.fits at (omega (arith, high, is.within)))
+    omega (arith, is.offsets at low high, can.fits at (omega (arith, high, is.within)))
 
-pub no_run : (content : Placed) → IsRunOf content (record { start = 0; end = 0; place = 0 })
-no_run content = record { within = omega arith; places = λ offset low high. absurd (omega (arith, high)) }
+pub no_run : (content : Placed) → IsRunOf content (record { start = 0; end = 0; source = 0 })
+no_run content = record { within = omega arith; offsets = λ offset low high. absurd (omega (arith, high)) }
 
 pub none_moved : (before : ℕ) (content : Placed) (old : List (Event × Range ℕ)) → EndWithin (length content.text) (map seen_event old)
     → AreMovedTo before content old old 0

@@ -14,16 +14,16 @@ use Rattle.markdown_scanners_tree.specs.scanners.TextLines.{ends_line, lines_of,
 use Rattle.markdown_scanners_tree.proofs.ForCallers.{lines_joined}
 use Rattle.markdown_blocks.specs.content.Content.{Placed}
 use Rattle.markdown_blocks.specs.events.Events.{LeafBlock}
-use Rattle.markdown_blocks.proofs.ForCallers.{DoNotFall, RisePast, content_bytes, content_past, content_rises, content_sizes, places_past}
+use Rattle.markdown_blocks.proofs.ForCallers.{DoNotFall, RisePast, content_bytes, content_past, content_rises, content_sizes, offsets_past}
 use Rattle.markdown_events.specs.EventLaws.{LiesIn, RiseIn}
 use Rattle.markdown_events.specs.InlineEvents.{RangedEvent}
 use Rattle.markdown_events.specs.page.LeafContent.{line_event}
-use Rattle.markdown_events.specs.page.LeafEvents.{AreLineEvents, IsContentOf, Place, enclosed_lines, line_events, lines_in_page, lines_place}
+use Rattle.markdown_events.specs.page.LeafEvents.{AreLineEvents, IsContentOf, Place, enclosed_lines, line_events, lines_in_page, lines_offset}
 use Rattle.markdown_events.specs.page.Places.{page_range, placed}
 use Rattle.markdown_events.specs.page.Spans.{block_end}
 use Rattle.markdown_events.proofs.inline_events.Rise.{rise_from}
 use Rattle.markdown_events.proofs.page.NodeRanges.{element_rises}
-use Rattle.markdown_events.proofs.page.leaf_content.PlaceLemmas.{places_rise}
+use Rattle.markdown_events.proofs.page.leaf_content.PlaceLemmas.{offsets_rise}
 
 -- ---- lines
 
@@ -66,21 +66,21 @@ line_rises : (is_html : Bool) (line : List ℕ) (range : Range ℕ) (from to : �
 line_rises true line range from to ends later lies rise = (lies, rise)
 line_rises false line range from to ends later lies rise = (lies, rise)
 
-module _ (before : ℕ) (content : Placed) (each : length content.places ≡ length content.text) (past : RisePast 0 content.text content.places)
-    (falls : DoNotFall 0 content.places) where
-  abbrev place : ℕ → ℕ
-  place offset = slice_index content.places offset
+module _ (before : ℕ) (content : Placed) (each : length content.offsets ≡ length content.text) (past : RisePast 0 content.text content.offsets)
+    (falls : DoNotFall 0 content.offsets) where
+  abbrev source : ℕ → ℕ
+  source offset = slice_index content.offsets offset
 
   -- the range of a line
-  line_range : (offset len : ℕ) → 0 < len → page_range before content.places (record { start = offset; end = offset + len })
-      ≡ record { start = before + place offset; end = before + place (offset + len - 1) + 1 }
+  line_range : (offset len : ℕ) → 0 < len → page_range before content.offsets (record { start = offset; end = offset + len })
+      ≡ record { start = before + source offset; end = before + source (offset + len - 1) + 1 }
   line_range offset len some = rw (lt-ltb offset (offset + len) (omega (arith, some))) refl
 
-  module _ (is_html : Bool) (limit : ℕ) (within : (offset : ℕ) → offset < length content.text → before + place offset + 1 ≤ limit)
+  module _ (is_html : Bool) (limit : ℕ) (within : (offset : ℕ) → offset < length content.text → before + source offset + 1 ≤ limit)
       (to : ℕ) (ends : List ℕ) (rest : List RangedEvent) (fits : limit ≤ to) (gives : RiseIn (to ∷ ends) limit rest) where
     lines_rise : (lines : List (List ℕ)) (offset from : ℕ) → AreEnded lines → drop offset content.text ≡ concat lines
-        → offset + length (concat lines) ≡ length content.text → from ≤ limit → (offset < length content.text → from ≤ before + place offset)
-        → RiseIn (to ∷ ends) from (map (placed before content.places) (line_events (line_event is_html) offset lines) ++ rest)
+        → offset + length (concat lines) ≡ length content.text → from ≤ limit → (offset < length content.text → from ≤ before + source offset)
+        → RiseIn (to ∷ ends) from (map (placed before content.offsets) (line_events (line_event is_html) offset lines) ++ rest)
     lines_rise [] offset from ended joined counted low first = rise_from (to ∷ ends) from limit rest low gives
     lines_rise (line ∷ lines) offset from ended joined counted low first =
         let some = line_some line lines ended in
@@ -88,16 +88,16 @@ module _ (before : ℕ) (content : Placed) (each : length content.places ≡ len
         let inside : offset + length line ≤ length content.text = omega (arith, counted, sizes) in
         let last = within (offset + length line - 1) (omega (arith, some, inside)) in
         let begins = first (omega (arith, some, inside)) in
-        let ordered = places_rise 0 content.places offset (offset + length line - 1) falls (omega (arith, some)) (omega (arith, some, inside, each)) in
+        let ordered = offsets_rise 0 content.offsets offset (offset + length line - 1) falls (omega (arith, some)) (omega (arith, some, inside, each)) in
         let is = line_range offset (length line) some in
         let there : drop (offset + length line) content.text ≡ concat lines =
         sym (drop-drop (length line) offset content.text) ∙ ap (drop (length line)) joined ∙ drop-append_seam line (concat lines) in
-        let later = lines_rise lines (offset + length line) (before + place (offset + length line - 1) + 1) (later_ended line lines ended) there
+        let later = lines_rise lines (offset + length line) (before + source (offset + length line - 1) + 1) (later_ended line lines ended) there
         (omega (arith, counted, sizes)) last (next_first line lines ended some joined counted) in
-        line_rises is_html line (page_range before content.places (record { start = offset; end = offset + length line })) from to ends _
+        line_rises is_html line (page_range before content.offsets (record { start = offset; end = offset + length line })) from to ends _
         (subst (LiesIn from to) (sym is) (record { begins = begins; in_order = omega (arith, ordered); ends = omega (arith, last, fits) }))
         (subst (λ (range : Range ℕ). RiseIn (to ∷ ends) range.end
-        (map (placed before content.places) (line_events (line_event is_html) (offset + length line) lines) ++ rest)) (sym is) later)
+        (map (placed before content.offsets) (line_events (line_event is_html) (offset + length line) lines) ++ rest)) (sym is) later)
       where
         line_some : (line : List ℕ) (lines : List (List ℕ)) → AreEnded (line ∷ lines) → 0 < length line
         line_some line [] ended = ended
@@ -110,7 +110,7 @@ module _ (before : ℕ) (content : Placed) (each : length content.places ≡ len
         -- the next line stands after the last byte of this one
         next_first : (line : List ℕ) (lines : List (List ℕ)) → AreEnded (line ∷ lines) → 0 < length line → drop offset content.text ≡ concat (line ∷ lines)
             → offset + length (concat (line ∷ lines)) ≡ length content.text → offset + length line < length content.text
-            → before + place (offset + length line - 1) + 1 ≤ before + place (offset + length line)
+            → before + source (offset + length line - 1) + 1 ≤ before + source (offset + length line)
         next_first line [] ended some joined counted more =
             absurd (omega (arith, counted, more, length-append line []))
         next_first line (next ∷ later) ended some joined counted more =
@@ -119,7 +119,7 @@ module _ (before : ℕ) (content : Placed) (each : length content.places ≡ len
             ap (λ n. get_or content.text n 0) at ∙ sym (get_or-drop offset content.text (length line - 1) 0)
             ∙ ap (λ (t : List ℕ). get_or t (length line - 1) 0) joined
             ∙ get_or_append_left line (concat (next ∷ later)) 0 (length line - 1) (omega (arith, some)) in
-            let strict = places_past content.text content.places 0 (offset + length line - 1) (offset + length line) past each
+            let strict = offsets_past content.text content.offsets 0 (offset + length line - 1) (offset + length line) past each
             (omega (arith, some)) (omega (arith, more, each)) (λ same. ended.1 (sym byte ∙ same)) in
             omega (arith, strict)
 
@@ -128,17 +128,17 @@ module _ (before : ℕ) (content : Placed) (each : length content.places ≡ len
 -- each byte of the content of a block stands here, after so many bytes of the page
 abbrev pub ContentAfter : ℕ → List ℕ → Place → LeafBlock → Type 0
 ContentAfter passed page here block = (content : Placed) → IsContentOf page here block content → (offset : ℕ) → offset < length content.text
-    → passed ≤ block.start + slice_index content.places offset
+    → passed ≤ block.start + slice_index content.offsets offset
 
-module _ (page : List ℕ) (here : Place) (block : LeafBlock) (passed : ℕ) (own : passed ≤ block.place) (ends_after : block.place ≤ block_end block)
+module _ (page : List ℕ) (here : Place) (block : LeafBlock) (passed : ℕ) (own : passed ≤ block.offset) (ends_after : block.offset ≤ block_end block)
     (after : ContentAfter passed page here block) where
-  lines_before : (lines : List RangedEvent) → lines_place block lines ≤ block_end block
+  lines_before : (lines : List RangedEvent) → lines_offset block lines ≤ block_end block
   lines_before [] = ends_after
   lines_before (first ∷ later) = omega (arith, ends_after)
 
   -- its lines rise up to its end
   inner_rises : (is_html : Bool) (lines : List RangedEvent) → AreLineEvents page here block (line_event is_html) lines
-      → (from to : ℕ) (ends : List ℕ) (rest : List RangedEvent) → from ≤ lines_place block lines → block_end block ≤ to
+      → (from to : ℕ) (ends : List ℕ) (rest : List RangedEvent) → from ≤ lines_offset block lines → block_end block ≤ to
       → RiseIn (to ∷ ends) (block_end block) rest → RiseIn (to ∷ ends) from (lines ++ rest)
   inner_rises is_html lines are from to ends rest low fits gives =
       let content = are.content in
@@ -159,25 +159,25 @@ module _ (page : List ℕ) (here : Place) (block : LeafBlock) (passed : ℕ) (ow
       (omega (arith, low, in_block)) (λ some. omega (arith, low, begin some)))
     where
       -- the first begins by its content
-      lines_first : (content : Placed) → lines ≡ map (placed block.start content.places) (line_events (line_event is_html) 0 (lines_of content.text))
-          → 0 < length content.text → lines_place block lines ≤ block.start + slice_index content.places 0
-      lines_first content is some = subst (λ (all : List RangedEvent). lines_place block all ≤ block.start + slice_index content.places 0) (sym is)
+      lines_first : (content : Placed) → lines ≡ map (placed block.start content.offsets) (line_events (line_event is_html) 0 (lines_of content.text))
+          → 0 < length content.text → lines_offset block lines ≤ block.start + slice_index content.offsets 0
+      lines_first content is some = subst (λ (all : List RangedEvent). lines_offset block all ≤ block.start + slice_index content.offsets 0) (sym is)
           (by (lines_of content.text) (lines_joined content.text))
         where
           by : (all : List (List ℕ)) → concat all ≡ content.text
-              → lines_place block (map (placed block.start content.places) (line_events (line_event is_html) 0 all))
-              ≤ block.start + slice_index content.places 0
+              → lines_offset block (map (placed block.start content.offsets) (line_events (line_event is_html) 0 all))
+              ≤ block.start + slice_index content.offsets 0
           by [] joined = absurd (omega (arith, some, ap length joined))
           by (line ∷ later) joined = omega arith
 
   -- they begin after what has passed
-  lines_passed : (is_html : Bool) (lines : List RangedEvent) → AreLineEvents page here block (line_event is_html) lines → passed ≤ lines_place block lines
+  lines_passed : (is_html : Bool) (lines : List RangedEvent) → AreLineEvents page here block (line_event is_html) lines → passed ≤ lines_offset block lines
   lines_passed is_html lines are =
-      subst (λ (all : List RangedEvent). passed ≤ lines_place block all) (sym are.are_events)
+      subst (λ (all : List RangedEvent). passed ≤ lines_offset block all) (sym are.are_events)
       (by (lines_of are.content.text) (lines_joined are.content.text) (lines_ended are.content.text))
     where
       by : (all : List (List ℕ)) → concat all ≡ are.content.text → AreEnded all
-          → passed ≤ lines_place block (map (placed block.start are.content.places) (line_events (line_event is_html) 0 all))
+          → passed ≤ lines_offset block (map (placed block.start are.content.offsets) (line_events (line_event is_html) 0 all))
       by [] joined ended = own
       by (line ∷ []) joined ended =
           let there = after are.content are.is_content 0 (omega (arith, ended, ap length joined, length-append line [])) in omega (arith, own, there)
@@ -192,6 +192,6 @@ module _ (page : List ℕ) (here : Place) (block : LeafBlock) (passed : ℕ) (ow
       → RiseIn (to ∷ ends) from (enclosed_lines tag block lines ++ rest)
   enclosed_rises tag is_html lines are from to ends rest low fits gives =
       let begins = lines_passed is_html lines are in
-      element_rises tag (lines_place block lines) (block_end block) from to ends lines rest (omega (arith, low, begins)) (lines_before lines) fits
-      (λ more closed. inner_rises is_html lines are (lines_place block lines) (block_end block) (to ∷ ends) more (omega arith) (omega arith) closed)
+      element_rises tag (lines_offset block lines) (block_end block) from to ends lines rest (omega (arith, low, begins)) (lines_before lines) fits
+      (λ more closed. inner_rises is_html lines are (lines_offset block lines) (block_end block) (to ∷ ends) more (omega arith) (omega arith) closed)
       gives

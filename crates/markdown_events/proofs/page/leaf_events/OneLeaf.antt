@@ -10,7 +10,7 @@ use Rattle.markdown_blocks.specs.cells.Contents.{content_of_cell}
 use Rattle.markdown_blocks.specs.containers.Containers.{Rest, rest_in}
 use Rattle.markdown_blocks.specs.declared.cells.Cell.{Cell}
 use Rattle.markdown_blocks.specs.declared.containers.Container.{Container}
-use Rattle.markdown_blocks.specs.rows.Rows.{AreAlignments, AreGiven, TextAt, rows_of}
+use Rattle.markdown_blocks.specs.rows.Rows.{AreAlignments, AreGiven, TextAt}
 use Rattle.markdown_blocks.specs.content.Content.{Placed}
 use Rattle.markdown_blocks.specs.declared.blocks.BlockKind.{BlockKind}
 use Rattle.markdown_blocks.specs.declared.blocks.BlockKind.TheVariants.{Blank, Break, Heading, Setext, Indented, Fenced, Html, Paragraph, Definition, Table}
@@ -19,11 +19,12 @@ use Rattle.markdown_blocks.specs.info.Info.{info_of}
 use Rattle.markdown_blocks.proofs.ForCallers.{one_content}
 use Rattle.markdown_values.specs.values.Tags.{html_block}
 use Rattle.markdown_events.specs.InlineEvents.{AreInlineEvents, EventSetting, RangedEvent}
+use Rattle.markdown_events.specs.declared.page.table_events.Columns.{Columns}
 use Rattle.markdown_events.specs.page.LeafEvents.{AreLeafEvents, AreLeafEventsOf, AreLineEvents, AreTextEvents, Place, enclosed, in_paragraph, line_events}
 use Rattle.markdown_events.specs.page.LeafEvents.{enclosed_lines, plain_heading}
 use Rattle.markdown_events.specs.page.Places.{element, lines_in_page, placed}
 use Rattle.markdown_events.specs.page.Spans.{block_end}
-use Rattle.markdown_events.specs.page.TableEvents.{AreCellEvents, AreRowEvents, AreTableEvents, row_len, row_tag, shown_cells}
+use Rattle.markdown_events.specs.page.TableEvents.{AreCellEvents, AreRowEvents, AreTableEvents, columns_of, row_len, row_tag, rows_in, shown_cells}
 use Rattle.markdown_events.proofs.inline_events.Unique.{one_list_of_inline_events, one_meaning}
 
 -- ---- tables
@@ -45,29 +46,30 @@ one_cells : (setting : EventSetting) (before : ℕ) (words : List ℕ) (cells : 
 one_cells setting before words [] events events' is is' = is ∙ sym is'
 one_cells setting before words (cell ∷ later) events events' (inlines, rest, are, more, is) (inlines', rest', are', more', is') =
     let content = content_of_cell words cell in
-    let made = λ (i : List RangedEvent). element table_cell (before + cell.start) (before + cell.end) (map (placed before content.places) i) in
+    let made = λ (i : List RangedEvent). element table_cell (before + cell.start) (before + cell.end) (map (placed before content.offsets) i) in
     is ∙ (ap (λ (i : List RangedEvent). made i ++ rest) (one_list_of_inline_events content.text setting inlines inlines' are are')
     ∙ (ap (λ (r : List RangedEvent). made inlines' ++ r) (one_cells setting before words later rest rest' more more') ∙ sym is'))
 
-one_rows : (setting : EventSetting) (columns before : ℕ) (is_head : Bool) (rows : List TextAt) (events events' : List RangedEvent)
+one_rows : (setting : EventSetting) (columns : Columns) (before : ℕ) (is_head : Bool) (rows : List TextAt) (events events' : List RangedEvent)
     → AreRowEvents setting columns before is_head rows events → AreRowEvents setting columns before is_head rows events' → events ≡ events'
 one_rows setting columns before is_head [] events events' is is' = is ∙ sym is'
 one_rows setting columns before is_head (row ∷ later) events events' (cells, rest, are, more, is) (cells', rest', are', more', is') =
-    let from = before + row.place in
+    let from = before + row.offset in
     let len = row_len row.text in
     let made = λ (c : List RangedEvent). element (row_tag is_head) from (from + len) c in
     is ∙ (ap (λ (c : List RangedEvent). made c ++ rest)
-    (one_cells setting from row.text (shown_cells columns len (cells_of row.text)) cells cells' are are')
+    (one_cells setting from row.text (shown_cells columns.are_filled columns.count len (cells_of row.text)) cells cells' are are')
     ∙ (ap (λ (r : List RangedEvent). made cells' ++ r) (one_rows setting columns before false later rest rest' more more') ∙ sym is'))
 
 one_table : (page : List ℕ) (setting : EventSetting) (here : Place) (block : LeafBlock) (columns : ℕ) (events events' : List RangedEvent)
     → AreTableEvents page setting here block columns events → AreTableEvents page setting here block columns events' → events ≡ events'
 one_table page setting here block columns events events' is is' =
     let lines = lines_in_page page block in
-    let rows = one_rows setting columns block.start true (rows_of here.kept here.containers lines) is.rows is'.rows is.are_rows is'.are_rows in
+    let rows = one_rows setting (columns_of setting.cells columns (rows_in page here block)) block.start true
+    (rows_in page here block) is.rows is'.rows is.are_rows is'.are_rows in
     let given = one_alignments here.containers lines is.alignments is'.alignments is.are_alignments is'.are_alignments in
-    is.are_events ∙ (ap (λ (a : List Alignment). element (table a) block.place (block_end block) is.rows) given
-    ∙ (ap (element (table is'.alignments) block.place (block_end block)) rows ∙ sym is'.are_events))
+    is.are_events ∙ (ap (λ (a : List Alignment). element (table a) block.offset (block_end block) is.rows) given
+    ∙ (ap (element (table is'.alignments) block.offset (block_end block)) rows ∙ sym is'.are_events))
 
 module _ (page : List ℕ) (setting : EventSetting) (here : Place) (block : LeafBlock) where
   one_text : (events events' : List RangedEvent) → AreTextEvents page setting here block events → AreTextEvents page setting here block events'
@@ -76,14 +78,14 @@ module _ (page : List ℕ) (setting : EventSetting) (here : Place) (block : Leaf
       let same = one_content block.kind here.containers here.kept (lines_in_page page block) is.content is'.content is.is_content is'.is_content in
       let inlines = one_list_of_inline_events is'.content.text setting is.inlines is'.inlines
       (subst (λ (c : Placed). AreInlineEvents c.text setting is.inlines) same is.are_inlines) is'.are_inlines in
-      is.are_events ∙ (ap (λ (c : Placed). map (placed block.start c.places) is.inlines) same
-      ∙ (ap (map (placed block.start is'.content.places)) inlines ∙ sym is'.are_events))
+      is.are_events ∙ (ap (λ (c : Placed). map (placed block.start c.offsets) is.inlines) same
+      ∙ (ap (map (placed block.start is'.content.offsets)) inlines ∙ sym is'.are_events))
 
   one_lines : (event : List ℕ → EventView (List ℕ)) (events events' : List RangedEvent) → AreLineEvents page here block event events
       → AreLineEvents page here block event events' → events ≡ events'
   one_lines event events events' is is' =
       let same = one_content block.kind here.containers here.kept (lines_in_page page block) is.content is'.content is.is_content is'.is_content in
-      is.are_events ∙ (ap (λ (c : Placed). map (placed block.start c.places) (line_events event 0 (lines_of c.text))) same ∙ sym is'.are_events)
+      is.are_events ∙ (ap (λ (c : Placed). map (placed block.start c.offsets) (line_events event 0 (lines_of c.text))) same ∙ sym is'.are_events)
 
   one_of : (kind : BlockKind) (events events' : List RangedEvent) → AreLeafEventsOf kind page setting here block events
       → AreLeafEventsOf kind page setting here block events' → events ≡ events'

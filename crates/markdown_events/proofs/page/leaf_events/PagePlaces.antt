@@ -10,7 +10,7 @@ use Rattle.markdown_events.specs.page.LeafContent.{HasPlace}
 
 -- the block ends within so many bytes, and its text begins within its lines
 pub record StandsIn (count : ℕ) (block : LeafBlock) : Type 0 where
-  pub place : HasPlace block
+  pub offset : HasPlace block
   pub within : block_end block ≤ count
 
 -- each leaf block among the events does
@@ -25,17 +25,17 @@ events_stand page [] line passed low follow = (tt, omega (arith, follow.0))
 events_stand page (leaf block ∷ later) line passed low (begins, follow) =
     let more = events_stand page later (block_end block) (block_end block) (omega arith) follow in
     let at = begins.start in
-    let behind = begins.after in
+    let after = begins.after in
     let whole = begins.whole in
     let in_line = begins.in_line in (
       (
-        record { place = record { begins = omega (arith, at, behind, low); ends = omega (arith, in_line, whole) }; within = more.1 },
+        record { offset = record { begins = omega (arith, at, after, low); ends = omega (arith, in_line, whole) }; within = more.1 },
         more.0,
       ),
       omega (arith, whole, more.1),
     )
-events_stand page (starts container place ∷ later) line passed low (behind, within, follow) =
-    events_stand page later line (suc place) (omega (arith, low, behind)) follow
+events_stand page (starts container offset ∷ later) line passed low (after, within, follow) =
+    events_stand page later line (suc offset) (omega (arith, low, after)) follow
 events_stand page (ends ∷ later) line passed low follow = events_stand page later line passed low follow
 
 -- each leaf block of a page stands in it

@@ -5,7 +5,7 @@ use Rattle.markdown_blocks.specs.events.Events.{LeafBlock}
 use Rattle.markdown_events.specs.EventLaws.{LieIn, LiesIn}
 use Rattle.markdown_events.specs.InlineEvents.{RangedEvent}
 use Rattle.markdown_events.specs.page.LeafContent.{HasPlace, LieInBlock}
-use Rattle.markdown_events.specs.page.LeafEvents.{enclosed, enclosed_lines, lines_place}
+use Rattle.markdown_events.specs.page.LeafEvents.{enclosed, enclosed_lines, lines_offset}
 use Rattle.markdown_events.specs.page.Places.{element}
 use Rattle.markdown_events.specs.page.Spans.{block_end}
 
@@ -15,8 +15,8 @@ lie_before from to (event ∷ events) rest lie more = (lie.0, lie_before from to
 
 -- those of the block itself
 pub block_lies : (block : LeafBlock) → HasPlace block
-    → LiesIn block.start (block_end block) (record { start = block.place; end = block_end block })
-block_lies block place = record { begins = place.begins; in_order = place.ends; ends = omega arith }
+    → LiesIn block.start (block_end block) (record { start = block.offset; end = block_end block })
+block_lies block offset = record { begins = offset.begins; in_order = offset.ends; ends = omega arith }
 
 pub element_lies : (tag : TagView (List ℕ)) (from to start end : ℕ) (inner : List RangedEvent) → from ≤ start → start ≤ end → end ≤ to
     → LieIn from to inner → LieIn from to (element tag start end inner)
@@ -26,21 +26,21 @@ element_lies tag from to start end inner begins in_order ends lie =
 
 pub enclosed_lies : (tag : TagView (List ℕ)) (block : LeafBlock) (inner : List RangedEvent) → HasPlace block → LieInBlock block inner
     → LieInBlock block (enclosed tag block inner)
-enclosed_lies tag block inner place lie =
-    (block_lies block place, lie_before block.start (block_end block) inner _ lie (block_lies block place, tt))
+enclosed_lies tag block inner offset lie =
+    (block_lies block offset, lie_before block.start (block_end block) inner _ lie (block_lies block offset, tt))
 
 -- a block of lines begins within them
 lines_begin : (block : LeafBlock) (lines : List RangedEvent) → HasPlace block → LieInBlock block lines
-    → (block.start ≤ lines_place block lines) × (lines_place block lines ≤ block_end block)
-lines_begin block [] place lie = (place.begins, place.ends)
-lines_begin block (first ∷ later) place lie =
+    → (block.start ≤ lines_offset block lines) × (lines_offset block lines ≤ block_end block)
+lines_begin block [] offset lie = (offset.begins, offset.ends)
+lines_begin block (first ∷ later) offset lie =
     let begins = lie.0.begins in
-    let own = place.begins in
-    let ends = place.ends in
+    let own = offset.begins in
+    let ends = offset.ends in
     (omega (arith, begins, own), omega (arith, ends))
 
 pub lines_lie : (tag : TagView (List ℕ)) (block : LeafBlock) (lines : List RangedEvent) → HasPlace block → LieInBlock block lines
     → LieInBlock block (enclosed_lines tag block lines)
-lines_lie tag block lines place lie =
-    let begins = lines_begin block lines place lie in
-    element_lies tag block.start (block_end block) (lines_place block lines) (block_end block) lines begins.0 begins.1 (omega arith) lie
+lines_lie tag block lines offset lie =
+    let begins = lines_begin block lines offset lie in
+    element_lies tag block.start (block_end block) (lines_offset block lines) (block_end block) lines begins.0 begins.1 (omega arith) lie

@@ -8,6 +8,7 @@ use Rattle.markdown_blocks.specs.declared.cells.Cell.{Cell}
 use Rattle.markdown_blocks.specs.rows.Rows.{TextAt}
 use Rattle.markdown_events.specs.InlineEvents.{AreInlineEvents, EventSetting, RangedEvent, ranged}
 use Rattle.markdown_events.specs.TagEnds.{tag_end}
+use Rattle.markdown_events.specs.declared.page.table_events.Columns.{Columns}
 use Rattle.markdown_events.specs.page.Places.{element, placed}
 use Rattle.markdown_events.specs.page.TableEvents.{Adds, AreCellEvents, AreRowEvents, row_len, row_tag, shown_cells}
 
@@ -46,11 +47,11 @@ element_added tag from to inner old begun filled new begins holds ends =
 pub cell_added : (setting : EventSetting) (before : ℕ) (text : List ℕ) (cell : Cell) (inlines old begun filled new : List RangedEvent)
     → AreInlineEvents (content_of_cell text cell).text setting inlines
     → begun ≡ old ++ ranged (start table_cell) (before + cell.start) (before + cell.end) ∷ []
-    → filled ≡ begun ++ map (placed before (content_of_cell text cell).places) inlines
+    → filled ≡ begun ++ map (placed before (content_of_cell text cell).offsets) inlines
     → new ≡ filled ++ ranged (end (tag_end {A = List ℕ} table_cell)) (before + cell.start) (before + cell.end) ∷ []
     → Adds (AreCellEvents setting before text (cell ∷ [])) old new
 cell_added setting before text cell inlines old begun filled new are begins holds ends =
-    let inner = map (placed before (content_of_cell text cell).places) inlines in
+    let inner = map (placed before (content_of_cell text cell).offsets) inlines in
     let whole = element table_cell (before + cell.start) (before + cell.end) inner in (
       whole,
       (inlines, [], are, refl, sym (append-nil whole)),
@@ -58,15 +59,15 @@ cell_added setting before text cell inlines old begun filled new are begins hold
     )
 
 -- a row, by its start, its cells, and its end
-pub row_added : (setting : EventSetting) (columns before : ℕ) (is_head : Bool) (row : TextAt) (old begun filled new : List RangedEvent) →
-    let from = before + row.place in
+pub row_added : (setting : EventSetting) (columns : Columns) (before : ℕ) (is_head : Bool) (row : TextAt) (old begun filled new : List RangedEvent) →
+    let from = before + row.offset in
     let to = from + row_len row.text in
     begun ≡ old ++ ranged (start (row_tag is_head)) from to ∷ []
-    → Adds (AreCellEvents setting from row.text (shown_cells columns (row_len row.text) (cells_of row.text))) begun filled
+    → Adds (AreCellEvents setting from row.text (shown_cells columns.are_filled columns.count (row_len row.text) (cells_of row.text))) begun filled
     → new ≡ filled ++ ranged (end (tag_end (row_tag is_head))) from to ∷ []
     → Adds (AreRowEvents setting columns before is_head (row ∷ [])) old new
 row_added setting columns before is_head row old begun filled new begins (cells, are, holds) ends =
-    let from = before + row.place in
+    let from = before + row.offset in
     let to = from + row_len row.text in
     let whole = element (row_tag is_head) from to cells in (
       whole,

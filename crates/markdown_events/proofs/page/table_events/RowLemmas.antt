@@ -10,8 +10,8 @@ use Rattle.markdown_scanners_tree.specs.line.State.{LineState, after_space}
 use Rattle.markdown_scanners_tree.specs.scanners.TextLines.{lines_of}
 use Rattle.markdown_scanners_tree.proofs.ForCallers.{lines_joined}
 use Rattle.markdown_blocks.specs.cells.Cells.{cells_of}
-use Rattle.markdown_blocks.specs.containers.Containers.{behind}
-use Rattle.markdown_blocks.specs.content.Parts.{first_place}
+use Rattle.markdown_blocks.specs.containers.Containers.{match_line}
+use Rattle.markdown_blocks.specs.content.Parts.{first_offset}
 use Rattle.markdown_blocks.specs.declared.blocks.BlockKind.TheVariants.{Paragraph}
 use Rattle.markdown_blocks.specs.declared.containers.Container.{Container}
 use Rattle.markdown_blocks.specs.events.Events.{LeafBlock}
@@ -21,20 +21,21 @@ use Rattle.markdown_blocks.proofs.content.ReachedLemmas.{Reached, after_some}
 use Rattle.markdown_blocks.proofs.content.ReachedPlaces.{first_reached, later_reached}
 use Rattle.markdown_events.specs.EventLaws.{LieIn}
 use Rattle.markdown_events.specs.InlineEvents.{EventSetting, RangedEvent}
+use Rattle.markdown_events.specs.declared.page.table_events.Columns.{Columns}
 use Rattle.markdown_events.specs.page.LeafContent.{HasPlace, LieInBlock}
 use Rattle.markdown_events.specs.page.Places.{Place, element}
 use Rattle.markdown_events.specs.page.Spans.{block_end}
-use Rattle.markdown_events.specs.page.TableEvents.{AreRowEvents, AreTableEvents, AreUtf8, RowsEndBy, row_len, row_tag, shown_cells}
+use Rattle.markdown_events.specs.page.TableEvents.{AreRowEvents, AreTableEvents, AreUtf8, RowsEndBy, columns_of, row_len, row_tag, rows_in, shown_cells}
 use Rattle.markdown_events.proofs.page.leaf_events.RangeLaws.{element_lies, enclosed_lies, lie_before}
 use Rattle.markdown_events.proofs.page.table_events.CellLemmas.{cells_lie, shown_between}
 
 -- a row ends in its line
 pub row_ends : (before : ℕ) (line : List ℕ) (s : LineState) → Reached line s
-    → (row_at before s).place + length (row_at before s).text ≤ before + length line
+    → (row_at before s).offset + length (row_at before s).text ≤ before + length line
 row_ends before line s r =
     let t = after_space 4 s in
     let there = after_some line s r 4 in
-    let size = length-drop t.place t.bytes in
+    let size = length-drop t.offset t.bytes in
     omega (arith, size, ap length there.of_line, there.within)
 
 later_end : (outer : List Container) (start before to : ℕ) (lines : List (List ℕ)) → start + before + length (concat lines) ≤ to
@@ -42,7 +43,7 @@ later_end : (outer : List Container) (start before to : ℕ) (lines : List (List
 later_end outer start before to [] within = tt
 later_end outer start before to (line ∷ lines) within =
     let size = length-append line (concat lines) in
-    let here = row_ends before line (behind outer line).state (later_reached line Paragraph outer) in
+    let here = row_ends before line (match_line outer line).state (later_reached line Paragraph outer) in
     (omega (arith, size, here, within), later_end outer start (before + length line) to lines (omega (arith, size, within)))
 
 body_end : (outer : List Container) (start before to : ℕ) (lines : List (List ℕ)) → start + before + length (concat lines) ≤ to
@@ -57,7 +58,7 @@ all_end : (kept : ℕ) (outer : List Container) (start to : ℕ) (lines : List (
 all_end kept outer start to [] within = tt
 all_end kept outer start to (line ∷ lines) within =
     let size = length-append line (concat lines) in
-    let here = row_ends 0 line (first_place kept outer line) (first_reached line kept outer) in
+    let here = row_ends 0 line (first_offset kept outer line) (first_reached line kept outer) in
     (omega (arith, size, here, within), body_end outer start (length line) to lines (omega (arith, size, within)))
 
 -- no row ends after the lines
@@ -94,15 +95,16 @@ row_within text =
       length-take (prefix_len (λ b. not (is_line_ending b)) text) text,
     )
 
-rows_lie : (setting : EventSetting) (columns before to : ℕ) (is_head : Bool) (rows : List TextAt) (events : List RangedEvent)
+rows_lie : (setting : EventSetting) (columns : Columns) (before to : ℕ) (is_head : Bool) (rows : List TextAt) (events : List RangedEvent)
     → RowsEndBy before to rows → AreRowEvents setting columns before is_head rows events → LieIn before to events
 rows_lie setting columns before to is_head [] events ends is = subst (LieIn before to) (sym is) tt
 rows_lie setting columns before to is_head (row ∷ later) events ends (cells, rest, are, are_rest, is) =
-    let from = before + row.place in
+    let from = before + row.offset in
     let len = row_len row.text in
     let within = row_within row.text in
-    let shown = shown_cells columns len (cells_of row.text) in
-    let stand = shown_between columns len (length row.text) (cells_of row.text) within (row_between row.text (length row.text) within) in
+    let shown = shown_cells columns.are_filled columns.count len (cells_of row.text) in
+    let stand = shown_between columns.are_filled columns.count len (length row.text) (cells_of row.text) within
+    (row_between row.text (length row.text) within) in
     let lie = lie_wider before from (from + length row.text) to cells (omega arith) ends.0 (cells_lie setting from row.text shown cells stand are) in
     subst (LieIn before to) (sym is)
     (lie_before before to (element (row_tag is_head) from (from + len) cells) rest
@@ -118,10 +120,11 @@ table_lies page setting here block columns events is has =
     let ends = rows_end here.kept here.containers block.start (block_end block) text (omega (arith, few)) in
     subst (LieInBlock block) (sym is.are_events)
     (enclosed_lies (table is.alignments) block is.rows has
-    (rows_lie setting columns block.start (block_end block) true (rows_of here.kept here.containers (lines_of text)) is.rows ends is.are_rows))
+    (rows_lie setting (columns_of setting.cells columns (rows_in page here block)) block.start (block_end block) true
+    (rows_in page here block) is.rows ends is.are_rows))
 
-module _ (before columns : ℕ) (row : TextAt) (rows new : List TextAt) (next : rows ≡ row ∷ new) where
-  pub row_first : (to : ℕ) → RowsEndBy before to rows → (before + row.place + length row.text ≤ to) × RowsEndBy before to new
+module _ (before : ℕ) (columns : Columns) (row : TextAt) (rows new : List TextAt) (next : rows ≡ row ∷ new) where
+  pub row_first : (to : ℕ) → RowsEndBy before to rows → (before + row.offset + length row.text ≤ to) × RowsEndBy before to new
   row_first to ends = subst (RowsEndBy before to) next ends
 
   pub row_text : AreUtf8 rows → IsUtf8 row.text × AreUtf8 new
@@ -132,7 +135,7 @@ module _ (before columns : ℕ) (row : TextAt) (rows new : List TextAt) (next : 
       → AreRowEvents setting columns before is_head (row ∷ []) here → AreRowEvents setting columns before false new later
       → AreRowEvents setting columns before is_head rows (here ++ later)
   rows_more setting is_head here later (cells, rest, are, none, is) are_later =
-      let from = before + row.place in
+      let from = before + row.offset in
       let own = element (row_tag is_head) from (from + row_len row.text) cells in
       let alone : here ≡ own = is ∙ (ap (λ (es : List RangedEvent). own ++ es) none ∙ append-nil own) in
       let whole : AreRowEvents setting columns before is_head (row ∷ new) (here ++ later) =
@@ -140,7 +143,7 @@ module _ (before columns : ℕ) (row : TextAt) (rows new : List TextAt) (next : 
       subst (λ (rs : List TextAt). AreRowEvents setting columns before is_head rs (here ++ later)) (sym next) whole
 
 -- after the last
-pub rows_done : (setting : EventSetting) (columns before : ℕ) (is_head : Bool) (rows : List TextAt) → rows ≡ []
+pub rows_done : (setting : EventSetting) (columns : Columns) (before : ℕ) (is_head : Bool) (rows : List TextAt) → rows ≡ []
     → AreRowEvents setting columns before is_head rows []
 rows_done setting columns before is_head rows none =
     subst (λ (rs : List TextAt). AreRowEvents setting columns before is_head rs []) (sym none) refl

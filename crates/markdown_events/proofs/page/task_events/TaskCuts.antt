@@ -9,7 +9,7 @@ use Rattle.std.proofs.lemmas.List.{drop_all, get_or-drop, length-drop}
 use Rattle.std.proofs.lemmas.List.Sums.{prefix_len_passes}
 use Rattle.std.proofs.lemmas.Str.{IsCharBoundary-from_rest, IsUtf8-drop, IsUtf8-nil}
 use Rattle.markdown_scanners_tree.specs.Bytes.{is_space_or_tab, is_white_space}
-use Rattle.markdown_scanners_tree.proofs.ForCallers.{cut_behind_ascii}
+use Rattle.markdown_scanners_tree.proofs.ForCallers.{cut_after_ascii}
 use Rattle.markdown_blocks.specs.content.Content.{IsContent, Placed}
 use Rattle.markdown_blocks.specs.declared.blocks.BlockKind.{BlockKind}
 use Rattle.markdown_blocks.specs.declared.blocks.BlockKind.TheVariants.{Blank, Break, Heading, Setext, Indented, Fenced, Html, Paragraph, Definition, Table}
@@ -29,28 +29,28 @@ use Rattle.markdown_events.specs.page.LeafEvents.{Place, lines_in_page}
 use Rattle.markdown_events.specs.page.TaskEvents.{AreBlockEvents, AreEventsWith, AreTaskEvents, after, after_marker, marker_end, task_here}
 use Rattle.markdown_events.proofs.inline_events.Boundaries.{events_at_boundaries}
 use Rattle.markdown_events.proofs.page.leaf_events.LeafCuts.{leaf_at, paragraph_at}
-use Rattle.markdown_events.proofs.page.leaf_events.PlacedCuts.{PlacesCut, content_places, placed_at}
-use Rattle.markdown_events.proofs.page.task_events.RestLemmas.{place_further}
+use Rattle.markdown_events.proofs.page.leaf_events.PlacedCuts.{PlacesCut, content_offsets, placed_at}
+use Rattle.markdown_events.proofs.page.task_events.RestLemmas.{offset_further}
 
 -- ---- what stands after the front of a content
 
 -- where the content may be cut after so many bytes, the page may be cut where what stands after them may
-rest_places : (page : List ℕ) (before count : ℕ) (content : Placed) → IsCharBoundary page before → length content.places ≡ length content.text
+rest_offsets : (page : List ℕ) (before count : ℕ) (content : Placed) → IsCharBoundary page before → length content.offsets ≡ length content.text
     → PlacesCut page before content → PlacesCut page before (after count content)
-rest_places page before count content begins each cut = record {
+rest_offsets page before count content begins each cut = record {
   starts = λ offset at. elim (leb_tells count (length content.text)) [
-    | inl within ↦ subst (λ n. IsCharBoundary page (before + n)) (sym (place_further content.places count offset))
+    | inl within ↦ subst (λ n. IsCharBoundary page (before + n)) (sym (offset_further content.offsets count offset))
         (cut.starts (count + offset) (IsCharBoundary-from_rest content.text count offset within.1 at))
     | inr past ↦
-        (let none : slice_index (drop count content.places) offset ≡ 0 =
-        ap (λ (l : List ℕ). slice_index l offset) (drop_all count content.places (omega (arith, past.1, each))) in
-        let same : before ≡ before + slice_index (drop count content.places) offset = omega (arith, none) in
+        (let none : slice_index (drop count content.offsets) offset ≡ 0 =
+        ap (λ (l : List ℕ). slice_index l offset) (drop_all count content.offsets (omega (arith, past.1, each))) in
+        let same : before ≡ before + slice_index (drop count content.offsets) offset = omega (arith, none) in
         subst (IsCharBoundary page) same begins)
   ];
   ends = λ offset low at.
       let size = length-drop count content.text in
       let further : count + (offset + 1) ≡ count + offset + 1 = omega arith in
-      subst (λ n. IsCharBoundary page (before + n + 1)) (sym (place_further content.places count offset))
+      subst (λ n. IsCharBoundary page (before + n + 1)) (sym (offset_further content.offsets count offset))
       (cut.ends (count + offset) (omega (arith, low, size))
       (subst (IsCharBoundary content.text) further (IsCharBoundary-from_rest content.text count (offset + 1) (omega (arith, low, size)) at)));
 }
@@ -78,7 +78,7 @@ rest_utf8 : (text : List ℕ) (len : ℕ) → IsUtf8 text → 1 ≤ len → (len
     → IsUtf8 (drop (marker_end len text) text)
 rest_utf8 text len utf8 some low = elim (leb_tells (marker_end len text) (length text)) [
   | inl within ↦ IsUtf8-drop text (marker_end len text) utf8
-      (cut_behind_ascii text (marker_end len text) utf8 within.1 (omega (arith, some)) (marker_low text len some low within.1))
+      (cut_after_ascii text (marker_end len text) utf8 within.1 (omega (arith, some)) (marker_low text len some low within.1))
   | inr past ↦ subst IsUtf8 (sym (drop_all (marker_end len text) text (omega (arith, past.1)))) IsUtf8-nil
 ]
 
@@ -102,7 +102,7 @@ marked_utf8 page outer kept block task has content is =
 
 -- it ends where the page can still count
 pub marker_fits : (page : List ℕ) (outer : List Container) (kept : ℕ) (block : LeafBlock) (task : Task) → HasMarker page outer kept block task
-    → block_end block < 2 ^ 64 → task.place + task.len < 2 ^ 64
+    → block_end block < 2 ^ 64 → task.offset + task.len < 2 ^ 64
 marker_fits page outer kept block task has ends =
     let stands = task_within block task has.found in
     omega (arith, stands.0, stands.1, has.text.within, ends)
@@ -114,14 +114,14 @@ module _ (page : List ℕ) (setting : EventSetting) (here : Place) (block : Leaf
       → (events : List RangedEvent) → AreTaskEvents page setting here block task events → AreAtBoundaries page events
   marked_at task paragraph plain found events is =
       let content = is.content in
-      let places = content_places page block cut block.kind here.containers here.kept content is.is_content in
+      let offsets = content_offsets page block cut block.kind here.containers here.kept content is.is_content in
       let each = content_sizes block.kind here.containers here.kept (lines_in_page page block) content is.is_content in
       let utf8 = content_utf8 block.kind here.containers here.kept (take block.bytes (drop block.start page)) content is.is_content cut.lines in
       let bracket = task_bracket block task found in
       let some = bracket.0 in
       let stands = task_within block task found in
       let own_cut : IsCharBoundary block.text task.len =
-      cut_behind_ascii block.text task.len cut.text stands.1 (omega (arith, some)) (omega (arith, bracket.1)) in
+      cut_after_ascii block.text task.len cut.text stands.1 (omega (arith, some)) (omega (arith, bracket.1)) in
       let low : task.len ≤ length content.text → get_or content.text (task.len - 1) 0 < 128 =
       λ within. omega (
         arith,
@@ -131,9 +131,9 @@ module _ (page : List ℕ) (setting : EventSetting) (here : Place) (block : Leaf
       ) in
       let rest = events_at_boundaries (after_marker task content).text setting is.inlines (rest_utf8 content.text task.len utf8 some low) is.are_inlines in
       let inner = placed_at page block.start (after_marker task content)
-      (rest_places page block.start (marker_end task.len content.text) content cut.begins each places) is.inlines rest in
-      let begins : IsCharBoundary page task.place = subst (IsCharBoundary page) (sym stands.0) cut.place in
-      let ends : IsCharBoundary page (task.place + task.len) =
+      (rest_offsets page block.start (marker_end task.len content.text) content cut.begins each offsets) is.inlines rest in
+      let begins : IsCharBoundary page task.offset = subst (IsCharBoundary page) (sym stands.0) cut.offset in
+      let ends : IsCharBoundary page (task.offset + task.len) =
       subst (λ n. IsCharBoundary page (n + task.len)) (sym stands.0) (cut.in_text task.len own_cut) in
       subst (AreAtBoundaries page) (sym is.are_events)
       (paragraph_at page setting here block cut here.is_tight _ ((begins, ends), inner))

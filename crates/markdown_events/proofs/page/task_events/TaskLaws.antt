@@ -20,7 +20,7 @@ module _ (page : List ℕ) (setting : EventSetting) (here : Place) (block : Leaf
       → AreTaskEvents page setting here block task events' → events ≡ events'
   one_task task events events' is is' =
       let shown = λ (c : Placed) (es : List RangedEvent). in_paragraph here.is_tight block
-      (marker_event task ∷ map (placed block.start (after_marker task c).places) es) in
+      (marker_event task ∷ map (placed block.start (after_marker task c).offsets) es) in
       let same = one_content block.kind here.containers here.kept (lines_in_page page block) is.content is'.content is.is_content is'.is_content in
       let inlines = one_list_of_inline_events (after_marker task is'.content).text setting is.inlines is'.inlines
       (subst (λ (c : Placed). AreInlineEvents (after_marker task c).text setting is.inlines) same is.are_inlines) is'.are_inlines in
@@ -34,8 +34,8 @@ module _ (page : List ℕ) (setting : EventSetting) (here : Place) (block : Leaf
   task_stands : (task : Task) (events : List RangedEvent) → AreTaskEvents page setting here block task events → Stand events
   task_stands task events is =
       let left = after_marker task is.content in
-      paragraph_stands page setting here block here.is_tight events (marker_event task ∷ map (placed block.start left.places) is.inlines)
-      (λ elements rest outside. inlines_stand block.start left.places left.text setting is.inlines is.are_inlines elements rest) is.are_events
+      paragraph_stands page setting here block here.is_tight events (marker_event task ∷ map (placed block.start left.offsets) is.inlines)
+      (λ elements rest outside. inlines_stand block.start left.offsets left.text setting is.inlines is.are_inlines elements rest) is.are_events
 
   stands_with : (task : Option Task) (events : List RangedEvent) → AreEventsWith task page setting here block events → Stand events
   stands_with None events is = leaf_events_stand page setting here block events is

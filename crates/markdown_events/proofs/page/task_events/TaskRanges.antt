@@ -21,74 +21,74 @@ use Rattle.markdown_events.proofs.inline_events.Laws.{events_balance, events_fil
 use Rattle.markdown_events.proofs.page.leaf_events.LeafRanges.{RiseTo, leaf_rises, paragraph_rises}
 use Rattle.markdown_events.proofs.page.leaf_events.LineRanges.{ContentAfter}
 use Rattle.markdown_events.proofs.page.leaf_events.TextRanges.{placed_rise}
-use Rattle.markdown_events.proofs.page.task_events.RestLemmas.{place_further}
+use Rattle.markdown_events.proofs.page.task_events.RestLemmas.{offset_further}
 
--- ---- places
+-- ---- offsets
 
-later_strictly : (count from : ℕ) (places : List ℕ) → RiseStrictly from places → RiseStrictly from (drop count places)
-later_strictly zero from places rise = rise
+later_strictly : (count from : ℕ) (offsets : List ℕ) → RiseStrictly from offsets → RiseStrictly from (drop count offsets)
+later_strictly zero from offsets rise = rise
 later_strictly (suc count) from [] rise = tt
-later_strictly (suc count) from (place ∷ places) rise =
-    earlier from (suc place) (drop count places) (omega (arith, rise.0)) (later_strictly count (suc place) places rise.1)
+later_strictly (suc count) from (offset ∷ offsets) rise =
+    earlier from (suc offset) (drop count offsets) (omega (arith, rise.0)) (later_strictly count (suc offset) offsets rise.1)
   where
-    earlier : (from to : ℕ) (places : List ℕ) → from ≤ to → RiseStrictly to places → RiseStrictly from places
+    earlier : (from to : ℕ) (offsets : List ℕ) → from ≤ to → RiseStrictly to offsets → RiseStrictly from offsets
     earlier from to [] less rise = tt
-    earlier from to (place ∷ places) less rise = (omega (arith, less, rise.0), rise.1)
+    earlier from to (offset ∷ offsets) less rise = (omega (arith, less, rise.0), rise.1)
 
-counted_from : (places : List ℕ) (from i : ℕ) → RiseStrictly from places → i < length places → from + i ≤ slice_index places i
+counted_from : (offsets : List ℕ) (from i : ℕ) → RiseStrictly from offsets → i < length offsets → from + i ≤ slice_index offsets i
 counted_from [] from i rise inside = absurd (omega (arith, inside))
-counted_from (place ∷ places) from zero rise inside = omega (arith, rise.0)
-counted_from (place ∷ places) from (suc i) rise inside =
-    omega (arith, rise.0, counted_from places (suc place) i rise.1 (omega (arith, inside)))
+counted_from (offset ∷ offsets) from zero rise inside = omega (arith, rise.0)
+counted_from (offset ∷ offsets) from (suc i) rise inside =
+    omega (arith, rise.0, counted_from offsets (suc offset) i rise.1 (omega (arith, inside)))
 
--- each place is as many further as there are before it
-counted : (places : List ℕ) (i : ℕ) → RiseStrictly 0 places → i < length places → slice_index places 0 + i ≤ slice_index places i
+-- each offset is as many further as there are before it
+counted : (offsets : List ℕ) (i : ℕ) → RiseStrictly 0 offsets → i < length offsets → slice_index offsets 0 + i ≤ slice_index offsets i
 counted [] i rise inside = absurd (omega (arith, inside))
-counted (place ∷ places) i rise inside = counted_from (place ∷ places) place i (omega arith, rise.1) inside
+counted (offset ∷ offsets) i rise inside = counted_from (offset ∷ offsets) offset i (omega arith, rise.1) inside
 
 -- ---- a paragraph with a marker
 
-module _ (page : List ℕ) (setting : EventSetting) (here : Place) (block : LeafBlock) (passed : ℕ) (own : passed ≤ block.place)
-    (ends_after : block.place ≤ block_end block) where
-  module _ (task : Task) (has : HasInlines block.kind) (after : ContentAfter block.place page here block) (at : task.place ≡ block.place)
-      (fits : block.place + task.len ≤ block_end block) (events : List RangedEvent) (is : AreTaskEvents page setting here block task events) where
+module _ (page : List ℕ) (setting : EventSetting) (here : Place) (block : LeafBlock) (passed : ℕ) (own : passed ≤ block.offset)
+    (ends_after : block.offset ≤ block_end block) where
+  module _ (task : Task) (has : HasInlines block.kind) (after : ContentAfter block.offset page here block) (at : task.offset ≡ block.offset)
+      (fits : block.offset + task.len ≤ block_end block) (events : List RangedEvent) (is : AreTaskEvents page setting here block task events) where
     abbrev count : ℕ
     count = marker_end task.len is.content.text
 
-    abbrev places : List ℕ
-    places = is.content.places
+    abbrev offsets : List ℕ
+    offsets = is.content.offsets
 
-    each : length places ≡ length is.content.text
+    each : length offsets ≡ length is.content.text
     each = content_sizes block.kind here.containers here.kept (lines_in_page page block) is.content is.is_content
 
-    strict : RiseStrictly 0 places
+    strict : RiseStrictly 0 offsets
     strict = inlines_strictly block.kind here.containers here.kept (lines_in_page page block) is.content has is.is_content
 
-    inside : (i : ℕ) → i < length (drop count places) → count + i < length places
-    inside i low = omega (arith, low, length-drop count places)
+    inside : (i : ℕ) → i < length (drop count offsets) → count + i < length offsets
+    inside i low = omega (arith, low, length-drop count offsets)
 
-    within : (i : ℕ) → i < length (drop count places) → block.start + slice_index (drop count places) i + 1 ≤ block_end block
+    within : (i : ℕ) → i < length (drop count offsets) → block.start + slice_index (drop count offsets) i + 1 ≤ block_end block
     within i low =
         let few = length-take block.bytes (drop block.start page) in
         let there = content_bytes block.kind here.containers here.kept (take block.bytes (drop block.start page)) is.content is.is_content (count + i)
         (omega (arith, inside i low, each)) in
-        omega (arith, place_further places count i, there.0, few)
+        omega (arith, offset_further offsets count i, there.0, few)
 
     -- what follows the marker stands after it
-    first : (i : ℕ) → i < length (drop count places) → task.place + task.len ≤ block.start + slice_index (drop count places) i
+    first : (i : ℕ) → i < length (drop count offsets) → task.offset + task.len ≤ block.start + slice_index (drop count offsets) i
     first i low =
         let begins = after is.content is.is_content 0 (omega (arith, inside i low, each)) in
-        omega (arith, at, begins, place_further places count i, counted places (count + i) strict (inside i low))
+        omega (arith, at, begins, offset_further offsets count i, counted offsets (count + i) strict (inside i low))
 
-    rises : RiseTo block.place block (marker_event task ∷ map (placed block.start (after_marker task is.content).places) is.inlines)
+    rises : RiseTo block.offset block (marker_event task ∷ map (placed block.start (after_marker task is.content).offsets) is.inlines)
     rises = λ from to ends rest low enough gives. (
       record { begins = omega (arith, low, at); in_order = omega arith; ends = omega (arith, at, fits, enough) },
-      placed_rise block.start (drop count places) (later_strictly count 0 places strict) (block_end block) within to ends rest enough gives is.inlines
-          (task.place + task.len) (omega (arith, at, fits)) first
+      placed_rise block.start (drop count offsets) (later_strictly count 0 offsets strict) (block_end block) within to ends rest enough gives is.inlines
+          (task.offset + task.len) (omega (arith, at, fits)) first
           (events_balance (after_marker task is.content).text setting is.inlines is.are_inlines)
           (subst (λ n. RiseFilled (n ∷ []) 0 is.inlines)
-          (let sizes : length (drop count is.content.text) ≡ length (drop count places) =
-          omega (arith, each, length-drop count places, length-drop count is.content.text) in sizes)
+          (let sizes : length (drop count is.content.text) ≡ length (drop count offsets) =
+          omega (arith, each, length-drop count offsets, length-drop count is.content.text) in sizes)
           (events_filled (after_marker task is.content).text setting is.inlines is.are_inlines)),
     )
 
@@ -100,16 +100,16 @@ module _ (page : List ℕ) (setting : EventSetting) (here : Place) (block : Leaf
 -- ---- a leaf block
 
 -- what is known of the marker of a block
-record IsMarker (block : LeafBlock) (task : Task) : Type 0 where
-  inlines : HasInlines block.kind
-  place : task.place ≡ block.place
-  len : task.len ≤ length block.text
+pub record IsMarker (block : LeafBlock) (task : Task) : Type 0 where
+  pub inlines : HasInlines block.kind
+  pub offset : task.offset ≡ block.offset
+  pub len : task.len ≤ length block.text
 
 marker_in : (container : Container) (kind : BlockKind) (block : LeafBlock) (task : Task) → block.kind ≡ kind → task_in container kind block ≡ Some task
     → IsMarker block task
 marker_in (Item one) Paragraph block task kind is =
     let found = task_within block task is in
-    record { inlines = subst HasInlines (sym kind) tt; place = found.0; len = found.1 }
+    record { inlines = subst HasInlines (sym kind) tt; offset = found.0; len = found.1 }
 marker_in (Item one) Blank block task kind is = absurd (cc)
 marker_in (Item one) Break block task kind is = absurd (cc)
 marker_in (Item one) Definition block task kind is = absurd (cc)
@@ -123,7 +123,7 @@ marker_in Quote kind block task same is = absurd (cc)
 marker_in Footnote kind block task same is = absurd (cc)
 marker_in (TermDefinition one) kind block task same is = absurd (cc)
 
-marker_here : (asked : Bool) (waiting : Option Container) (block : LeafBlock) (task : Task) → task_here asked waiting block ≡ Some task
+pub marker_here : (asked : Bool) (waiting : Option Container) (block : LeafBlock) (task : Task) → task_here asked waiting block ≡ Some task
     → IsMarker block task
 marker_here true (Some container) block task is = marker_in container block.kind block task refl is
 marker_here true None block task is = absurd (cc)
@@ -131,8 +131,8 @@ marker_here false (Some container) block task is = absurd (cc)
 marker_here false None block task is = absurd (cc)
 
 -- The events of a leaf block rise: where its content stands after what has passed, and that of inlines from the block's own text on.
-pub block_rises : (page : List ℕ) (setting : EventSetting) (here : Place) (passed : ℕ) (block : LeafBlock) → passed ≤ block.place
-    → block.place ≤ block_end block → ContentAfter passed page here block → (HasInlines block.kind → ContentAfter block.place page here block)
+pub block_rises : (page : List ℕ) (setting : EventSetting) (here : Place) (passed : ℕ) (block : LeafBlock) → passed ≤ block.offset
+    → block.offset ≤ block_end block → ContentAfter passed page here block → (HasInlines block.kind → ContentAfter block.offset page here block)
     → HoldsText page here.containers here.kept block → (waiting : Option Container) (events : List RangedEvent)
     → AreBlockEvents page setting here waiting block events → RiseTo passed block events
 block_rises page setting here passed block own ends_after after own_after holds waiting events are =
@@ -143,5 +143,5 @@ block_rises page setting here passed block own ends_after after own_after holds 
     by None none is = leaf_rises page setting here passed block own ends_after after own_after holds events is
     by (Some task) found is =
         let marker = marker_here setting.asked.tasks waiting block task found in
-        marked_rises page setting here block passed own ends_after task marker.inlines (own_after marker.inlines) marker.place
+        marked_rises page setting here block passed own ends_after task marker.inlines (own_after marker.inlines) marker.offset
         (omega (arith, marker.len, holds.within)) events is

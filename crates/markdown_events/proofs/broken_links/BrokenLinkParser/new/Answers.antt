@@ -26,3 +26,13 @@ pub returns-in-Ok-clause-references : goal.returns-in-Ok-clause-references
 returns-in-Ok-clause-references g c = λ events given.
     let targets = g.B.Definitions.targets c.args.broken in
     c.in-Ok.ensures.broken_references targets events (subst (λ (left : PageLeft). GivesWith targets left events) c.of_reader.ensures.left given)
+
+pub returns-in-Ok-clause-cells : goal.returns-in-Ok-clause-cells
+returns-in-Ok-clause-cells g c = λ events given.
+    let targets = g.B.Definitions.targets c.args.broken in
+    c.in-Ok.ensures.broken_cells targets events (subst (λ (left : PageLeft). GivesWith targets left events) c.of_reader.ensures.left given)
+
+pub returns-in-Ok-clause-few : goal.returns-in-Ok-clause-few
+returns-in-Ok-clause-few g c = λ events given.
+    let targets = g.B.Definitions.targets c.args.broken in
+    c.in-Ok.ensures.broken_few targets events (subst (λ (left : PageLeft). GivesWith targets left events) c.of_reader.ensures.left given)

@@ -3,8 +3,10 @@ use Rattle.markdown_blocks.specs.events.Events.{seen_event as seen_block}
 use Rattle.markdown_events.specs.Targets.{nowhere}
 use Rattle.markdown_events.specs.page.OpenElements.{none_open}
 use Rattle.markdown_events.specs.page.PageEvents.{ArePageEvents, ArePageEventsWith}
-use Rattle.markdown_events.specs.page.References.{room_of}
+use Rattle.markdown_events.specs.page.References.{page_room}
 use Rattle.markdown_events.specs.page.Settings.{built}
+use Rattle.markdown_events.proofs.page.CellRoom.{page_cells_fit, page_cells_with_fit}
+use Rattle.markdown_events.proofs.page.EventCounts.{page_events_fit, page_events_with_fit}
 use Rattle.markdown_events.proofs.page.InPageLemmas.{page_leaves_in}
 use Rattle.markdown_events.proofs.page.PageBalance.{page_events_balance, page_events_nest, page_events_with_balance, page_events_with_nest}
 use Rattle.markdown_events.proofs.page.PageCuts.{page_events_at_boundaries, page_events_with_at_boundaries}
@@ -31,12 +33,12 @@ returns-clause-page c = λ events g.
     let first = rw c.built.ensures at c.in_ok-blocks.ensures.first in
     let are_spans = rw c.deref.ensures.value at c.in_ok-spans.ensures in
     let none = c.new-2.ensures in
-    let later = rw (c.new.ensures, c.all.ensures, c.room_of.ensures) at g.are_later in
+    let later = rw (c.new.ensures, c.all.ensures, c.page_room.ensures) at g.are_later in
     let without = given_with (record {
       page = page;
       extensions = setting;
       known = known;
-      room = room_of page;
+      room = page_room page;
       ready = [];
       elements = none_open found;
       blocks = map seen_block all;
@@ -74,7 +76,7 @@ returns-clause-broken c = λ more events g.
     let of_page = rw c.built.ensures at c.in_ok-blocks.ensures.blocks in
     let first = rw c.built.ensures at c.in_ok-blocks.ensures.first in
     let none = c.new-2.ensures in
-    let later = rw (c.new.ensures, c.all.ensures, c.room_of.ensures) at g.are_later in
+    let later = rw (c.new.ensures, c.all.ensures, c.page_room.ensures) at g.are_later in
     subst (λ es. ArePageEventsWith page setting more es) (sym (g.given ∙ ap (λ es. es ++ g.rest) none))
     (page_events_with page setting more (map seen_block all) c.in_ok-blocks.definitions (reverse c.in_ok-spans.spans.items) g.rest of_page
     first.0 first.1 first.2 (rw c.deref.ensures.value at c.in_ok-spans.ensures) later)
@@ -101,3 +103,17 @@ returns-clause-references c = λ events g. page_references_fit c.args.page.now c
 pub returns-clause-broken_references : goal.returns-clause-broken_references
 returns-clause-broken_references c = λ more events g.
     page_references_with_fit c.args.page.now c.args.setting more events (returns-clause-broken c more events g)
+
+pub returns-clause-cells : goal.returns-clause-cells
+returns-clause-cells c = λ events g. page_cells_fit c.args.page.now c.args.setting events (returns-clause-page c events g)
+
+pub returns-clause-broken_cells : goal.returns-clause-broken_cells
+returns-clause-broken_cells c = λ more events g.
+    page_cells_with_fit c.args.page.now c.args.setting more events (returns-clause-broken c more events g)
+
+pub returns-clause-few : goal.returns-clause-few
+returns-clause-few c = λ events g. page_events_fit c.args.page.now c.args.setting events (returns-clause-page c events g)
+
+pub returns-clause-broken_few : goal.returns-clause-broken_few
+returns-clause-broken_few c = λ more events g.
+    page_events_with_fit c.args.page.now c.args.setting more events (returns-clause-broken c more events g)

@@ -26,15 +26,15 @@ line_is c =
 pub returns-then-is_plain_line-clause-content : goal.returns-then-is_plain_line-clause-content
 returns-then-is_plain_line-clause-content c = line_is c
 
-pub returns-then-is_plain_line-clause-places : goal.returns-then-is_plain_line-clause-places
-returns-then-is_plain_line-clause-places c =
+pub returns-then-is_plain_line-clause-offsets : goal.returns-then-is_plain_line-clause-offsets
+returns-then-is_plain_line-clause-offsets c =
     let lines = take c.args.leaf.bytes (drop c.args.leaf.start c.args.page.now) in
     content_placed c.args.leaf.kind c.args.here.containers.now c.args.here.kept c.args.leaf.start c.args.leaf.bytes c.args.page.now lines
     c.line_content.result refl c.args.leaf.ends (line_is c)
     (content_bytes c.args.leaf.kind c.args.here.containers.now c.args.here.kept lines c.line_content.result (line_is c))
 
-pub returns-clause-places : goal.returns-clause-places
-returns-clause-places c =
+pub returns-clause-offsets : goal.returns-clause-offsets
+returns-clause-offsets c =
     content_placed c.args.leaf.kind c.args.here.containers.now c.args.here.kept c.args.leaf.start c.args.leaf.bytes c.as_bytes.result.now
     c.lines_in-lines.result.now c.in_ok-content.content c.lines_in-lines.ensures c.args.leaf.ends c.in_ok-content.ensures.content
     c.in_ok-content.ensures.bytes

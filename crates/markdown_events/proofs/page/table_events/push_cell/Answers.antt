@@ -19,8 +19,8 @@ of_cell-source-requires g c =
     subst (λ (p : Placed). IsUtf8 p.text) (sym c.in_ok-content.ensures.content)
     (cell_utf8 c.args.text.now c.args.cell c.requires.utf8 c.requires.in_order (c.requires.begins, c.requires.ends))
 
-pub in_page-inner-requires-clause-places : goal.in_page-inner-requires-clause-places
-in_page-inner-requires-clause-places g c =
+pub in_page-inner-requires-clause-offsets : goal.in_page-inner-requires-clause-offsets
+in_page-inner-requires-clause-offsets g c =
     subst (CanPlace c.args.before) (sym c.in_ok-content.ensures.content)
     (cell_can_place c.args.before c.args.text.now c.args.cell c.requires.fits
     (subst (AreBytesOf c.args.text.now) c.in_ok-content.ensures.content c.in_ok-content.ensures.bytes))
@@ -38,8 +38,8 @@ returns g c =
     let begun = map seen_event c.push_event.new.events.items in
     let content_is = c.in_ok-content.ensures.content in
     let are = subst (λ (t : List ℕ). AreInlineEvents t setting inlines) (c.of_cell-source.ensures ∙ ap (λ (p : Placed). p.text) content_is)
-    c.in_ok-inlines.ensures.events in
-    let moved = c.in_page-inner.ensures ∙ ap (λ (p : Placed). map (placed before p.places) inlines) content_is in
+    (c.in_ok-inlines.ensures.events setting.cells) in
+    let moved = c.in_page-inner.ensures ∙ ap (λ (p : Placed). map (placed before p.offsets) inlines) content_is in
     let filled = ap (map seen_event) c.in_ok-append.ensures.items
     ∙ (map-append seen_event c.push_event.new.events.items c.in_page-inner.result.items ∙ ap (λ (es : List RangedEvent). begun ++ es) moved) in
     on_ok_weaker c.push_event-2.result (λ ended.

@@ -13,11 +13,11 @@ abbrev pub invariant-loop-left : goal.invariant-loop-left
 invariant-loop-left g l =
     let setting : EventSetting = seen_reading g.D.Definitions.targets l.reading in
     record {
-      complete : Completes (AreCellEvents setting l.before l.text (shown_cells l.columns (row_len l.text) (cells_of l.text)))
-          (AreCellEvents setting l.before l.text (shown_cells l.left l.end l.cells)) (map seen_event l.fn.events.items)
+      complete : Completes (AreCellEvents setting l.before l.text (shown_cells l.columns.are_filled l.columns.count (row_len l.text) (cells_of l.text)))
+          (AreCellEvents setting l.before l.text (shown_cells l.columns.are_filled l.left l.end l.cells)) (map seen_event l.fn.events.items)
           (map seen_event l.events.items);
-      stand : StandWithin (length l.text) (shown_cells l.left l.end l.cells);
-      cut : AreCutFrom l.text (shown_cells l.left l.end l.cells);
+      stand : StandWithin (length l.text) (shown_cells l.columns.are_filled l.left l.end l.cells);
+      cut : AreCutFrom l.text (shown_cells l.columns.are_filled l.left l.end l.cells);
     }
 
 abbrev pub decreases-loop-left : goal.decreases-loop-left

@@ -41,10 +41,11 @@ returns-clause-events g c =
     let front = c.marker_end-front.result in
     let rest = subst (λ (t : List ℕ). drop front t ≡ drop (marker_end c.args.task.len t) t) c.text.ensures c.marker_end-front.ensures.rest in
     let low = subst (λ (t : List ℕ). front ≤ length t) c.text.ensures c.marker_end-front.ensures.within in
-    let are = subst (λ (t : List ℕ). AreInlineEvents t setting inlines) c.of_content-source.ensures c.in_ok-events.ensures.events in
+    let are = subst (λ (t : List ℕ). AreInlineEvents t setting inlines) c.of_content-source.ensures
+    (c.in_ok-events.ensures.events setting.cells) in
     IfOk-weaker c.in_paragraph.result _ _ (λ events is.
     task_is c.args.reading.now.page.now setting here block c.args.task content inlines front (map seen_event events.items) c.in_ok-content.ensures.content
-    c.in_ok-content.ensures.places.each low rest are
+    c.in_ok-content.ensures.offsets.each low rest are
     (is ∙ ap (in_paragraph c.args.here.is_tight block)
     (c.in_ok-inner.ensures ∙ ap (λ (es : List RangedEvent). marker_event c.args.task ∷ es) c.rest_in_page-moved.ensures)))
     c.in_paragraph.ensures.enclosed
@@ -60,5 +61,5 @@ returns-clause-within g c =
     let rest = rest_lies c.args.reading.now.page.now block c.args.here.containers.now c.args.here.kept c.in_ok-content.content
     c.in_ok-content.ensures.content front low events within in
     let inner_is = c.in_ok-inner.ensures ∙ ap (λ (es : List RangedEvent). marker_event c.args.task ∷ es) c.rest_in_page-moved.ensures in
-    IfOk-weaker c.in_paragraph.result _ _ (λ all lies place marker.
-    lies place (subst (LieInBlock block) (sym inner_is) (marker, rest))) c.in_paragraph.ensures.within
+    IfOk-weaker c.in_paragraph.result _ _ (λ all lies offset marker.
+    lies offset (subst (LieInBlock block) (sym inner_is) (marker, rest))) c.in_paragraph.ensures.within

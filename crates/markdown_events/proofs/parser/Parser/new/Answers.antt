@@ -2,7 +2,8 @@ use Rattle.std.proofs.Common.{subst, sym}
 use Rattle.markdown_events.specs.EventLaws.{AreAtBoundaries, AreBalanced, AreWithin}
 use Rattle.markdown_events.specs.Nesting.{AreNested, without_ranges}
 use Rattle.markdown_events.specs.page.Given.{AlwaysGivesOnly}
-use Rattle.markdown_events.specs.page.References.{ReferencesFit}
+use Rattle.markdown_events.specs.page.References.{CellsFit, ReferencesFit}
+use Rattle.markdown_events.specs.page.Sizes.{EventsFit}
 use Rattle.markdown_events.proofs.parser.Parser.new.Goals as goal
 
 pub returns-clause-broken_balanced : goal.returns-clause-broken_balanced
@@ -19,3 +20,9 @@ returns-clause-broken_boundaries c = subst (AlwaysGivesOnly (AreAtBoundaries c.a
 
 pub returns-clause-broken_references : goal.returns-clause-broken_references
 returns-clause-broken_references c = subst (AlwaysGivesOnly (ReferencesFit c.args.text.now)) (sym c.of_reader.ensures.left) c.in_ok-new.ensures.broken_references
+
+pub returns-clause-broken_cells : goal.returns-clause-broken_cells
+returns-clause-broken_cells c = subst (AlwaysGivesOnly (CellsFit c.args.text.now)) (sym c.of_reader.ensures.left) c.in_ok-new.ensures.broken_cells
+
+pub returns-clause-broken_few : goal.returns-clause-broken_few
+returns-clause-broken_few c = subst (AlwaysGivesOnly (EventsFit c.args.text.now)) (sym c.of_reader.ensures.left) c.in_ok-new.ensures.broken_few

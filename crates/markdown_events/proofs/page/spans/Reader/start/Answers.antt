@@ -12,8 +12,8 @@ returns-in_default c = λ events known.
     let found = reverse c.self.inside.spans.items in
     let none = nil_from_length c.self.inside.outer.items (sym c.self.inside.outer.ok.0 ∙ c.in_default.ensures.cases.0) in
     let none_left = nil_from_length c.pop.new.self.items (sym c.pop.new.self.ok.0 ∙ c.in_default.ensures.cases.1) in
-    subst (λ o. KnownOf (starts c.args.container c.args.place ∷ events) level (reverse o) found) (sym none_left)
-    (known_with_none c.args.container c.args.place events found level (subst (λ o. KnownOf events level (reverse o) found) none before))
+    subst (λ o. KnownOf (starts c.args.container c.args.offset ∷ events) level (reverse o) found) (sym none_left)
+    (known_with_none c.args.container c.args.offset events found level (subst (λ o. KnownOf events level (reverse o) found) none before))
 
 pub returns : goal.returns
 returns c = λ events known.
@@ -24,8 +24,8 @@ returns c = λ events known.
     ap reverse c.in-Some.ensures.items ∙ reverse-append c.pop.new.self.items (c.in-Some.later ∷ []) in
     let spans : reverse c.push.new.self.items ≡ c.span_of.result ∷ found =
     ap reverse c.in_ok-push.ensures.items ∙ reverse-append c.self.inside.spans.items (c.span_of.result ∷ []) in
-    subst (KnownOf (starts c.args.container c.args.place ∷ events) c.with_container-self-inside.result (reverse c.pop.new.self.items)) (sym spans)
-    (known_with_start c.args.container c.args.place events found level c.in-Some.later c.with_container-self-inside.result (reverse c.pop.new.self.items)
+    subst (KnownOf (starts c.args.container c.args.offset ∷ events) c.with_container-self-inside.result (reverse c.pop.new.self.items)) (sym spans)
+    (known_with_start c.args.container c.args.offset events found level c.in-Some.later c.with_container-self-inside.result (reverse c.pop.new.self.items)
     c.span_of.result
     (λ inner nodes same same_later. (
       c.with_container-self-inside.ensures inner nodes (c.content-content.ensures inner same) same_later,

@@ -2,7 +2,7 @@ use Rattle.std.proofs.Common.{◌∙◌, subst}
 use Rattle.std.proofs.lemmas.Result.{IfOk-weaker}
 use Rattle.memchr.specs.Find.{IsFirstByte, is_byte}
 use Rattle.markdown_events.proofs.InsecureCharacters.{stays_without, replaced}
-use Rattle.markdown_events.proofs.insecure_characters.with_replacements.Goals as goal
+use Rattle.markdown_events.proofs.insecure_characters.replace_nul.Goals as goal
 
 pub returns-then-is_none : goal.returns-then-is_none
 returns-then-is_none c =
