@@ -23,7 +23,7 @@ continues b = is_tab_or_newline b || is_scheme_byte b
 abbrev pub spelled : List ℕ → List ℕ
 spelled written = map to_ascii_lowercase (without_breaks written)
 
--- what is left behind the leading controls and spaces
+-- what is left after the leading controls and spaces
 pub after_leading : (address : List ℕ) → drop (prefix_len is_control_or_space address) address ≡ without_leading address
 after_leading [] = refl
 after_leading (b ∷ bs) = elim (cases_Bool (is_control_or_space b)) [
@@ -89,8 +89,8 @@ pub kept_byte : (written : List ℕ) (i : ℕ) → i < length written → is_tab
     → without_breaks (drop i written) ≡ get_or written i 0 ∷ without_breaks (drop (i + 1) written)
 kept_byte written i inside kept = rw (add-one, drop-cons written i 0, kept)
 
-pub begins_at_place : (p : ℕ → Bool) (bytes : List ℕ) (n : ℕ) → n < length bytes → begins_with p (drop n bytes) ≡ p (get_or bytes n 0)
-begins_at_place p bytes n inside = rw (drop-cons bytes n 0)
+pub begins_at_offset : (p : ℕ → Bool) (bytes : List ℕ) (n : ℕ) → n < length bytes → begins_with p (drop n bytes) ≡ p (get_or bytes n 0)
+begins_at_offset p bytes n inside = rw (drop-cons bytes n 0)
 
 pub no_more : (p : ℕ → Bool) (bytes : List ℕ) (n : ℕ) → length bytes ≤ n → begins_with p (drop n bytes) ≡ false
 no_more p [] zero past = refl
@@ -105,7 +105,7 @@ pub written_found : (url : List ℕ) (n : ℕ) → begins_with is_control_or_spa
 written_found url n front some letter run inside here =
     let begun : begins_with is_letter url ≡ true = begins_at is_letter url some ∙ letter in
     let ends : begins_with (λ b. b == colon) (drop n url) ≡ true =
-    begins_at_place (λ b. b == colon) url n inside ∙ rw here refl in
+    begins_at_offset (λ b. b == colon) url n inside ∙ rw here refl in
     start_at_letter url front ∙ rw (begun, ← run, ends) refl
 
 -- No colon is there.
@@ -177,7 +177,7 @@ pub listed : {A : Type 0} (see : A → List ℕ) (schemes : List A) (address url
     → url ≡ without_leading address → scheme_start_state (without_breaks url) ≡ Some (spelled written)
     → result ≡ list_any (λ scheme. bytes_eq (spelled written) (map to_ascii_lowercase (see scheme))) schemes
     → result ≡ is_allowed_address (map see schemes) address
-listed see schemes address url written result behind found answer =
+listed see schemes address url written result after found answer =
     answer ∙ list_any-map see (λ scheme. bytes_eq (spelled written) (map to_ascii_lowercase scheme)) schemes
     ∙ ap (λ scheme. option_map_or (is_allowed_scheme (map see schemes)) scheme true)
-    (sym found ∙ ap (λ url. scheme_start_state (without_breaks url)) behind)
+    (sym found ∙ ap (λ url. scheme_start_state (without_breaks url)) after)

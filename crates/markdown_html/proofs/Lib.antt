@@ -2,8 +2,10 @@ pub mod AddressLemmas
 pub mod BegunLemmas
 pub mod EscapeLaws
 pub mod EventLemmas
+pub mod HtmlPrices
 pub mod HtmlReads
 pub mod LineLemmas
+pub mod PagePrices
 pub mod PushLemmas
 pub mod ReadEnds
 pub mod ReadEvents

@@ -1,7 +1,7 @@
 -- The HTML of each page is safe, as is that of other events that nest, where its setting is.
 use Rattle.std.proofs.Common.{ℕ, List, ◌≡◌, sym, subst}
 use Rattle.markdown_values.specs.values.Events.{EventView}
-use Rattle.markdown_events.specs.InsecureCharacters.{with_replacements}
+use Rattle.markdown_events.specs.InsecureCharacters.{replace_nul}
 use Rattle.markdown_events.specs.Nesting.{AreNested, without_ranges}
 use Rattle.markdown_values.specs.declared.values.extensions.Extensions.{Extensions}
 use Rattle.markdown_events.proofs.ForCallers.{page_events_nest}
@@ -20,4 +20,4 @@ nested_html_is_safe setting events html is nested schemes safe =
 pub page_html_is_safe : (page : List ℕ) (asked : Extensions) (setting : Setting) (html : List ℕ) → IsHtmlOf page asked setting html
     → IsSafeWith setting html
 page_html_is_safe page asked setting html is =
-    nested_html_is_safe setting (without_ranges is.events) html is.is_html (page_events_nest (with_replacements page) asked is.events is.are_events)
+    nested_html_is_safe setting (without_ranges is.events) html is.is_html (page_events_nest (replace_nul page) asked is.events is.are_events)

@@ -4,6 +4,7 @@ pub mod Content
 pub mod EscapeLaws
 pub mod Escapes
 pub mod Html
+pub mod HtmlSizes
 pub mod Inlines
 pub mod PageHtml
 pub mod PushedHtml

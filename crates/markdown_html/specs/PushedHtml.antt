@@ -1,11 +1,12 @@
 -- HTML of the events that an iterator gives.
-use Rattle.std.specs.Prelude.{ℕ, ◌≡◌, List, ◌++◌, map, Option, Result, Ok}
+use Rattle.std.specs.Prelude.{ℕ, ◌≡◌, ◌≤◌, ◌+◌, ◌*◌, List, ◌++◌, length, map, Option, Result, Ok}
 use Rattle.std.specs.Iterator.{Drains}
 use Rattle.std.specs.declared.alloc.AllocError.{AllocError}
 use Rattle.markdown_values.specs.strings.Text.{cow_text}
 use Rattle.markdown_values.specs.values.Events.{EventView, event_view}
 use Rattle.markdown_values.specs.declared.values.events.Event.{Event}
 use Rattle.markdown_html.specs.Html.{html_of}
+use Rattle.markdown_html.specs.HtmlSizes.{bytes_of}
 use Rattle.markdown_events.specs.Nesting.{AreNested}
 use Rattle.markdown_html.specs.SafeHtml.{IsSafeHtml}
 use Rattle.markdown_html.specs.SafeSetting.{safe_setting}
@@ -39,3 +40,9 @@ pub record AppendsSafeHtml {I : Type 0} (steps : Steps I) (it : I) (schemes : Li
   pub is_html : IsHtmlOfItems steps it (safe_setting schemes) html
   pub is_safe : AreNested is_html.events → IsSafeHtml schemes html
   pub is_appended : new ≡ old ++ html
+
+-- No more is appended than the events that the iterator gives have room for.
+pub record AppendsFew {I : Type 0} (steps : Steps I) (it : I) (old new : List ℕ) : Type 0 where
+  pub events : List (EventView (List ℕ))
+  pub are_given : AreGiven steps it events
+  pub few : length new ≤ length old + 55 * length events + 6 * bytes_of events

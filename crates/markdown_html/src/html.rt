@@ -5,6 +5,7 @@ ghost use Rattle.markdown_values.specs.values.Events.{event_view};
 ghost use Rattle.markdown_events.specs.Nesting.{AreNested};
 ghost use Rattle.markdown_html.specs.Content.{content};
 ghost use Rattle.markdown_html.specs.Html.{html_of};
+ghost use Rattle.markdown_html.specs.HtmlSizes.{FitsEvents};
 ghost use Rattle.markdown_html.specs.ReadHtml.{Reads};
 ghost use Rattle.markdown_html.specs.SafeSetting.{IsSafeWith};
 ghost use Rattle.markdown_html.specs.Settings.{seen_setting};
@@ -35,6 +36,8 @@ pub fn html_of_events<'a, A: AllowedAddresses>(
         → Reads (string_bytes html)
         (content (seen_setting A.allows setting.now)
         (map (event_view cow_text) events.entry.items))) }
+    ensures few { IfOk result (λ html.
+        FitsEvents (map (event_view cow_text) events.entry.items) (string_bytes html)) }
 {
     html_of_list(alloc, setting, events)
 }

@@ -2,6 +2,8 @@
 ghost use Rattle.std.specs.Prelude.{◌≡◌, IfErr, IfOk, string_bytes};
 ghost use Rattle.markdown_values.specs.values.Extensions.{asked_by, commonmark};
 ghost use Rattle.markdown_events.specs.page.Settings.{Explains, not_built};
+ghost use Rattle.markdown_events.specs.InsecureCharacters.{replace_nul};
+ghost use Rattle.markdown_html.specs.HtmlSizes.{FitsPage};
 ghost use Rattle.markdown_html.specs.PageHtml.{HoldsPage, IsHtmlFrom, IsHtmlOf};
 ghost use Rattle.markdown_html.specs.SafeSetting.{IsSafeWith};
 ghost use Rattle.markdown_html.specs.Settings.{seen_setting};
@@ -9,7 +11,7 @@ ghost use Rattle.markdown_html.specs.Settings.{seen_setting};
 use crate::setting::{AllowedAddresses, HtmlSetting};
 use crate::writer::HtmlWriter;
 use markdown_events::event_reader::{EventReader, NewError};
-use markdown_events::insecure_characters::with_replacements;
+use markdown_events::insecure_characters::replace_nul;
 use markdown_events::settings::setting_of;
 use markdown_values::values::{Extensions, Options};
 use std::alloc::{AllocError, Global};
@@ -31,6 +33,7 @@ pub fn html_of_page<A: AllowedAddresses>(
     ensures reads { IfOk result (λ html.
         HoldsPage page.now commonmark
         (seen_setting A.allows setting.now) (string_bytes html)) }
+    ensures few { IfOk result (λ html. FitsPage (replace_nul page.now) (string_bytes html)) }
 {
     html_of_page_with(alloc, page, Extensions::none(), setting)
 }
@@ -52,8 +55,9 @@ pub fn html_of_page_with<A: AllowedAddresses>(
         (seen_setting A.allows setting.now) (string_bytes html)) }
     ensures reads { IfOk result (λ html.
         HoldsPage page.now asked (seen_setting A.allows setting.now) (string_bytes html)) }
+    ensures few { IfOk result (λ html. FitsPage (replace_nul page.now) (string_bytes html)) }
 {
-    let text = with_replacements(alloc, page)?;
+    let text = replace_nul(alloc, page)?;
     let reader = EventReader::with_setting(alloc, text.as_str(), asked)?;
     html_of_reader(alloc, reader, setting)
 }
@@ -62,7 +66,7 @@ pub fn html_of_page_with<A: AllowedAddresses>(
 ///
 /// # Errors
 ///
-/// `NotBuilt` with those of the options that are not built, where one is, and `Refused` where memory
+/// `Unsupported` with those of the options that are not built, where one is, and `Refused` where memory
 /// is refused.
 pub fn html_of_page_ext<A: AllowedAddresses>(
     alloc: Global,
@@ -77,6 +81,7 @@ pub fn html_of_page_ext<A: AllowedAddresses>(
     ensures reads { IfOk result (λ html.
         HoldsPage page.now (asked_by options)
         (seen_setting A.allows setting.now) (string_bytes html)) }
+    ensures few { IfOk result (λ html. FitsPage (replace_nul page.now) (string_bytes html)) }
     ensures built { IfOk result (λ _. not_built options ≡ 0) }
     ensures refused { IfErr result (Explains options) }
 {

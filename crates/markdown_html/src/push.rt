@@ -4,7 +4,8 @@ ghost use Rattle.std.specs.Iterator.{IsFinite};
 ghost use Rattle.markdown_values.specs.strings.Text.{cow_text};
 ghost use Rattle.markdown_values.specs.values.Events.{event_view};
 ghost use Rattle.markdown_html.specs.Html.{after_event};
-ghost use Rattle.markdown_html.specs.PushedHtml.{AppendsHtml, AppendsSafeHtml, IsHtmlOfItems};
+ghost use Rattle.markdown_html.specs.PushedHtml.{AppendsFew, AppendsHtml, AppendsSafeHtml};
+ghost use Rattle.markdown_html.specs.PushedHtml.{IsHtmlOfItems};
 ghost use Rattle.markdown_html.specs.Settings.{plain_setting, seen_setting};
 
 use crate::schemes::safe_setting;
@@ -29,6 +30,8 @@ pub fn push_html<'a, I: Iterator<Item = Result<Event<'a>, AllocError>> + Drop>(
     requires ends { IsFinite (I.remaining events) }
     ensures html { OnOk result (AppendsHtml I.next_gives events plain_setting
         (string_bytes html.old) (string_bytes html.new)) }
+    ensures few { OnOk result (AppendsFew I.next_gives events
+        (string_bytes html.old) (string_bytes html.new)) }
     ensures refused { OnErr result (string_bytes html.new ≡ string_bytes html.old) }
 {
     push_html_with(alloc, html, &plain_setting(), events)
@@ -51,6 +54,8 @@ pub fn push_safe_html<'a, I: Iterator<Item = Result<Event<'a>, AllocError>> + Dr
     requires ends { IsFinite (I.remaining events) }
     ensures html { OnOk result (AppendsSafeHtml I.next_gives events
         (map (λ scheme. scheme.now) schemes.now) (string_bytes html.old) (string_bytes html.new)) }
+    ensures few { OnOk result (AppendsFew I.next_gives events
+        (string_bytes html.old) (string_bytes html.new)) }
     ensures refused { OnErr result (string_bytes html.new ≡ string_bytes html.old) }
 {
     push_html_with(alloc, html, &safe_setting(schemes), events)
@@ -74,6 +79,8 @@ where
     requires ends { IsFinite (I.remaining events) }
     ensures html { OnOk result (AppendsHtml I.next_gives events
         (seen_setting A.allows setting.now) (string_bytes html.old) (string_bytes html.new)) }
+    ensures few { OnOk result (AppendsFew I.next_gives events
+        (string_bytes html.old) (string_bytes html.new)) }
     ensures refused { OnErr result (string_bytes html.new ≡ string_bytes html.old) }
 {
     let more = html_of_items(alloc, setting, events)?;

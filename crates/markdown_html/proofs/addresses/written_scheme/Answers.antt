@@ -1,7 +1,7 @@
 use Rattle.std.proofs.Common.{sym, ◌∙◌, arith}
 use Rattle.std.specs.Prelude.{◌==◌}
 use Rattle.markdown_scanners_tree.specs.Ascii.{colon}
-use Rattle.markdown_html.proofs.AddressLemmas.{written_found, none_written, begins_at_place, no_more, not_colon}
+use Rattle.markdown_html.proofs.AddressLemmas.{written_found, none_written, begins_at_offset, no_more, not_colon}
 use Rattle.markdown_html.proofs.addresses.written_scheme.Goals as goal
 use Rattle.markdown_html.proofs.addresses.written_scheme.Goals.{else-len-url-via-then-len-url+else-url-len-eq58, else-len-url-via-else-len-url}
 
@@ -16,6 +16,6 @@ returns-else-len-url c =
     let n = c.scheme_len-len.result in
     none_written url n c.requires c.scheme_len-len.ensures.count (elim c.else-len-url.branch [
       | else-len-url-via-then-len-url+else-url-len-eq58 w ↦
-          begins_at_place (λ b. b == colon) url n w.if-len-url.true ∙ not_colon _ w.if-url-len-eq58.false
+          begins_at_offset (λ b. b == colon) url n w.if-len-url.true ∙ not_colon _ w.if-url-len-eq58.false
       | else-len-url-via-else-len-url w ↦ no_more (λ b. b == colon) url n w.if-len-url.false
     ])

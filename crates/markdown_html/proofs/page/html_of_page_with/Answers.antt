@@ -2,7 +2,7 @@ use Rattle.std.proofs.Common.{◌∙◌, string_bytes}
 use Rattle.std.proofs.lemmas.Result.{IfOk-weaker}
 use Rattle.markdown_html.specs.Settings.{seen_setting}
 use Rattle.markdown_html.proofs.SafePages.{page_html_is_safe}
-use Rattle.markdown_html.proofs.WholePages.{html_of_whole, page_html_read}
+use Rattle.markdown_html.proofs.WholePages.{html_of_whole, page_html_few, page_html_read}
 use Rattle.markdown_html.proofs.page.html_of_page_with.Goals as goal
 
 pub returns-clause-html : goal.returns-clause-html
@@ -22,4 +22,10 @@ pub returns-clause-reads : goal.returns-clause-reads
 returns-clause-reads g c =
     IfOk-weaker c.html_of_reader.result _ _
     (λ html is. page_html_read c.args.page.now c.args.asked (seen_setting g.A.AllowedAddresses.allows c.args.setting.now) (string_bytes html) is)
+    (returns-clause-html g c)
+
+pub returns-clause-few : goal.returns-clause-few
+returns-clause-few g c =
+    IfOk-weaker c.html_of_reader.result _ _
+    (λ html is. page_html_few c.args.page.now c.args.asked (seen_setting g.A.AllowedAddresses.allows c.args.setting.now) (string_bytes html) is)
     (returns-clause-html g c)
