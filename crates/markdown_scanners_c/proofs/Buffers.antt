@@ -13,6 +13,6 @@ module _ (text old new : List ℕ) (status needed : ℕ) where
   )
   front_changed (size, inr is) = (ap (drop needed) is.2, λ other. is.2)
 
-  pub no_refused_place : IsWritten text old new status needed → status ≢ past_end
-  no_refused_place (size, inl is) past = omega (arith, is.0, past)
-  no_refused_place (size, inr is) past = omega (arith, is.0, past)
+  pub no_refused_offset : IsWritten text old new status needed → status ≢ past_end
+  no_refused_offset (size, inl is) past = omega (arith, is.0, past)
+  no_refused_offset (size, inr is) past = omega (arith, is.0, past)

@@ -43,22 +43,22 @@ run_counted bytes byte (inr is) some =
     omega (arith, ap (λ b. count_of b bytes) is, apart underscore asterisk bytes (λ e. omega (arith, e)) one)
 
 -- there is a run where such bytes stand
-pub made_run : (text : List ℕ) (place : ℕ) → 0 < run_len (drop place text) → (run : Run) × IsDelimiterRun text place run
-made_run text place some = elim (cases_lt 0 (count_of asterisk (drop place text))) [
+pub made_run : (text : List ℕ) (offset : ℕ) → 0 < run_len (drop offset text) → (run : Run) × IsDelimiterRun text offset run
+made_run text offset some = elim (cases_lt 0 (count_of asterisk (drop offset text))) [
   | inl one ↦ made asterisk (inl refl) one
   | inr none ↦ made underscore (inr refl) (omega (arith, some, none))
 ] where
-  made : (byte : ℕ) → (byte ≡ asterisk) ⊎ (byte ≡ underscore) → 0 < count_of byte (drop place text)
-      → (run : Run) × IsDelimiterRun text place run
+  made : (byte : ℕ) → (byte ≡ asterisk) ⊎ (byte ≡ underscore) → 0 < count_of byte (drop offset text)
+      → (run : Run) × IsDelimiterRun text offset run
   made byte delimiter one =
-      let count = count_of byte (drop place text) in
-      let before = char_before text place in
-      let after = char_after text (place + count) in (
+      let count = count_of byte (drop offset text) in
+      let before = char_before text offset in
+      let after = char_after text (offset + count) in (
         record { byte = byte; count = count; can_open = can_open byte before after; can_close = can_close byte before after },
         record { delimiter = delimiter; some = one; longest = refl; opens = refl; closes = refl },
       )
 
--- Two texts have the same around these places.
+-- Two texts have the same around these offsets.
 pub record IsSameAround (one other : List ℕ) (p q count : ℕ) : Type 0 where
   pub asterisks : count_of asterisk (drop p one) ≡ count_of asterisk (drop q other)
   pub underscores : count_of underscore (drop p one) ≡ count_of underscore (drop q other)
@@ -126,117 +126,117 @@ first_char xs ys front some = ap (λ cs. slice_get cs 0) (chars-append xs ys fro
 
 -- What stands around a run: `front` bytes before it, the run, and `back` bytes after it.
 abbrev pub around : List ℕ → ℕ → ℕ → ℕ → ℕ → List ℕ
-around bytes place count front back = take (place + count + back - (place - front)) (drop (place - front) bytes)
+around bytes offset count front back = take (offset + count + back - (offset - front)) (drop (offset - front) bytes)
 
-module _ (bytes : List ℕ) (place count front back : ℕ) (within : front ≤ place) where
+module _ (bytes : List ℕ) (offset count front back : ℕ) (within : front ≤ offset) where
   abbrev window : List ℕ
-  window = around bytes place count front back
+  window = around bytes offset count front back
 
-  from_place : drop front (drop (place - front) bytes) ≡ drop place bytes
-  from_place = drop-drop front (place - front) bytes ∙ ap (λ n. drop n bytes) (omega (arith, within))
+  from_offset : drop front (drop (offset - front) bytes) ≡ drop offset bytes
+  from_offset = drop-drop front (offset - front) bytes ∙ ap (λ n. drop n bytes) (omega (arith, within))
 
-  whole : window ≡ take (front + (count + back)) (drop (place - front) bytes)
-  whole = ap (λ n. take n (drop (place - front) bytes)) (omega (arith, within))
+  whole : window ≡ take (front + (count + back)) (drop (offset - front) bytes)
+  whole = ap (λ n. take n (drop (offset - front) bytes)) (omega (arith, within))
 
-  pub drop_front : drop front window ≡ take (count + back) (drop place bytes)
-  drop_front = ap (drop front) whole ∙ drop-take front (count + back) (drop (place - front) bytes) ∙ ap (take (count + back)) from_place
+  pub drop_front : drop front window ≡ take (count + back) (drop offset bytes)
+  drop_front = ap (drop front) whole ∙ drop-take front (count + back) (drop (offset - front) bytes) ∙ ap (take (count + back)) from_offset
 
-  take_front : take front window ≡ take front (drop (place - front) bytes)
+  take_front : take front window ≡ take front (drop (offset - front) bytes)
   take_front =
-      ap (take front) whole ∙ take-take front (front + (count + back)) (drop (place - front) bytes) (omega arith)
+      ap (take front) whole ∙ take-take front (front + (count + back)) (drop (offset - front) bytes) (omega arith)
 
-  drop_run : drop (front + count) window ≡ take back (drop (place + count) bytes)
+  drop_run : drop (front + count) window ≡ take back (drop (offset + count) bytes)
   drop_run =
-      ap (drop (front + count)) (ap (λ n. take n (drop (place - front) bytes)) (omega (arith, within)))
-      ∙ drop-take (front + count) back (drop (place - front) bytes)
-      ∙ ap (take back) (drop-drop (front + count) (place - front) bytes ∙ ap (λ n. drop n bytes) (omega (arith, within)))
+      ap (drop (front + count)) (ap (λ n. take n (drop (offset - front) bytes)) (omega (arith, within)))
+      ∙ drop-take (front + count) back (drop (offset - front) bytes)
+      ∙ ap (take back) (drop-drop (front + count) (offset - front) bytes ∙ ap (λ n. drop n bytes) (omega (arith, within)))
 
   -- the same bytes are counted
-  pub same_counts : (byte : ℕ) → count_of byte (drop place bytes) ≤ count → count_of byte (drop front window) ≡ count_of byte (drop place bytes)
+  pub same_counts : (byte : ℕ) → count_of byte (drop offset bytes) ≤ count → count_of byte (drop front window) ≡ count_of byte (drop offset bytes)
   same_counts byte few =
       ap (count_of byte) drop_front
-      ∙ omega (arith, prefix_len-first (λ b. b == byte) (count + back) (drop place bytes), few)
+      ∙ omega (arith, prefix_len-first (λ b. b == byte) (count + back) (drop offset bytes), few)
 
-  module _ (utf8 : IsUtf8 bytes) (counted : count ≡ run_len (drop place bytes)) (some : 0 < count) (fits : place + count ≤ length bytes)
-      (begun : IsUtf8 (take place bytes) → IsCharBoundary (take place bytes) (place - front))
-      (ended : IsUtf8 (drop (place + count) bytes) → IsCharBoundary (drop (place + count) bytes) back) where
-    ascii_at : (k : ℕ) → k < count → get_or bytes (place + k) 0 < 128
+  module _ (utf8 : IsUtf8 bytes) (counted : count ≡ run_len (drop offset bytes)) (some : 0 < count) (fits : offset + count ≤ length bytes)
+      (begun : IsUtf8 (take offset bytes) → IsCharBoundary (take offset bytes) (offset - front))
+      (ended : IsUtf8 (drop (offset + count) bytes) → IsCharBoundary (drop (offset + count) bytes) back) where
+    ascii_at : (k : ℕ) → k < count → get_or bytes (offset + k) 0 < 128
     ascii_at k below =
-        let it = made_run bytes place (omega (arith, counted, some)) in
+        let it = made_run bytes offset (omega (arith, counted, some)) in
         let all : it.0.count ≡ count =
-        it.1.longest ∙ sym (run_counted (drop place bytes) it.0.byte it.1.delimiter (omega (arith, it.1.longest, it.1.some))) ∙ sym counted in
-        let byte : get_or bytes (place + k) 0 ≡ it.0.byte =
-        sym (get_or-drop place bytes k 0)
-        ∙ eqb-true (get_or (drop place bytes) k 0) it.0.byte
-        (prefix_len_passes (λ b. b == it.0.byte) (drop place bytes) k 0 (omega (arith, it.1.longest, all, below))) in
+        it.1.longest ∙ sym (run_counted (drop offset bytes) it.0.byte it.1.delimiter (omega (arith, it.1.longest, it.1.some))) ∙ sym counted in
+        let byte : get_or bytes (offset + k) 0 ≡ it.0.byte =
+        sym (get_or-drop offset bytes k 0)
+        ∙ eqb-true (get_or (drop offset bytes) k 0) it.0.byte
+        (prefix_len_passes (λ b. b == it.0.byte) (drop offset bytes) k 0 (omega (arith, it.1.longest, all, below))) in
         elim it.1.delimiter [ inl is ↦ omega (arith, byte, is) | inr is ↦ omega (arith, byte, is) ]
 
-    at_place : IsCharBoundary bytes place
-    at_place =
-        let here : get_or bytes place 0 < 128 = subst (λ k. get_or bytes k 0 < 128) (omega arith) (ascii_at 0 some) in
-        IsCharBoundary-before_ascii bytes place (omega (arith, fits, some)) here
+    at_offset : IsCharBoundary bytes offset
+    at_offset =
+        let here : get_or bytes offset 0 < 128 = subst (λ k. get_or bytes k 0 < 128) (omega arith) (ascii_at 0 some) in
+        IsCharBoundary-before_ascii bytes offset (omega (arith, fits, some)) here
 
-    at_end : IsCharBoundary bytes (place + count)
+    at_end : IsCharBoundary bytes (offset + count)
     at_end =
         subst (IsCharBoundary bytes) (omega (arith, some))
-        (IsCharBoundary-after_ascii bytes (place + (count - 1)) utf8 (omega (arith, fits, some)) (ascii_at (count - 1) (omega (arith, some))))
+        (IsCharBoundary-after_ascii bytes (offset + (count - 1)) utf8 (omega (arith, fits, some)) (ascii_at (count - 1) (omega (arith, some))))
 
-    front_text : IsUtf8 (take place bytes)
-    front_text = IsUtf8-take bytes place utf8 at_place
+    front_text : IsUtf8 (take offset bytes)
+    front_text = IsUtf8-take bytes offset utf8 at_offset
 
-    back_text : IsUtf8 (drop (place + count) bytes)
-    back_text = IsUtf8-drop bytes (place + count) utf8 at_end
+    back_text : IsUtf8 (drop (offset + count) bytes)
+    back_text = IsUtf8-drop bytes (offset + count) utf8 at_end
 
-    shorter : take (place - front) (take place bytes) ≡ take (place - front) bytes
-    shorter = take-take (place - front) place bytes (omega arith)
+    shorter : take (offset - front) (take offset bytes) ≡ take (offset - front) bytes
+    shorter = take-take (offset - front) offset bytes (omega arith)
 
-    before_text : IsUtf8 (take (place - front) bytes)
-    before_text = subst IsUtf8 shorter (IsUtf8-take (take place bytes) (place - front) front_text (begun front_text))
+    before_text : IsUtf8 (take (offset - front) bytes)
+    before_text = subst IsUtf8 shorter (IsUtf8-take (take offset bytes) (offset - front) front_text (begun front_text))
 
-    starts : IsCharBoundary bytes (place - front)
-    starts = IsCharBoundary-from_take bytes (place - front) utf8 (omega (arith, fits)) before_text
+    starts : IsCharBoundary bytes (offset - front)
+    starts = IsCharBoundary-from_take bytes (offset - front) utf8 (omega (arith, fits)) before_text
 
-    stops : IsCharBoundary bytes (place + count + back)
-    stops = IsCharBoundary-from_rest bytes (place + count) back fits (ended back_text)
+    stops : IsCharBoundary bytes (offset + count + back)
+    stops = IsCharBoundary-from_rest bytes (offset + count) back fits (ended back_text)
 
     pub window_text : IsUtf8 window
-    window_text = IsUtf8-between bytes (place - front) (place + count + back) utf8 (omega arith) starts stops
+    window_text = IsUtf8-between bytes (offset - front) (offset + count + back) utf8 (omega arith) starts stops
 
     abbrev side : List ℕ
-    side = take front (drop (place - front) bytes)
+    side = take front (drop (offset - front) bytes)
 
     side_text : IsUtf8 side
     side_text =
-        subst (λ n. IsUtf8 (take n (drop (place - front) bytes))) (omega (arith, within))
-        (IsUtf8-between bytes (place - front) place utf8 (omega arith) starts at_place)
+        subst (λ n. IsUtf8 (take n (drop (offset - front) bytes))) (omega (arith, within))
+        (IsUtf8-between bytes (offset - front) offset utf8 (omega arith) starts at_offset)
 
-    joined : take (place - front) bytes ++ side ≡ take place bytes
+    joined : take (offset - front) bytes ++ side ≡ take offset bytes
     joined =
-        let cut : drop (place - front) (take place bytes) ≡ side =
-        ap (λ n. drop (place - front) (take n bytes)) (omega (arith, within)) ∙ drop-take (place - front) front bytes in
-        sym (ap (λ t. t ++ drop (place - front) (take place bytes)) shorter ∙ ap (λ t. take (place - front) bytes ++ t) cut)
-        ∙ take-append-drop (place - front) (take place bytes)
+        let cut : drop (offset - front) (take offset bytes) ≡ side =
+        ap (λ n. drop (offset - front) (take n bytes)) (omega (arith, within)) ∙ drop-take (offset - front) front bytes in
+        sym (ap (λ t. t ++ drop (offset - front) (take offset bytes)) shorter ∙ ap (λ t. take (offset - front) bytes ++ t) cut)
+        ∙ take-append-drop (offset - front) (take offset bytes)
 
-    pub same_before : (0 < place → 0 < front) → char_before window front ≡ char_before bytes place
+    pub same_before : (0 < offset → 0 < front) → char_before window front ≡ char_before bytes offset
     same_before more = elim (cases_lt 0 front) [
       | inl one ↦
           ap (λ t. last_or None (chars t)) take_front
-          ∙ sym (last_char (take (place - front) bytes) side before_text side_text
-          (omega (arith, one, within, fits, length-take front (drop (place - front) bytes), length-drop (place - front) bytes)))
+          ∙ sym (last_char (take (offset - front) bytes) side before_text side_text
+          (omega (arith, one, within, fits, length-take front (drop (offset - front) bytes), length-drop (offset - front) bytes)))
           ∙ ap (λ t. last_or None (chars t)) joined
       | inr none ↦
           let no_front : front ≡ 0 = omega (arith, none) in
-          let no_place : place ≡ 0 = elim (cases_lt 0 place) [
+          let no_offset : offset ≡ 0 = elim (cases_lt 0 offset) [
             | inl far ↦ omega (arith, none, more far)
             | inr near ↦ omega (arith, near)
           ] in
-          ap (λ n. last_or None (chars (take n window))) no_front ∙ sym (ap (λ n. last_or None (chars (take n bytes))) no_place)
+          ap (λ n. last_or None (chars (take n window))) no_front ∙ sym (ap (λ n. last_or None (chars (take n bytes))) no_offset)
     ]
 
-    pub same_after : (0 < length (drop (place + count) bytes) → 0 < back)
-        → char_after window (front + count) ≡ char_after bytes (place + count)
+    pub same_after : (0 < length (drop (offset + count) bytes) → 0 < back)
+        → char_after window (front + count) ≡ char_after bytes (offset + count)
     same_after more =
-        let rest = drop (place + count) bytes in
+        let rest = drop (offset + count) bytes in
         ap (λ t. slice_get (chars t) 0) drop_run
         ∙ elim (cases_lt 0 (length rest)) [
           | inl one ↦
@@ -249,8 +249,8 @@ module _ (bytes : List ℕ) (place count front back : ℕ) (within : front ≤ p
         ]
 
     -- so the run is that of what stands around it
-    pub same_around : (0 < place → 0 < front) → (0 < length (drop (place + count) bytes) → 0 < back)
-        → IsSameAround window bytes front place count
+    pub same_around : (0 < offset → 0 < front) → (0 < length (drop (offset + count) bytes) → 0 < back)
+        → IsSameAround window bytes front offset count
     same_around before after = record {
       asterisks = same_counts asterisk (omega (arith, counted));
       underscores = same_counts underscore (omega (arith, counted));

@@ -18,7 +18,7 @@ use Rattle.markdown_scanners_c.specs.Status.{past_end}
 use Rattle.markdown_scanners_c.specs.private.LabelText.{ReturnedAscii, space_len}
 use Rattle.markdown_scanners_c.specs.private.Searched.{searched, returned_skip}
 use Rattle.markdown_scanners_c.specs.declared.skips.Skip.{Skip}
-use Rattle.markdown_scanners_c.proofs.Buffers.{front_changed, no_refused_place}
+use Rattle.markdown_scanners_c.proofs.Buffers.{front_changed, no_refused_offset}
 use Rattle.markdown_scanners_c.proofs.SameKept.{AgreeOnRests, kept_too}
 use Rattle.markdown_scanners_c.proofs.SkipLemmas.{finds}
 
@@ -44,15 +44,15 @@ ascii_test xs false other = elim (cases_Bool (list_all (λ b. nat_lt b 128) xs))
 
 -- ---- what is left out of labels
 
-pub front_at : (bytes : List ℕ) (skips : List Skip) (place : ℕ) → are_ascii_skips skips bytes ≡ true
-    → is_ascii_front (drop place bytes) (left_out skips place) ≡ true
-front_at bytes [] place ascii = and_from _ _ (le-leb 0 _ (omega arith)) refl
-front_at bytes (skip ∷ skips) place ascii =
-    let parts = and_parts (is_ascii_front (drop skip.place bytes) skip.length) (are_ascii_skips skips bytes) ascii in
-    elim (cases_Bool (skip.place == place)) [
+pub front_at : (bytes : List ℕ) (skips : List Skip) (offset : ℕ) → are_ascii_skips skips bytes ≡ true
+    → is_ascii_front (drop offset bytes) (left_out skips offset) ≡ true
+front_at bytes [] offset ascii = and_from _ _ (le-leb 0 _ (omega arith)) refl
+front_at bytes (skip ∷ skips) offset ascii =
+    let parts = and_parts (is_ascii_front (drop skip.offset bytes) skip.length) (are_ascii_skips skips bytes) ascii in
+    elim (cases_Bool (skip.offset == offset)) [
       | inl here ↦
-          rw here (subst (λ p. is_ascii_front (drop p bytes) skip.length ≡ true) (eqb-true skip.place place here) parts.0)
-      | inr other ↦ rw other (front_at bytes skips place parts.1)
+          rw here (subst (λ p. is_ascii_front (drop p bytes) skip.length ≡ true) (eqb-true skip.offset offset here) parts.0)
+      | inr other ↦ rw other (front_at bytes skips offset parts.1)
     ]
 
 all_take : (test : ℕ → Bool) (m : ℕ) (xs : List ℕ) → list_all test xs ≡ true → list_all test (take m xs) ≡ true
@@ -82,8 +82,8 @@ module _ (skips : List Skip) (bytes : List ℕ) where
       (leb-true skip (length rest) parts.0, parts.1)
 
   -- with a table of a text that the bytes begin
-  module _ (behind : List ℕ) (stand : are_skips skips (bytes ++ behind) ≡ true)
-      (ascii : are_ascii_skips skips (bytes ++ behind) ≡ true) where
+  module _ (after : List ℕ) (stand : are_skips skips (bytes ++ after) ≡ true)
+      (ascii : are_ascii_skips skips (bytes ++ after) ≡ true) where
     ascii_there : (p : ℕ) → let rest = drop p bytes in list_all (λ b. nat_lt b 128) (take (returned_skip skips bytes rest) rest) ≡ true
     ascii_there p =
         let rest = drop p bytes in
@@ -97,29 +97,29 @@ module _ (skips : List Skip) (bytes : List ℕ) where
               (let n = left_out skips p in
               let here : length bytes - length rest ≡ p = omega (arith, size, within) in
               let found : searched skips (length bytes - length rest) ≡ n =
-              finds skips bytes behind stand (length bytes - length rest) ∙ ap (left_out skips) here in
-              let front = and_parts (nat_le n (length (drop p (bytes ++ behind)))) _
-              (front_at (bytes ++ behind) skips p ascii) in
-              let whole : drop p (bytes ++ behind) ≡ rest ++ behind = drop-append-le p bytes behind within in
-              let same : take m (take n (rest ++ behind)) ≡ take m rest =
-              take-take m n (rest ++ behind) (omega (arith, found)) ∙ take-append-le m rest behind (omega arith) in
+              finds skips bytes after stand (length bytes - length rest) ∙ ap (left_out skips) here in
+              let front = and_parts (nat_le n (length (drop p (bytes ++ after)))) _
+              (front_at (bytes ++ after) skips p ascii) in
+              let whole : drop p (bytes ++ after) ≡ rest ++ after = drop-append-le p bytes after within in
+              let same : take m (take n (rest ++ after)) ≡ take m rest =
+              take-take m n (rest ++ after) (omega (arith, found)) ∙ take-append-le m rest after (omega arith) in
               subst (λ xs. list_all (λ b. nat_lt b 128) xs ≡ true) same
-              (all_take (λ b. nat_lt b 128) m (take n (rest ++ behind))
+              (all_take (λ b. nat_lt b 128) m (take n (rest ++ after))
               (subst (λ xs. list_all (λ b. nat_lt b 128) (take n xs) ≡ true) whole front.1)))
         ]
 
     returned_is_left_out : AgreeOnRests bytes (ReturnedAscii skips bytes) (LeavesOut skips bytes)
     returned_is_left_out p n returned =
         let rest = drop p bytes in
-        let place = length bytes - length rest in
-        (left_out skips place, refl, omega (arith, (returned_is rest n returned).0, finds skips bytes behind stand place))
+        let offset = length bytes - length rest in
+        (left_out skips offset, refl, omega (arith, (returned_is rest n returned).0, finds skips bytes after stand offset))
 
     left_out_is_returned : AgreeOnRests bytes (LeavesOut skips bytes) (ReturnedAscii skips bytes)
     left_out_is_returned p n leaves =
         let rest = drop p bytes in
         let m = returned_skip skips bytes rest in
         let front : is_ascii_front rest m ≡ true = and_from _ _ (le-leb m (length rest) (omega arith)) (ascii_there p) in
-        (m, rw front refl, omega (arith, leaves, finds skips bytes behind stand (length bytes - length rest)))
+        (m, rw front refl, omega (arith, leaves, finds skips bytes after stand (length bytes - length rest)))
 
     -- A label of what is returned is one of what is left out, and the other way.
     pub label_of_returned : (p : ℕ) (t : Bool) (label : Label) → IsLabel (ReturnedAscii skips bytes) (drop p bytes) t label
@@ -175,11 +175,11 @@ cut_stands (suc n) (b ∷ bs) = elim (cases_Bool (b == space)) [
 pub slice_stands : (bytes : List ℕ) (n : ℕ) → StandsAt bytes (slice_before bytes n) (space_len bytes)
 slice_stands bytes n = cut_stands (n - 1) bytes
 
--- where a label is lent from the bytes from a place on, and else nowhere
-pub started : (bytes : List ℕ) (start : ℕ) → start ≤ length bytes → (label : Label) (n place : ℕ) (lent : Bool)
-    → label.plain ≡ lent → place ≡ (if lent then start + space_len (drop start bytes) else none)
-    → (IsTrue lent → label.text ≡ slice_before (drop start bytes) n) → IsStart bytes label place
-started bytes start within label n place true plain at slice =
+-- where a label is lent from the bytes from an offset on, and else nowhere
+pub started : (bytes : List ℕ) (start : ℕ) → start ≤ length bytes → (label : Label) (n offset : ℕ) (lent : Bool)
+    → label.plain ≡ lent → offset ≡ (if lent then start + space_len (drop start bytes) else none)
+    → (IsTrue lent → label.text ≡ slice_before (drop start bytes) n) → IsStart bytes label offset
+started bytes start within label n offset true plain at slice =
     let front = drop start bytes in
     let space = space_len front in
     let stands = slice_stands front n in
@@ -190,10 +190,10 @@ started bytes start within label n place true plain at slice =
     inl (
       plain,
       omega (arith, at, ap length text, stands.0, length-drop start bytes, within),
-      subst (λ t. take (length t) (drop place bytes) ≡ t) (sym text)
+      subst (λ t. take (length t) (drop offset bytes) ≡ t) (sym text)
           (subst (λ s. take count (drop s bytes) ≡ slice_before front n) (sym at) there),
     )
-started bytes start within label n place false plain at slice = inr (plain, at)
+started bytes start within label n offset false plain at slice = inr (plain, at)
 
 -- ---- a text that is given
 
@@ -208,4 +208,4 @@ module _ (stands : Bool) (text old new : List ℕ) (status needed : ℕ) where
 
   pub no_refused_label : IsGiven stands text old new status needed → status ≢ past_end
   no_refused_label (inl is) past = omega (arith, is.2, past)
-  no_refused_label (inr is) past = no_refused_place text old new status needed is.1 past
+  no_refused_label (inr is) past = no_refused_offset text old new status needed is.1 past

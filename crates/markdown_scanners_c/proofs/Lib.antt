@@ -10,6 +10,7 @@ pub mod LineRuns
 pub mod Meanings
 pub mod NoSpaces
 pub mod OpenLemmas
+pub mod PageTexts
 pub mod Parts
 pub mod Rows
 pub mod SameKept

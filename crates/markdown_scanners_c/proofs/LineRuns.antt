@@ -7,7 +7,7 @@ use Rattle.std.proofs.lemmas.List.Sums.{prefix_len_passes}
 use Rattle.markdown_scanners_tree.specs.line.PlainStep.{IsPlainStep, plain_step}
 use Rattle.markdown_scanners_tree.specs.line.State.{LineState, columns_further, rest_of}
 use Rattle.markdown_scanners_tree.specs.line.run.PlainRun.{line_refusal}
-use Rattle.markdown_scanners_tree.specs.line.run.StateRun.{StateRun, asks_for_breaks, before_run, behind_answers, learnt_by_call, state_run}
+use Rattle.markdown_scanners_tree.specs.line.run.StateRun.{StateRun, asks_for_breaks, before_run, after_answers, learnt_by_call, state_run}
 use Rattle.markdown_scanners_tree.specs.declared.line.known_breaks.KnownBreaks.{KnownBreaks}
 use Rattle.markdown_scanners_tree.specs.declared.line.run.LineAnswer.{LineAnswer}
 use Rattle.markdown_scanners_tree.specs.declared.line.run.LineCall.{LineCall}
@@ -36,16 +36,16 @@ pub run_next : (s s' : LineState) (known known' : KnownBreaks) (call : LineCall)
     (answer : LineAnswer) (made : List LineAnswer)
     → line_refusal (s.pending == 0) call ≡ None → IsPlainStep call answer s s'
     → known' ≡ learnt_by_call call s known
-    → behind_answers made (state_run s known (call ∷ left))
-    ≡ behind_answers (made ++ (answer ∷ [])) (state_run s' known' left)
+    → after_answers made (state_run s known (call ∷ left))
+    ≡ after_answers (made ++ (answer ∷ [])) (state_run s' known' left)
 run_next s s' known known' call left answer made goes step learnt =
     let returned = (plain_step call (rest_of s)).answer in
     let later = state_run (columns_further (plain_step call (rest_of s)).taken s) (learnt_by_call call s known) left in
-    ap (behind_answers made) (run_goes s known call left goes)
+    ap (after_answers made) (run_goes s known call left goes)
     ∙ ap (λ answers. record later { answers = answers }) (sym (append_assoc made (returned ∷ []) later.answers))
-    ∙ ap (λ it. behind_answers (made ++ (it ∷ [])) later) (sym step.answered)
-    ∙ ap (λ it. behind_answers (made ++ (answer ∷ [])) (state_run it (learnt_by_call call s known) left)) (sym step.moved)
-    ∙ ap (λ it. behind_answers (made ++ (answer ∷ [])) (state_run s' it left)) (sym learnt)
+    ∙ ap (λ it. after_answers (made ++ (it ∷ [])) later) (sym step.answered)
+    ∙ ap (λ it. after_answers (made ++ (answer ∷ [])) (state_run it (learnt_by_call call s known) left)) (sym step.moved)
+    ∙ ap (λ it. after_answers (made ++ (answer ∷ [])) (state_run s' it left)) (sym learnt)
 
 -- a run whose first call is refused ends there
 run_stops : (s : LineState) (known : KnownBreaks) (call : LineCall) (left : List LineCall) (stop : LineStop)
@@ -61,11 +61,11 @@ run_stops s known call left stop h =
 
 pub run_ends : (s : LineState) (known : KnownBreaks) (call : LineCall) (left : List LineCall) (stop : LineStop)
     (made : List LineAnswer) → line_refusal (s.pending == 0) call ≡ Some stop
-    → behind_answers made (state_run s known (call ∷ left))
+    → after_answers made (state_run s known (call ∷ left))
     ≡ record { answers = made; state = s; known = known; stop = Some stop }
 run_ends s known call left stop made h =
     let none : StateRun = record { answers = []; state = s; known = known; stop = Some stop } in
-    ap (behind_answers made) (run_stops s known call left stop h)
+    ap (after_answers made) (run_stops s known call left stop h)
     ∙ ap (λ answers. record none { answers = answers }) (append-nil made)
 
 -- An answer more is written after those that stand at the front of the buffer.
@@ -107,13 +107,13 @@ take_front xs ys n size = subst (λ k. take k (xs ++ ys) ≡ xs) size (take-appe
 -- One call more is made than so many, and an answer written after theirs, the right one or not.
 pub made_next : (made : List LineAnswer) (answer : LineAnswer) (run : StateRun) (s : LineState) (known : KnownBreaks)
     (call : LineCall) (left : List LineCall) (others : List Answer) (n : ℕ) → length made ≡ n
-    → run ≡ behind_answers made (state_run s known (call ∷ left)) → line_refusal (s.pending == 0) call ≡ None
+    → run ≡ after_answers made (state_run s known (call ∷ left)) → line_refusal (s.pending == 0) call ≡ None
     → IsMadeTo n run (map answer_of (made ++ (answer ∷ [])) ++ others)
 made_next made answer run s known call left others n size same goes =
     let step = plain_step call (rest_of s) in
     let later = state_run (columns_further step.taken s) (learnt_by_call call s known) left in
     let whole : run.answers ≡ made ++ (step.answer ∷ later.answers) =
-    ap (λ (it : StateRun). it.answers) (same ∙ ap (behind_answers made) (run_goes s known call left goes)) in
+    ap (λ (it : StateRun). it.answers) (same ∙ ap (after_answers made) (run_goes s known call left goes)) in
     let written : map answer_of (made ++ (answer ∷ [])) ++ others
     ≡ map answer_of made ++ (map answer_of (answer ∷ []) ++ others) =
     ap (λ it. it ++ others) (map-append answer_of made (answer ∷ []))
@@ -128,5 +128,5 @@ made_next made answer run s known call left others n size same goes =
 -- what is written after the first answers leaves them
 pub still_made : (n : ℕ) (run : StateRun) (answers : List Answer) (index : ℕ) (answer : Answer) → n ≤ index
     → IsMadeTo n run answers → IsMadeTo n run (slice_set answers index answer)
-still_made n run answers index answer behind made =
-    record { made = made.made; front = take-set-le n answers index answer behind ∙ made.front }
+still_made n run answers index answer after made =
+    record { made = made.made; front = take-set-le n answers index answer after ∙ made.front }

@@ -11,7 +11,7 @@ pub no_space : (s : LineState) → IsLineState s → s.pending ≡ 0 → begins_
 no_space s is none other n =
     let phase : s.phase % 4 ≡ s.phase = omega (arith, is.2) in
     let t : IsTaken n 0 s s = subst (λ (z : LineState). IsTaken n 0 z z) (λ i. record s { phase = phase i })
-    (none_of_byte s.bytes s.place s.phase s.pending n none is.0 (none_at_front (unscanned s) s.phase other)) in
+    (none_of_byte s.bytes s.offset s.phase s.pending n none is.0 (none_at_front (unscanned s) s.phase other)) in
     (sym t.answer, sym t.state)
 
 none_leads : (p : ℕ → Bool) (bs : List ℕ) → begins_with p bs ≡ false → prefix_len p bs ≡ 0
@@ -23,9 +23,9 @@ pub all_space_stays : (s : LineState) → IsLineState s → s.pending ≡ 0 → 
 all_space_stays s is none other =
     let n = prefix_len is_space_or_tab (unscanned s) in
     let nothing : n ≡ 0 = none_leads is_space_or_tab (unscanned s) other in
-    let place : s.place + n ≡ s.place = omega (arith, nothing) in
+    let offset : s.offset + n ≡ s.offset = omega (arith, nothing) in
     let phase : (s.phase + n) % 4 ≡ s.phase = omega (arith, nothing, is.2) in
-    λ i. record s { place = place i; pending = sym none i; phase = phase i }
+    λ i. record s { offset = offset i; pending = sym none i; phase = phase i }
 
 pub is_not : (b : Bool) → IsTrue (not b) → b ≡ false
 is_not false is = refl

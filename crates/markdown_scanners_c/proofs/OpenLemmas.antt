@@ -3,7 +3,7 @@ use Rattle.std.proofs.Common.{ℕ, Bool, true, false, List, [], ◌∷◌, ◌++
 use Rattle.std.specs.Prelude.{if◌then◌else◌}
 use Rattle.std.proofs.lemmas.List.{map-append, take-append-drop}
 use Rattle.markdown_scanners_tree.specs.line.State.{LineState}
-use Rattle.markdown_blocks.specs.containers.Containers.{Between, after_marker, marker_place}
+use Rattle.markdown_blocks.specs.containers.Containers.{Between, after_marker, marker_start}
 use Rattle.markdown_blocks.specs.declared.containers.Container.{Container}
 use Rattle.markdown_blocks.specs.declared.containers.Container.TheVariants.{Quote, Item, Footnote, TermDefinition}
 use Rattle.markdown_blocks.specs.declared.step.Step.{Step}
@@ -21,11 +21,11 @@ begun_back : (begun : Bool) → ((if begun then 1 else 0) == 1) ≡ begun
 begun_back true = refl
 begun_back false = refl
 
-open_back : (c : Container) (place : ℕ) → open_in (open_returned c place) ≡ c
-open_back Quote place = refl
-open_back Footnote place = refl
-open_back (TermDefinition definition) place = ap (λ b. TermDefinition (record definition { begun = b })) (begun_back definition.begun)
-open_back (Item item) place = ap (λ b. Item (record item { begun = b })) (begun_back item.begun)
+open_back : (c : Container) (offset : ℕ) → open_in (open_returned c offset) ≡ c
+open_back Quote offset = refl
+open_back Footnote offset = refl
+open_back (TermDefinition definition) offset = ap (λ b. TermDefinition (record definition { starts_blank = b })) (begun_back definition.starts_blank)
+open_back (Item item) offset = ap (λ b. Item (record item { starts_blank = b })) (begun_back item.starts_blank)
 
 kept_back : (cs : List Container) → map open_in (map (λ c. open_returned c 0) cs) ≡ cs
 kept_back [] = refl
@@ -34,7 +34,7 @@ kept_back (c ∷ cs) = ap (λ d. d ∷ map open_in (map (λ k. open_returned k 0
 begun_all_back : (s : LineState) (cs : List Container) → map open_in (begun_returned s cs) ≡ cs
 begun_all_back s [] = refl
 begun_all_back s (c ∷ cs) =
-    ap (λ d. d ∷ map open_in (begun_returned (after_marker s) cs)) (open_back c (marker_place s)) ∙ ap (λ ds. c ∷ ds) (begun_all_back (after_marker s) cs)
+    ap (λ d. d ∷ map open_in (begun_returned (after_marker s) cs)) (open_back c (marker_start s)) ∙ ap (λ ds. c ∷ ds) (begun_all_back (after_marker s) cs)
 
 -- The next call reads the containers that are open after a step, whatever else its array holds.
 pub opened_back : (step : Step) (cs : List Container) → map open_in (opened_returned step cs) ≡ cs

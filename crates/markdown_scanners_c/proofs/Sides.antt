@@ -1,4 +1,4 @@
--- The first and the last character of a text, and what stands around a place of it.
+-- The first and the last character of a text, and what stands around an offset of it.
 use Rattle.std.proofs.Common.{ℕ, ◌+◌, ◌-◌, ◌≤◌, ◌<◌, ◌≡◌, ◌≢◌, true, false, min, List, [], ◌∷◌, ◌++◌, length, get_or}
 use Rattle.std.proofs.Common.{encode_utf8, encode_utf8_all, IsUtf8, inl, inr, refl, sym, ap, subst, arith, length-append}
 use Rattle.std.specs.Str.{IsCharBoundary}
@@ -44,9 +44,9 @@ last_begin (d ∷ cs) c are =
 goes_on : (b : ℕ) → begins_character b ≡ false → (128 ≤ b) × (b < 192)
 goes_on b is = grind (arith, nat_tests)
 
--- at a place with such a byte no character begins
-other_place : (bs : List ℕ) (k n : ℕ) → begins_character (get_or bs k 0) ≡ false → k < length bs → IsCharBoundary bs n → n ≢ k
-other_place bs k n is inside at same =
+-- at an offset with such a byte no character begins
+other_offset : (bs : List ℕ) (k n : ℕ) → begins_character (get_or bs k 0) ≡ false → k < length bs → IsCharBoundary bs n → n ≢ k
+other_offset bs k n is inside at same =
     let byte = goes_on (get_or bs k 0) is in
     let here : IsCharBoundary bs k = subst (IsCharBoundary bs) same at in
     omega (arith, here.1 inside byte.0, byte.1)
@@ -68,7 +68,7 @@ module _ (bs : List ℕ) (utf8 : IsUtf8 bs) (most : ℕ) (is : most ≡ min (len
         (first_end utf8.0 utf8.1.0 (omega (arith, long, ap length utf8.1.1))) in
         let at : IsCharBoundary bs first.0 = first.3 in
         let not_at : (k : ℕ) → 1 ≤ k → k < 4 → first.0 ≢ k =
-        λ k some below. other_place bs k first.0 (none k some (omega (arith, below, is, long))) (omega (arith, below, long)) at in
+        λ k some below. other_offset bs k first.0 (none k some (omega (arith, below, is, long))) (omega (arith, below, long)) at in
         let four : first.0 ≡ most =
         omega (
           arith,
@@ -94,7 +94,7 @@ module _ (bs : List ℕ) (utf8 : IsUtf8 bs) (most : ℕ) (is : most ≡ min (len
         (last_of utf8.0 utf8.1.0 (omega (arith, long, ap length utf8.1.1))) in
         let at : IsCharBoundary bs last.0 = last.3 in
         let not_at : (k : ℕ) → 1 ≤ k → k < 4 → last.0 ≢ length bs - k =
-        λ k some below. other_place bs (length bs - k) last.0 (none k some (omega (arith, below, is, long)))
+        λ k some below. other_offset bs (length bs - k) last.0 (none k some (omega (arith, below, is, long)))
         (omega (arith, some, long)) at in
         let four : last.0 ≡ length bs - most =
         omega (

@@ -3,7 +3,7 @@ use Rattle.std.proofs.Common.{ℕ, true, List, [], ◌∷◌, ◌++◌, ◌+◌,
 use Rattle.std.proofs.lemmas.Bool.{cases_Bool}
 use Rattle.std.proofs.lemmas.List.{length-map}
 use Rattle.markdown_scanners_tree.specs.Kept.{KeptByte, AreSkips, line_len}
-use Rattle.markdown_scanners_tree.specs.scanners.html_tag.KeptTag.{IsKeptTag, place_after, tag_buffer}
+use Rattle.markdown_scanners_tree.specs.scanners.html_tag.KeptTag.{IsKeptTag, offset_after, tag_buffer}
 use Rattle.markdown_scanners_tree.proofs.RisingBytes.{Rises, kept_rises, rises_front, rises_length}
 use Rattle.markdown_scanners_c.specs.Skips.{are_skips, left_out, LeavesOut}
 use Rattle.markdown_scanners_c.specs.private.Searched.{returned_skip}
@@ -42,28 +42,28 @@ tag_too bytes answers others agree p tag is =
 abbrev pub Returned : List Skip → List ℕ → List ℕ → ℕ → Type 0
 Returned skips bytes rest skip = skip ≡ returned_skip skips bytes rest
 
-module _ (skips : List Skip) (bytes behind : List ℕ) (stand : are_skips skips (bytes ++ behind) ≡ true) where
+module _ (skips : List Skip) (bytes after : List ℕ) (stand : are_skips skips (bytes ++ after) ≡ true) where
   pub returned_is_left_out : AgreeOnRests bytes (Returned skips bytes) (LeavesOut skips bytes)
   returned_is_left_out p n returned =
-      let place = length bytes - length (drop p bytes) in
-      (left_out skips place, refl, omega (arith, returned, finds skips bytes behind stand place))
+      let offset = length bytes - length (drop p bytes) in
+      (left_out skips offset, refl, omega (arith, returned, finds skips bytes after stand offset))
 
   pub left_out_is_returned : AgreeOnRests bytes (LeavesOut skips bytes) (Returned skips bytes)
   left_out_is_returned p n leaves =
       let rest = drop p bytes in
-      (returned_skip skips bytes rest, refl, omega (arith, leaves, finds skips bytes behind stand (length bytes - length rest)))
+      (returned_skip skips bytes rest, refl, omega (arith, leaves, finds skips bytes after stand (length bytes - length rest)))
 
 -- ---- how long the text of a tag is
 
-buffer_room : (tag : List KeptByte) → length tag ≤ place_after 0 tag → length (tag_buffer tag) ≤ place_after 0 tag
-buffer_room tag room = elim (cases_Bool (place_after 0 tag == length tag)) [
+buffer_room : (tag : List KeptByte) → length tag ≤ offset_after 0 tag → length (tag_buffer tag) ≤ offset_after 0 tag
+buffer_room tag room = elim (cases_Bool (offset_after 0 tag == length tag)) [
   | inl whole ↦ rw whole (omega arith)
   | inr less ↦ rw less (omega (arith, room, length-map tag (λ (k : KeptByte). k.byte)))
 ]
 
 -- the text that is made of a tag is no longer than the tag
 pub tag_room : (answers : List ℕ → ℕ → Type 0) (source : List ℕ) (tag : List KeptByte) → IsKeptTag answers source tag
-    → length (tag_buffer tag) ≤ place_after 0 tag
+    → length (tag_buffer tag) ≤ offset_after 0 tag
 tag_room answers source tag is =
     let rises = rises_front 0 tag is.kept.rest (subst (Rises 0) is.kept.begins (kept_rises 0 source is.kept.skips)) in
     buffer_room tag (omega (arith, rises_length 0 tag rises))

@@ -5,16 +5,16 @@ use Rattle.markdown_values.specs.declared.values.HeadingLevel.{HeadingLevel}
 use Rattle.markdown_scanners_tree.specs.declared.scanners.html_kinds.HtmlBlockKind.{HtmlBlockKind}
 use Rattle.markdown_scanners_tree.specs.scanners.html_kinds.HtmlKinds.{condition_number}
 
--- `MDS_NONE`, which is no length of a text and no place in one
+-- `MDS_NONE`, which is no length of a text and no offset in one
 abbrev pub none : ℕ
 none = 2 ^ 64 - 1
 
--- Below `MDS_NONE` stands a length or place of an answer that has the property, and `MDS_NONE` says that no answer has it.
+-- Below `MDS_NONE` stands a length or offset of an answer that has the property, and `MDS_NONE` says that no answer has it.
 abbrev pub FoundExactly : {A : Type 0} → (A → Type 0) → ℕ → A → Type 0
 FoundExactly P length answer =
     ((length < none) × P answer) ⊎ ((length ≡ none) × ((other : _) → ¬ P other))
 
--- `MDS_NONE`, or a length or place that the bytes have.
+-- `MDS_NONE`, or a length or offset that the bytes have.
 abbrev pub IsWithin : List ℕ → ℕ → Type 0
 IsWithin bytes found = (found ≡ none) ⊎ (found ≤ length bytes)
 

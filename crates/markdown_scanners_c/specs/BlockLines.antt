@@ -1,10 +1,10 @@
 -- The block at the front of a text, where the caller's containers are open. (CommonMark 0.31.2, chapters 3, 4 and 5)
-use Rattle.std.specs.Prelude.{ℕ, Bool, true, false, ◌≡◌, ◌≤◌, ◌-◌, ◌==◌, ◌⊎◌, if◌then◌else◌, IsTrue, MatchBool}
+use Rattle.std.specs.Prelude.{ℕ, Bool, true, false, ◌≡◌, ◌≤◌, ◌+◌, ◌-◌, ◌%◌, ◌==◌, ◌⊎◌, nat_le, if◌then◌else◌, IsTrue, MatchBool}
 use Rattle.std.specs.Prelude.{List, [], ◌∷◌, ◌++◌, length, map, take, drop}
 use Rattle.std.specs.List.{list_all}
 use Rattle.markdown_scanners_tree.specs.line.State.{LineState}
 use Rattle.markdown_blocks.specs.blocks.Pages.{NoneIsOver}
-use Rattle.markdown_blocks.specs.containers.Containers.{Between, after_marker, marker_place}
+use Rattle.markdown_blocks.specs.containers.Containers.{Between, after_marker, marker_start}
 use Rattle.markdown_blocks.specs.declared.containers.Container.{Container}
 use Rattle.markdown_blocks.specs.declared.containers.Container.TheVariants.{Quote, Item, Footnote, TermDefinition}
 use Rattle.markdown_blocks.specs.declared.step.Step.{Step}
@@ -24,38 +24,43 @@ abbrev pub open_in : Block → Container
 open_in block =
     if block.kind == block_quote then Quote
     else if block.kind == footnote then Footnote
-    else if block.kind == term_definition then TermDefinition (record { begun = block.count == 1; width = block.width })
-    else Item (record { delimiter = block.byte; begun = block.count == 1; width = block.width; start = block.number })
+    else if block.kind == term_definition then TermDefinition (record { starts_blank = block.count == 1; width = block.width })
+    else Item (record { delimiter = block.byte; starts_blank = block.count == 1; width = block.width; start = block.number })
 
--- a container that is open, whose marker stands at the place, as C has it
+-- a container that is open, whose marker stands at the offset, as C has it
 abbrev pub open_returned : Container → ℕ → Block
-open_returned Quote place = container_returned Quote place
-open_returned Footnote place = container_returned Footnote place
-open_returned (TermDefinition definition) place =
-    record (container_returned (TermDefinition definition) place) { count = if definition.begun then 1 else 0 }
-open_returned (Item item) place = record (container_returned (Item item) place) { count = if item.begun then 1 else 0 }
+open_returned Quote offset = container_returned Quote offset
+open_returned Footnote offset = container_returned Footnote offset
+open_returned (TermDefinition definition) offset =
+    record (container_returned (TermDefinition definition) offset) { count = if definition.starts_blank then 1 else 0 }
+open_returned (Item item) offset = record (container_returned (Item item) offset) { count = if item.starts_blank then 1 else 0 }
 
--- containers that the rest of a line begins, one in the other, each with the place of its marker
+-- containers that the rest of a line begins, one in the other, each with the offset of its marker
 abbrev pub begun_returned : LineState → List Container → List Block
 begun_returned s [] = []
-begun_returned s (c ∷ inner) = open_returned c (marker_place s) ∷ begun_returned (after_marker s) inner
+begun_returned s (c ∷ inner) = open_returned c (marker_start s) ∷ begun_returned (after_marker s) inner
 
--- those that are open after a step: the ones that its line goes on with have no place, and after them are those that it begins
+-- those that are open after a step: the ones that its line goes on with have no offset, and after them are those that it begins
 abbrev pub opened_returned : Step → List Container → List Block
 opened_returned step containers =
     map (λ c. open_returned c 0) (take step.kept containers) ++ begun_returned step.start (drop step.kept containers)
 
--- so many of the caller's containers are open, each of these is one, and the state is a bit
+-- so many of the caller's containers are open, each of these is one, and the state is two bits
 abbrev pub AreOpen : List Block → OpenBlocks → Type 0
 AreOpen containers page =
-    (page.depth ≤ length containers) × (list_all is_container (take page.depth containers) ≡ true) × (page.state ≤ 1)
+    (page.depth ≤ length containers) × (list_all is_container (take page.depth containers) ≡ true) × (page.state ≤ 3)
 
--- what is open, the extensions that are on, and whether a term stands there
+-- what stands after a block as C has it: 1 for a term, and 2 for a paragraph
+abbrev pub state_of : Bool → Bool → ℕ
+state_of term paragraph = (if term then 1 else 0) + (if paragraph then 2 else 0)
+
+-- what is open, the extensions that are on, and what stands there
 abbrev pub outer_in : List Block → OpenBlocks → Between
 outer_in containers page = record {
   extensions = extensions_of page.extensions;
   containers = map open_in (take page.depth containers);
-  term = page.state == 1;
+  term = page.state % 2 == 1;
+  paragraph = nat_le 2 page.state;
 }
 
 -- of the text all is read where the input has ended, and else its lines that are whole, whatever bytes follow
@@ -69,7 +74,7 @@ step_returned step = record (of_kind (kind_returned step.block.kind)) {
   indent = step.indent;
   lines = step.block.taken.lines;
   bytes = step.block.taken.bytes;
-  place = length step.line.now - length step.text.now;
+  offset = length step.line.now - length step.text.now;
 }
 
 -- no block, but a status
@@ -80,9 +85,10 @@ no_line status = record { status = status; kept = 0; depth = 0 }
 abbrev pub if_returned : {A : Type 0} → LineBlock → A → A → A
 if_returned returned new old = if returned.status == ok then new else old
 
--- what the caller keeps for the next call, if the block is returned: how many containers are open now, and whether a term stands there
+-- what the caller keeps for the next call, if the block is returned: how many containers are open now, and what stands there
 abbrev pub page_after : OpenBlocks → LineBlock → Between → OpenBlocks
-page_after page returned after = if_returned returned (record page { depth = returned.depth; state = if after.term then 1 else 0 }) page
+page_after page returned after =
+    if_returned returned (record page { depth = returned.depth; state = state_of after.term after.paragraph }) page
 
 -- The block at the front of the lines is returned, whatever lines follow, and the containers that are open then are written, with the
 -- block; or there is no room for these.

@@ -168,22 +168,22 @@ texts_of events = flat_map (λ (event : RangedEvent). event_words event.0) event
 
 -- an event whose texts stand after so many bytes of others
 abbrev pub event_record : ℕ → RangedEvent → PageEvent
-event_record place event = record {
+event_record offset event = record {
   kind = kind_number event.0;
   element = event_element event.0;
   detail = event_detail event.0;
   number = event_number event.0;
   start = event.1.start;
   end = event.1.end;
-  text_start = place;
+  text_start = offset;
   text_length = length (event_text event.0);
-  title_start = place + length (event_text event.0);
+  title_start = offset + length (event_text event.0);
   title_length = length (event_title event.0);
-  label_start = place + length (event_text event.0) + length (event_title event.0);
+  label_start = offset + length (event_text event.0) + length (event_title event.0);
   label_length = length (event_label event.0);
 }
 
 -- events, of which the first has its texts there, and each later one after those of the one before
 abbrev pub records_from : ℕ → List RangedEvent → List PageEvent
-records_from place [] = []
-records_from place (event ∷ later) = event_record place event ∷ records_from (place + length (event_words event.0)) later
+records_from offset [] = []
+records_from offset (event ∷ later) = event_record offset event ∷ records_from (offset + length (event_words event.0)) later

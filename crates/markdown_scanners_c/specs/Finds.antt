@@ -4,10 +4,10 @@ use Rattle.markdown_scanners_tree.specs.inline_html.InlineHtml.{find_at, opener_
 use Rattle.markdown_scanners_c.specs.Status.{ok, nothing, no_opener}
 use Rattle.markdown_scanners_c.specs.declared.html.End.{End}
 
--- No opener ends at the place; or one does, and it begins nothing; or this is where what it begins ends.
+-- No opener ends at the offset; or one does, and it begins nothing; or this is where what it begins ends.
 abbrev pub IsFindEnd : List ℕ → ℕ → End → Type 0
-IsFindEnd bytes place found =
-    ((found.status ≡ no_opener) × (found.end ≡ 0) × (opener_before bytes place ≡ None))
+IsFindEnd bytes offset found =
+    ((found.status ≡ no_opener) × (found.end ≡ 0) × (opener_before bytes offset ≡ None))
     ⊎ ((found.status ≡ nothing) × (found.end ≡ 0)
-    × (opener_before bytes place ≢ None) × (find_at bytes place ≡ None))
-    ⊎ ((found.status ≡ ok) × (find_at bytes place ≡ Some found.end))
+    × (opener_before bytes offset ≢ None) × (find_at bytes offset ≡ None))
+    ⊎ ((found.status ≡ ok) × (find_at bytes offset ≡ Some found.end))

@@ -1,5 +1,5 @@
 -- What C callers ask of the HTML of a page: the fields of `struct mds_html_setting`.
-use Rattle.std.specs.Prelude.{ℕ, Bool, List, [], ◌∷◌, ◌==◌, ◌&&◌, ◌||◌, IsTrue, map, if◌then◌else◌}
+use Rattle.std.specs.Prelude.{ℕ, Bool, List, [], ◌≡◌, ◌∷◌, ◌==◌, ◌&&◌, ◌||◌, IsTrue, map, if◌then◌else◌}
 use Rattle.std.specs.List.{list_all}
 use Rattle.markdown_html.specs.declared.setting.RawHtml.TheVariants.{Escaped, LeftOut}
 use Rattle.markdown_html.specs.Addresses.{is_allowed_address}
@@ -26,10 +26,15 @@ no_rel = 1
 abbrev pub is_known : AskedHtml → Bool
 is_known asked =
     (asked.raw_html == escaped || asked.raw_html == omitted) && (asked.rel == nofollow || asked.rel == no_rel)
-    && (asked.images_as_links == 0 || asked.images_as_links == 1) && list_all (λ number. number == 0) asked.reserved
+    && (asked.images_as_links == 0 || asked.images_as_links == 1) && (asked.strict == 0 || asked.strict == 1)
+    && list_all (λ number. number == 0) asked.reserved
 
 abbrev pub IsKnown : AskedHtml → Type 0
 IsKnown asked = IsTrue (is_known asked)
+
+-- A page that is not UTF-8 is refused.
+abbrev pub IsStrict : AskedHtml → Type 0
+IsStrict asked = asked.strict ≡ 1
 
 -- the schemes that addresses may have: those of the caller, or the usual ones where there are none
 abbrev pub allowed_schemes : List View → List (List ℕ)

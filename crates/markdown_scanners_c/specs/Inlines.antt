@@ -60,7 +60,7 @@ backticks_of kind = 0
 abbrev pub length_of : Range ℕ → ℕ
 length_of range = range.end - range.start
 
--- an inline of a kind, with so many bytes at a place, which leads nowhere
+-- an inline of a kind, with so many bytes at an offset, which leads nowhere
 abbrev pub inline_at : ℕ → ℕ → ℕ → Inline
 inline_at kind start len = record {
   kind = kind;
@@ -126,10 +126,10 @@ opener_returned (Some link) = link_returned link
 
 abbrev pub inline_returned : List (Option Link) → Found → Inline
 inline_returned links (Leaf piece) = piece_returned piece
-inline_returned links (StartEmphasis place count) = inline_at (start_number count) place count
-inline_returned links (EndEmphasis place count) = inline_at (end_number count) place count
-inline_returned links (StartStrikethrough place count) = inline_at strikethrough place count
-inline_returned links (EndStrikethrough place count) = inline_at strikethrough_end place count
+inline_returned links (StartEmphasis offset count) = inline_at (start_number count) offset count
+inline_returned links (EndEmphasis offset count) = inline_at (end_number count) offset count
+inline_returned links (StartStrikethrough offset count) = inline_at strikethrough offset count
+inline_returned links (EndStrikethrough offset count) = inline_at strikethrough_end offset count
 inline_returned links (StartLink number) = opener_returned (get_or links number None)
 inline_returned links (EndLink piece) = inline_at link_end piece.start (piece.end - piece.start)
 

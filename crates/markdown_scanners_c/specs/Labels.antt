@@ -16,20 +16,20 @@ use Rattle.markdown_scanners_c.specs.declared.skips.Skip.{Skip}
 abbrev pub IsNoLabelText : ℕ → LabelText → Type 0
 IsNoLabelText status text = (text.status ≡ status) × (text.end ≡ 0) × (text.length ≡ 0) × (text.start ≡ 0)
 
--- A label's text stands in the input from the place on, as it is; or it stands nowhere there.
+-- A label's text stands in the input from the offset on, as it is; or it stands nowhere there.
 abbrev pub IsStart : List ℕ → Label → ℕ → Type 0
 IsStart bytes label start =
     ((label.plain ≡ true) × (start + length label.text ≤ length bytes)
     × (take (length label.text) (drop start bytes) ≡ label.text))
     ⊎ ((label.plain ≡ false) × (start ≡ none))
 
--- A label at the place, over lines of which the skips are left out. The bytes that it takes are UTF-8; those after it may
+-- A label at the offset, over lines of which the skips are left out. The bytes that it takes are UTF-8; those after it may
 -- be any.
 abbrev pub IsLabelAt : List Skip → List ℕ → ℕ → Bool → Label → Type 0
 IsLabelAt skips bytes start in_table label =
     IsLabel (LeavesOut skips bytes) (drop start bytes) in_table label × IsUtf8 (take label.len (drop start bytes))
 
--- A text that stands in the input is given by its place alone where there is no buffer; and else a text is written.
+-- A text that stands in the input is given by its offset alone where there is no buffer; and else a text is written.
 abbrev pub IsGiven : Bool → List ℕ → List ℕ → List ℕ → ℕ → ℕ → Type 0
 IsGiven stands text old new status needed =
     ((stands ≡ true) × (old ≡ []) × (status ≡ ok) × (needed ≡ length text) × (new ≡ old))
@@ -45,7 +45,7 @@ IsLabelText IsOne bytes start old new text =
     ⊎ ((label : Label) × IsOne label × (text.end ≡ start + label.len) × IsStart bytes label text.start
     × IsGiven label.plain label.text old new text.status text.length)
 
--- The place is past the end; or the label at it is returned.
+-- The offset is past the end; or the label at it is returned.
 abbrev pub IsScannedLabel : Bool → List Skip → List ℕ → ℕ → List ℕ → List ℕ → LabelText → Type 0
 IsScannedLabel in_table skips bytes start old new text =
     IsAnswerAt bytes start (IsNoLabelText past_end text × (new ≡ old))

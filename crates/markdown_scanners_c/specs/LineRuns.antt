@@ -93,11 +93,11 @@ pub record IsRunTo (count : ℕ) (run : StateRun) (answers : List Answer) (ends 
 -- the front of a line
 abbrev pub IsFront : Start → Type 0
 IsFront start =
-    (start.place ≡ 0) × (start.pending ≡ 0) × (start.phase ≡ 0) × (start.none_before ≡ 0) × (start.behind_break ≡ 0)
+    (start.offset ≡ 0) × (start.pending ≡ 0) × (start.phase ≡ 0) × (start.none_before ≡ 0) × (start.after_break ≡ 0)
 
 -- A run on the line with its tabs written out is returned, and what is left of the line is what it leaves.
 pub record IsLineRun (bytes : List ℕ) (run : PlainRun) (new : Start) (old_answers new_answers : List Answer)
     (ends : LineEnds) : Type 0 where
   pub answers : AreAnswers run.answers run.stop old_answers new_answers ends
   pub rest : rest_of (state_on bytes new) ≡ rest_after bytes run
-  pub scanned : new.place ≡ scanned_after bytes run
+  pub scanned : new.offset ≡ scanned_after bytes run

@@ -13,27 +13,27 @@ use Rattle.markdown_scanners_c.specs.declared.line_starts.LineItem.{LineItem}
 use Rattle.markdown_scanners_c.specs.declared.line_starts.Start.{Start}
 use Rattle.markdown_scanners_c.specs.declared.line_starts.Task.{Task}
 
--- the place in these bytes
+-- the offset in these bytes
 abbrev pub state_on : List ℕ → Start → LineState
 state_on bytes start =
-    record { bytes = bytes; place = start.place; pending = start.pending; phase = start.phase }
+    record { bytes = bytes; offset = start.offset; pending = start.pending; phase = start.phase }
 
 -- what is known of the thematic breaks
 abbrev pub known_breaks : Start → KnownBreaks
-known_breaks start = record { none_before = start.none_before; behind_break = start.behind_break }
+known_breaks start = record { none_before = start.none_before; after_break = start.after_break }
 
--- it is true of the bytes from the place on
+-- it is true of the bytes from the offset on
 abbrev pub IsTrueStart : List ℕ → Start → Type 0
-IsTrueStart bytes start = AreTrueBreaks bytes (known_breaks start) start.place
+IsTrueStart bytes start = AreTrueBreaks bytes (known_breaks start) start.offset
 
--- Where the numbers are those of a place in these bytes, the place has the property.
+-- Where the numbers are those of an offset in these bytes, the offset has the property.
 abbrev pub OfState : List ℕ → Start → (LineState → Type 0) → Type 0
 OfState bytes start P = IsLineState (state_on bytes start) → P (state_on bytes start)
 
--- The new numbers are those of a place in these bytes, which is not before the old one; and what was true stays true.
+-- The new numbers are those of an offset in these bytes, which is not before the old one; and what was true stays true.
 pub record IsNext (bytes : List ℕ) (old new : Start) : Type 0 where
   pub is_state : IsLineState (state_on bytes new)
-  pub forward : old.place ≤ new.place
+  pub forward : old.offset ≤ new.offset
   pub truth : IsTrueStart bytes old → IsTrueStart bytes new
 
 -- found or not, as a status

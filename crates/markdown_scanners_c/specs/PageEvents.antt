@@ -1,6 +1,6 @@
 -- What C callers get of the events of a page.
 use Rattle.std.specs.Prelude.{ℕ, ◌≡◌, ◌≤◌, ◌<◌, ◌++◌, ◌⊎◌, List, drop, length}
-use Rattle.std.specs.Str.{IsUtf8}
+use Rattle.std.specs.Str.{IsUtf8, IsValidUpTo}
 use Rattle.markdown_events.specs.InlineEvents.{RangedEvent}
 use Rattle.markdown_events.specs.page.PageEvents.{ArePageEvents}
 use Rattle.markdown_scanners_c.specs.EventRecords.{records_from, texts_of}
@@ -27,11 +27,13 @@ AreBothWritten made words events new_events texts new_texts returned =
     ⊎ ((returned.status ≡ too_short) × AreKept events new_events texts new_texts
     × ((length events < length made) ⊎ (length texts < length words))))
 
--- Some extension is not built; or the page is not UTF-8; or memory was refused; or the events of the page are written.
+-- Some extension is not built; or the page is not UTF-8, and how long it is UTF-8 is returned; or memory was refused; or the events of the
+-- page are written.
 unfoldable pub AreEventsReturned : List ℕ → ℕ → List PageEvent → List PageEvent → List ℕ → List ℕ → EventCount → Type 0
 AreEventsReturned page bits events new_events texts new_texts returned =
     (IsNoEvent bad_kind returned × AreKept events new_events texts new_texts × ¬ (AreBuilt bits))
-    ⊎ (IsNoEvent not_utf8 returned × AreKept events new_events texts new_texts × AreBuilt bits × ¬ (IsUtf8 page))
+    ⊎ ((returned.status ≡ not_utf8) × (returned.count ≡ 0) × IsValidUpTo page returned.length × AreKept events new_events texts new_texts
+    × AreBuilt bits × ¬ (IsUtf8 page))
     ⊎ (IsNoEvent no_memory returned × AreKept events new_events texts new_texts × AreBuilt bits × IsUtf8 page)
     ⊎ ((given : List RangedEvent) × AreBuilt bits × IsUtf8 page × ArePageEvents page (extensions_of bits) given
     × AreBothWritten (records_from 0 given) (texts_of given) events new_events texts new_texts returned)

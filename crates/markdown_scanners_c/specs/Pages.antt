@@ -66,21 +66,21 @@ of_kind it = record {
   lines = 0;
   start = 0;
   bytes = 0;
-  place = 0;
+  offset = 0;
 }
 
--- a container whose marker stands at the place: of a list item its bullet or delimiter, its start, and the indent of its text; and that of
+-- a container whose marker stands at the offset: of a list item its bullet or delimiter, its start, and the indent of its text; and that of
 -- a definition of a term
 abbrev pub container_returned : Container → ℕ → Block
-container_returned Quote place = record (of_kind (record { kind = block_quote; number = 0; byte = 0; count = 0 })) { place = place }
-container_returned Footnote place = record (of_kind (record { kind = footnote; number = 0; byte = 0; count = 0 })) { place = place }
-container_returned (TermDefinition definition) place = record (of_kind (record { kind = term_definition; number = 0; byte = 0; count = 0 })) {
+container_returned Quote offset = record (of_kind (record { kind = block_quote; number = 0; byte = 0; count = 0 })) { offset = offset }
+container_returned Footnote offset = record (of_kind (record { kind = footnote; number = 0; byte = 0; count = 0 })) { offset = offset }
+container_returned (TermDefinition definition) offset = record (of_kind (record { kind = term_definition; number = 0; byte = 0; count = 0 })) {
   width = definition.width;
-  place = place;
+  offset = offset;
 }
-container_returned (Item item) place = record (of_kind (record { kind = list_item; number = item.start; byte = item.delimiter; count = 0 })) {
+container_returned (Item item) offset = record (of_kind (record { kind = list_item; number = item.start; byte = item.delimiter; count = 0 })) {
   width = item.width;
-  place = place;
+  offset = offset;
 }
 
 abbrev pub leaf_returned : LeafBlock → Block
@@ -90,11 +90,11 @@ leaf_returned b = record (of_kind (kind_returned b.kind)) {
   lines = b.lines;
   start = b.start;
   bytes = b.bytes;
-  place = b.place;
+  offset = b.offset;
 }
 
 abbrev pub event_returned : Event → Block
-event_returned (starts container place) = container_returned container place
+event_returned (starts container offset) = container_returned container offset
 event_returned (leaf b) = leaf_returned b
 event_returned ends = of_kind (record { kind = container_end; number = 0; byte = 0; count = 0 })
 
@@ -122,8 +122,8 @@ abbrev pub container_in : Block → Container
 container_in block =
     if block.kind == block_quote then Quote
     else if block.kind == footnote then Footnote
-    else if block.kind == term_definition then TermDefinition (record { begun = false; width = block.width })
-    else Item (record { delimiter = block.byte; begun = false; width = block.width; start = block.number })
+    else if block.kind == term_definition then TermDefinition (record { starts_blank = false; width = block.width })
+    else Item (record { delimiter = block.byte; starts_blank = false; width = block.width; start = block.number })
 
 -- the block's lines stand in the page, and these are they
 abbrev pub StandsIn : List ℕ → Block → Type 0

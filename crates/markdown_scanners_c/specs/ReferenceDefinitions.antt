@@ -1,4 +1,4 @@
--- Link reference definitions that begin at a place of bytes. (CommonMark 0.31.2, section 4.7, link reference definitions)
+-- Link reference definitions that begin at an offset of bytes. (CommonMark 0.31.2, section 4.7, link reference definitions)
 use Rattle.std.specs.Prelude.{ℕ, List, Option, None, Some, ◌≡◌, ◌≢◌, ◌⊎◌, ◌+◌, drop}
 use Rattle.std.specs.Str.{IsCharBoundary}
 use Rattle.std.specs.declared.ops.Range.{Range}
@@ -15,34 +15,34 @@ IsNoDefinition status returned =
     (returned.status ≡ status) × (returned.end ≡ 0) × (returned.label_start ≡ 0) × (returned.label_length ≡ 0)
     × (returned.destination_start ≡ 0) × (returned.destination_length ≡ 0) × (returned.title_start ≡ 0) × (returned.title_length ≡ 0)
 
--- Of a range of what stands from the place on: where it begins in all bytes, and how long it is.
+-- Of a range of what stands from the offset on: where it begins in all bytes, and how long it is.
 abbrev pub IsRangeAt : ℕ → Range ℕ → ℕ → ℕ → Type 0
-IsRangeAt place range start length = (start ≡ place + range.start) × (start + length ≡ place + range.end)
+IsRangeAt offset range start length = (start ≡ offset + range.start) × (start + length ≡ offset + range.end)
 
 -- the same of a title, and `MDS_NONE` and 0 of none
 abbrev pub IsTitleAt : ℕ → Option (Range ℕ) → ℕ → ℕ → Type 0
-IsTitleAt place None start length = (start ≡ none) × (length ≡ 0)
-IsTitleAt place (Some title) start length = IsRangeAt place title start length
+IsTitleAt offset None start length = (start ≡ none) × (length ≡ 0)
+IsTitleAt offset (Some title) start length = IsRangeAt offset title start length
 
--- a definition, which begins at the place with at most so many parentheses in each other, or none
+-- a definition, which begins at the offset with at most so many parentheses in each other, or none
 unfoldable pub IsReturnedDefinition : ℕ → List ℕ → ℕ → Definition → Type 0
-IsReturnedDefinition most bytes place returned =
+IsReturnedDefinition most bytes offset returned =
     (IsNoDefinition nothing returned
-    × ((definition : ReferenceDefinition) → ¬ IsReferenceDefinition most (drop place bytes) definition))
-    ⊎ ((definition : ReferenceDefinition) × IsReferenceDefinition most (drop place bytes) definition
-    × (returned.status ≡ ok) × (returned.end ≡ place + definition.len)
-    × IsRangeAt place definition.label returned.label_start returned.label_length
-    × IsRangeAt place definition.destination returned.destination_start returned.destination_length
-    × IsTitleAt place definition.title returned.title_start returned.title_length)
+    × ((definition : ReferenceDefinition) → ¬ IsReferenceDefinition most (drop offset bytes) definition))
+    ⊎ ((definition : ReferenceDefinition) × IsReferenceDefinition most (drop offset bytes) definition
+    × (returned.status ≡ ok) × (returned.end ≡ offset + definition.len)
+    × IsRangeAt offset definition.label returned.label_start returned.label_length
+    × IsRangeAt offset definition.destination returned.destination_start returned.destination_length
+    × IsTitleAt offset definition.title returned.title_start returned.title_length)
 
--- A text may be cut where so many bytes from the place on begin, and where they end.
+-- A text may be cut where so many bytes from the offset on begin, and where they end.
 abbrev pub IsCutOut : List ℕ → ℕ → ℕ → Type 0
 IsCutOut bytes start length = IsCharBoundary bytes start × IsCharBoundary bytes (start + length)
 
--- Where the bytes are a text and the place is between two of its characters, so are both ends of each part, and the end of
+-- Where the bytes are a text and the offset is between two of its characters, so are both ends of each part, and the end of
 -- all.
 abbrev pub AreCutFromText : List ℕ → ℕ → Definition → Type 0
-AreCutFromText bytes place returned =
-    IsTextPlace bytes place → returned.status ≡ ok
+AreCutFromText bytes offset returned =
+    IsTextPlace bytes offset → returned.status ≡ ok
     → IsCutOut bytes returned.label_start returned.label_length × IsCutOut bytes returned.destination_start returned.destination_length
     × (returned.title_start ≢ none → IsCutOut bytes returned.title_start returned.title_length) × IsCharBoundary bytes returned.end

@@ -12,16 +12,16 @@ abbrev pub end_number : Option ℕ → ℕ
 end_number None = none
 end_number (Some end) = end
 
--- why a run stops before its last place, if it does
+-- why a run stops before its last offset, if it does
 abbrev pub stop_status : Option (ℕ × HtmlStop) → ℕ
 stop_status None = ok
 stop_status (Some (index, NoOpener)) = no_opener
 stop_status (Some (index, NotRising)) = not_rising
 stop_status (Some (index, InsideFind)) = inside_find
 
--- the ends that a run over these places finds
+-- the ends that a run over these offsets finds
 abbrev pub run_ends : List ℕ → List ℕ → List ℕ
-run_ends bytes places = map end_number (run_answers (new_run bytes) places)
+run_ends bytes offsets = map end_number (run_answers (new_run bytes) offsets)
 
 -- The numbers stand at the front of the buffer, whose others are as they were, and this is the status; or they are more
 -- than the buffer holds, in which nothing has changed.
@@ -32,9 +32,9 @@ AreNumbersWritten numbers old new done status =
 
 -- The ends of a run are written and counted, with the reason of its stop; or memory for some was refused.
 abbrev pub IsHtmlRun : List ℕ → List ℕ → List ℕ → List ℕ → HtmlEnds → Type 0
-IsHtmlRun bytes places old new run =
+IsHtmlRun bytes offsets old new run =
     ((run.status ≡ no_memory) × (run.count ≡ 0) × (new ≡ old)
-    × (0 < length (run_ends bytes places)))
-    ⊎ ((run.count ≡ length (run_ends bytes places))
-    × AreNumbersWritten (run_ends bytes places) old new
-    (stop_status (run_stop (new_run bytes) 0 places)) run.status)
+    × (0 < length (run_ends bytes offsets)))
+    ⊎ ((run.count ≡ length (run_ends bytes offsets))
+    × AreNumbersWritten (run_ends bytes offsets) old new
+    (stop_status (run_stop (new_run bytes) 0 offsets)) run.status)

@@ -13,7 +13,7 @@ nothing = 1
 abbrev pub not_utf8 : ℕ
 not_utf8 = 2
 
--- the place is past the end of the bytes
+-- the offset is past the end of the bytes
 abbrev pub past_end : ℕ
 past_end = 3
 
@@ -37,15 +37,15 @@ too_short = 7
 abbrev pub no_memory : ℕ
 no_memory = 8
 
--- no opener of inline HTML, `<!` or `<?`, ends at the place
+-- no opener of inline HTML, `<!` or `<?`, ends at the offset
 abbrev pub no_opener : ℕ
 no_opener = 9
 
--- the place is not above the one before it
+-- the offset is not above the one before it
 abbrev pub not_rising : ℕ
 not_rising = 10
 
--- the place is inside what was found before it
+-- the offset is inside what was found before it
 abbrev pub inside_find : ℕ
 inside_find = 11
 

@@ -2,12 +2,12 @@
 use Rattle.std.specs.Prelude.{ℕ, List, ◌≤◌, ◌<◌, ◌⊎◌, length}
 use Rattle.std.specs.Str.{IsUtf8, IsCharBoundary}
 
--- The bytes are a text, and a character begins at the place, or the text ends there.
+-- The bytes are a text, and a character begins at the offset, or the text ends there.
 abbrev pub IsTextPlace : List ℕ → ℕ → Type 0
-IsTextPlace bytes place = IsUtf8 bytes × IsCharBoundary bytes place
+IsTextPlace bytes offset = IsUtf8 bytes × IsCharBoundary bytes offset
 
--- What a call comes to that is given bytes and a place in them: the place is past the end, and this is returned; or else what
+-- What a call comes to that is given bytes and an offset in them: the offset is past the end, and this is returned; or else what
 -- the bytes have there.
 abbrev pub IsAnswerAt : List ℕ → ℕ → Type 0 → Type 0 → Type 0
-IsAnswerAt bytes place Refused Answered =
-    ((length bytes < place) × Refused) ⊎ ((place ≤ length bytes) × Answered)
+IsAnswerAt bytes offset Refused Answered =
+    ((length bytes < offset) × Refused) ⊎ ((offset ≤ length bytes) × Answered)

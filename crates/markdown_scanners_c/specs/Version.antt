@@ -5,7 +5,7 @@ abbrev major : ℕ
 major = 0
 
 abbrev minor : ℕ
-minor = 1
+minor = 2
 
 abbrev patch : ℕ
 patch = 0

@@ -3,7 +3,7 @@
 ghost use Rattle.std.specs.Prelude.{◌≡◌, ◌≤◌, ◌<◌, ◌⊎◌, ◌↔◌, ◌++◌, [], length, map, IsTrue, MatchBool, IfOk, OnOk, if◌then◌else◌};
 ghost use Rattle.markdown_blocks.specs.taken.Whole.{AreWhole};
 ghost use Rattle.markdown_scanners_c.specs.BlockLines.{AreOpen, IsLineOf, IsLineReturned, if_returned, no_line};
-ghost use Rattle.markdown_scanners_c.specs.BlockLines.{begun_returned, open_in, open_returned, opened_returned, outer_in, step_returned};
+ghost use Rattle.markdown_scanners_c.specs.BlockLines.{begun_returned, open_in, open_returned, opened_returned, outer_in, state_of, step_returned};
 ghost use Rattle.markdown_scanners_c.specs.Buffer.{IsWritten};
 ghost use Rattle.markdown_scanners_c.specs.Status.{ok, no_memory, nothing};
 
@@ -19,7 +19,7 @@ use markdown_blocks::whole::whole_lines;
 use std::alloc::{AllocError, Global};
 
 /// `struct mds_open_blocks` of C: how many of the caller's containers are open, which extensions are
-/// on, and whether a term stands there, 1, or not, 0.
+/// on, and what stands there: 1 for a term, and 2 for a paragraph.
 #[repr(C)]
 #[derive(Clone, Copy)]
 pub struct OpenBlocks {
@@ -85,7 +85,7 @@ fn no_line(status: u32) -> LineBlock
 fn are_open(containers: &[Block], page: &OpenBlocks) -> bool
     ensures { IsTrue result ↔ AreOpen containers.now page.now }
 {
-    if page.depth > containers.len() || page.state > 1 {
+    if page.depth > containers.len() || page.state > 3 {
         return false;
     }
     are_containers(&containers[..page.depth])
@@ -108,8 +108,10 @@ fn walk_in(alloc: Global, containers: &[Block], page: &OpenBlocks) -> Result<Wal
     ensures { IfOk result (λ walk. walk ≡ outer_in containers.now page.now) }
 {
     let outer = all_open_in(alloc, &containers[..page.depth])?;
-    let is_after_term = page.state == 1;
-    Ok(Walk::resume(alloc, extensions_of(page.extensions), outer, is_after_term))
+    let extensions = extensions_of(page.extensions);
+    let is_after_term = page.state % 2 == 1;
+    let is_after_paragraph = page.state >= 2;
+    Ok(Walk::resume(alloc, extensions, outer, is_after_term, is_after_paragraph))
 }
 
 // The containers that are open.
@@ -127,29 +129,29 @@ fn open_in(block: &Block) -> Container
         BLOCK_QUOTE => Container::Quote,
         FOOTNOTE => Container::Footnote,
         TERM_DEFINITION => Container::TermDefinition(DefinitionItem {
-            begun: block.count == 1,
+            starts_blank: block.count == 1,
             width: block.width,
         }),
         _ => Container::Item(ListItem {
             delimiter: block.byte,
-            begun: block.count == 1,
+            starts_blank: block.count == 1,
             width: block.width,
             start: block.number,
         }),
     }
 }
 
-// A container that is open, whose marker stands at the place, as C has it.
-fn open_returned(container: Container, place: usize) -> Block
-    ensures { result ≡ open_returned container place }
+// A container that is open, whose marker stands at the offset, as C has it.
+fn open_returned(container: Container, offset: usize) -> Block
+    ensures { result ≡ open_returned container offset }
 {
-    let returned = container_returned(container, place);
+    let returned = container_returned(container, offset);
     match container {
-        Container::Item(item) if item.begun => Block {
+        Container::Item(item) if item.starts_blank => Block {
             count: 1,
             ..returned
         },
-        Container::TermDefinition(d) if d.begun => Block {
+        Container::TermDefinition(d) if d.starts_blank => Block {
             count: 1,
             ..returned
         },
@@ -180,7 +182,8 @@ fn write_line(
     match walk.next_block(alloc, &mut content, lines, has_ended) {
         Ok(Some(step)) => {
             let returned = write_step(alloc, step, walk.containers(), containers, block);
-            keep_open(page, &returned, walk.is_after_term());
+            let state = state_of(walk.is_after_term(), walk.is_after_paragraph());
+            keep_open(page, &returned, state);
             returned
         }
         Ok(None) => no_line(NOTHING),
@@ -188,17 +191,28 @@ fn write_line(
     }
 }
 
-// Keeps for the next call how many containers are open, and whether a term stands there, if the block
-// is returned.
-fn keep_open(page: &mut OpenBlocks, returned: &LineBlock, is_after_term: bool)
+// What stands after a block: a term or not, and a paragraph or not.
+fn state_of(is_after_term: bool, is_after_paragraph: bool) -> u32
+    ensures { result ≡ state_of is_after_term is_after_paragraph }
+{
+    match (is_after_term, is_after_paragraph) {
+        (false, false) => 0,
+        (true, false) => 1,
+        (false, true) => 2,
+        (true, true) => 3,
+    }
+}
+
+// Keeps for the next call how many containers are open, and what stands there, if the block is returned.
+fn keep_open(page: &mut OpenBlocks, returned: &LineBlock, state: u32)
     ensures { page.new ≡ if_returned returned.now (record page.old {
       depth = returned.now.depth;
-      state = if is_after_term then 1 else 0;
+      state = state;
     }) page.old }
 {
     if returned.status == OK {
         page.depth = returned.depth;
-        page.state = u32::from(is_after_term);
+        page.state = state;
     }
 }
 
@@ -275,8 +289,8 @@ fn add_begun(
     let mut step = step;
     let mut rest = containers;
     while let [container, inner @ ..] = rest {
-        let place = step.pass_marker();
-        returned.push(open_returned(*container, place))?;
+        let offset = step.pass_marker();
+        returned.push(open_returned(*container, offset))?;
         rest = inner;
     }
     Ok(())
@@ -290,7 +304,7 @@ fn step_returned(step: &Step) -> Block
         indent: step.indent,
         lines: step.block.taken.lines,
         bytes: step.block.taken.bytes,
-        place: step.line.len().saturating_sub(step.text.len()),
+        offset: step.line.len().saturating_sub(step.text.len()),
         ..of_kind(kind_returned(step.block.kind))
     }
 }

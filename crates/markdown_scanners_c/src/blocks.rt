@@ -13,7 +13,7 @@ use markdown_scanners_tree::scanners::{
     scan_code_fence, scan_hrule, scan_metadata_block, scan_setext_heading,
 };
 
-/// `struct mds_break` of C: the bytes of a thematic break's line, or `NONE`, and a place before
+/// `struct mds_break` of C: the bytes of a thematic break's line, or `NONE`, and an offset before
 /// which none begins.
 #[repr(C)]
 pub struct Break {
@@ -28,14 +28,14 @@ pub extern "C" fn mds_scan_hrule(bytes: &[u8]) -> Break
     ensures within { IsWithin bytes.now result.length }
     ensures zero { result.length ≢ none → result.none_before ≡ 0 }
 
-    // Of no break: where the scan stopped. No break begins before that place.
+    // Of no break: where the scan stopped. No break begins before that offset.
     ensures stopped { result.length ≡ none → result.none_before ≡ break_length bytes.now }
     ensures none_before { NoBreakBefore bytes.now result.none_before }
-    ensures place_within { result.none_before ≤ length bytes.now }
+    ensures offset_within { result.none_before ≤ length bytes.now }
 {
     let (length, none_before) = match scan_hrule(bytes) {
         Ok(length) => (length, 0),
-        Err(place) => (NONE, place),
+        Err(offset) => (NONE, offset),
     };
     Break {
         length,

@@ -36,26 +36,26 @@ fn no_run(status: u32) -> DelimiterRun
     }
 }
 
-/// The delimiter run that begins at the place, before which no unescaped byte of its kind stands.
+/// The delimiter run that begins at the offset, before which no unescaped byte of its kind stands.
 /// Beside it, the characters on both sides are read. (CommonMark 0.31.2, section 6.2)
 #[tactic(auto, unfolding(crate::specs::DelimiterRuns::IsReturnedRun))]
 #[unsafe(no_mangle)]
-pub extern "C" fn mds_scan_delimiter_run(bytes: &[u8], place: usize) -> DelimiterRun
-    ensures run { IsAnswerAt bytes.now place (IsNoRun past_end result)
-        (IsReturnedRun bytes.now place result) }
-    ensures within { result.count ≤ length bytes.now - place }
+pub extern "C" fn mds_scan_delimiter_run(bytes: &[u8], offset: usize) -> DelimiterRun
+    ensures run { IsAnswerAt bytes.now offset (IsNoRun past_end result)
+        (IsReturnedRun bytes.now offset result) }
+    ensures within { result.count ≤ length bytes.now - offset }
 {
-    if place > bytes.len() {
+    if offset > bytes.len() {
         return no_run(PAST_END);
     }
-    let rest = &bytes[place..];
+    let rest = &bytes[offset..];
     let count = scan_ch_repeat(rest, b'*').max(scan_ch_repeat(rest, b'_'));
     if count == 0 {
         return no_run(NOTHING);
     }
-    let front = last_len(&bytes[..place]);
+    let front = last_len(&bytes[..offset]);
     let back = first_len(&rest[count..]);
-    let Ok(text) = str::from_utf8(&bytes[place - front..place + count + back]) else {
+    let Ok(text) = str::from_utf8(&bytes[offset - front..offset + count + back]) else {
         return no_run(NOT_UTF8);
     };
     match scan_delimiter_run(text, front) {

@@ -6,7 +6,7 @@ ghost use Rattle.markdown_scanners_tree.specs.inline_html.run.KeptGuard.{first_g
 ghost use Rattle.markdown_scanners_tree.specs.scanners.html_block.HtmlBlock.{IsBlockStart};
 ghost use Rattle.markdown_scanners_tree.specs.scanners.html_kinds.HtmlKinds.{IsHtmlBlockStart, condition_number, is_html_end};
 ghost use Rattle.markdown_scanners_tree.specs.scanners.html_tag.HtmlTag.{IsTagAloneInLine};
-ghost use Rattle.markdown_scanners_tree.specs.scanners.html_tag.KeptTag.{IsKeptTag, place_after};
+ghost use Rattle.markdown_scanners_tree.specs.scanners.html_tag.KeptTag.{IsKeptTag, offset_after};
 ghost use Rattle.markdown_scanners_c.specs.Answers.{FoundExactly, FoundKind, IsWithin};
 ghost use Rattle.markdown_scanners_c.specs.Buffer.{IsChangedFront};
 ghost use Rattle.markdown_scanners_c.specs.Finds.{IsFindEnd};
@@ -83,7 +83,7 @@ pub extern "C" fn mds_ends_html_block(bytes: &[u8], kind: u32) -> u32
 #[unsafe(no_mangle)]
 pub extern "C" fn mds_scan_html_tag(alloc: Global, bytes: &[u8]) -> usize
     ensures found { FoundExactly (λ n. (tag : List KeptByte)
-        × IsKeptTag (λ rest skip. ⊥) bytes.now tag × (n ≡ place_after 0 tag)) result result }
+        × IsKeptTag (λ rest skip. ⊥) bytes.now tag × (n ≡ offset_after 0 tag)) result result }
     ensures within { IsWithin bytes.now result }
 {
     match scan_html_block_inner(alloc, bytes, None::<&fn(&[u8]) -> usize>) {
@@ -92,7 +92,7 @@ pub extern "C" fn mds_scan_html_tag(alloc: Global, bytes: &[u8]) -> usize
     }
 }
 
-/// `struct mds_tag` of C: the place after a tag, and how many bytes its text has.
+/// `struct mds_tag` of C: the offset after a tag, and how many bytes its text has.
 #[repr(C)]
 pub struct Tag {
     pub status: u32,
@@ -111,7 +111,7 @@ fn no_tag(status: u32) -> Tag
     }
 }
 
-/// The tag at the place, over lines of which the skips are left out. (CommonMark 0.31.2, section
+/// The tag at the offset, over lines of which the skips are left out. (CommonMark 0.31.2, section
 /// 6.6)
 #[unsafe(no_mangle)]
 pub extern "C" fn mds_scan_html_tag_over_lines(
@@ -122,7 +122,7 @@ pub extern "C" fn mds_scan_html_tag_over_lines(
     buffer: &mut [u8],
 ) -> Tag
     // With a table of a text that the bytes begin.
-    ensures tag { (behind : List ℕ) → are_skips skips.now (bytes.now ++ behind) ≡ true
+    ensures tag { (after : List ℕ) → are_skips skips.now (bytes.now ++ after) ≡ true
         → IsScannedTag skips.now bytes.now start buffer.old buffer.new result }
 
     // With any table.
@@ -137,10 +137,10 @@ pub extern "C" fn mds_scan_html_tag_over_lines(
     tag_text(alloc, bytes, start, skips, buffer)
 }
 
-// The tag at the place, over lines, and its text in the buffer.
+// The tag at the offset, over lines, and its text in the buffer.
 fn tag_text(alloc: Global, bytes: &[u8], start: usize, skips: &[Skip], buffer: &mut [u8]) -> Tag
     requires { start ≤ length bytes.now }
-    ensures tag { (behind : List ℕ) → are_skips skips.now (bytes.now ++ behind) ≡ true
+    ensures tag { (after : List ℕ) → are_skips skips.now (bytes.now ++ after) ≡ true
         → IsTagText skips.now bytes.now start buffer.old buffer.new result }
     ensures there { result.status ≢ past_end }
     ensures within { result.end ≤ length bytes.now }
@@ -204,7 +204,7 @@ impl Guard {
     }
 }
 
-/// `struct mds_end` of C: a place, where the status is `OK`, and how many bytes were passed over.
+/// `struct mds_end` of C: an offset, where the status is `OK`, and how many bytes were passed over.
 #[repr(C)]
 pub struct End {
     pub status: u32,
@@ -212,26 +212,26 @@ pub struct End {
     pub passed: usize,
 }
 
-/// The end of what a `<!` or `<?` that ends at the place begins, under a guard, which remembers
+/// The end of what a `<!` or `<?` that ends at the offset begins, under a guard, which remembers
 /// what it searched in vain. (CommonMark 0.31.2, section 6.6)
 #[unsafe(no_mangle)]
-pub extern "C" fn mds_scan_inline_html(bytes: &[u8], place: usize, guard: &mut Guard) -> End
+pub extern "C" fn mds_scan_inline_html(bytes: &[u8], offset: usize, guard: &mut Guard) -> End
     // Under any guard.
-    ensures scan { IsGuardedEnd bytes.now place guard.old guard.new result }
+    ensures scan { IsGuardedEnd bytes.now offset guard.old guard.new result }
 
     // Under a true one, as the first one is.
-    ensures finds { IsTrueGuard bytes.now (scan_guard guard.old) place
-        → IsTrueEnd bytes.now place guard.new result }
-    ensures first { guard.old ≡ new_guard → IsTrueEnd bytes.now place guard.new result }
+    ensures finds { IsTrueGuard bytes.now (scan_guard guard.old) offset
+        → IsTrueEnd bytes.now offset guard.new result }
+    ensures first { guard.old ≡ new_guard → IsTrueEnd bytes.now offset guard.new result }
 
-    // At rising places outside earlier finds.
-    ensures in_turn { (earlier : List ℕ) → AreScanPlaces bytes.now (earlier ++ place ∷ [])
+    // At rising offsets outside earlier finds.
+    ensures in_turn { (earlier : List ℕ) → AreScanPlaces bytes.now (earlier ++ offset ∷ [])
         → scan_guard guard.old ≡ guard_after_scans bytes.now first_guard earlier
-        → IsScanInTurn bytes.now earlier place guard.new result }
+        → IsScanInTurn bytes.now earlier offset guard.new result }
 {
     let mut text = CountedText::new(bytes);
     let mut stops = guard.to_scan();
-    let found = scan_inline_html_counted(&mut text, place, &mut stops);
+    let found = scan_inline_html_counted(&mut text, offset, &mut stops);
     *guard = Guard::of(&stops);
     end_returned(&found, text.passed() as usize)
 }

@@ -33,8 +33,10 @@ pub struct AskedHtml<'a> {
     pub rel: u32,
     /// 1 where images are written as links, and else 0.
     pub images_as_links: u32,
+    /// 1 where a page that is not UTF-8 is refused, and else 0.
+    pub strict: u32,
     /// What has no meaning yet.
-    pub reserved: [u32; 9],
+    pub reserved: [u32; 8],
 }
 
 /// Whether each number has a meaning, and what is reserved is 0.
@@ -44,6 +46,7 @@ pub(crate) fn is_known(asked: &AskedHtml<'_>) -> bool
     is_either(asked.raw_html, ESCAPED, OMITTED)
         && is_either(asked.rel, NOFOLLOW, NO_REL)
         && is_either(asked.images_as_links, 0, 1)
+        && is_either(asked.strict, 0, 1)
         && are_zero(&asked.reserved)
 }
 

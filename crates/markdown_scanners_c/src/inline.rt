@@ -13,7 +13,7 @@ use markdown_scanners_tree::scanners::{
     scan_autolink_bytes, scan_link_dest_bytes, scan_link_title, scan_wikilink_pipe_bytes,
 };
 
-/// `struct mds_part` of C: a part of the bytes, by places from their front, where the status is
+/// `struct mds_part` of C: a part of the bytes, by offsets from their front, where the status is
 /// `OK`.
 #[repr(C)]
 pub struct Part {
@@ -35,7 +35,7 @@ fn no_part(status: u32) -> Part
     }
 }
 
-/// The link destination that begins at the place. (CommonMark 0.31.2, section 6.3)
+/// The link destination that begins at the offset. (CommonMark 0.31.2, section 6.3)
 #[tactic(auto, unfolding(crate::specs::Parts::IsDestinationPart))]
 #[unsafe(no_mangle)]
 pub extern "C" fn mds_scan_link_dest(bytes: &[u8], start: usize, max_next: usize) -> Part
@@ -59,7 +59,7 @@ pub extern "C" fn mds_scan_link_dest(bytes: &[u8], start: usize, max_next: usize
     }
 }
 
-/// The link title that begins at the place. (CommonMark 0.31.2, section 6.3)
+/// The link title that begins at the offset. (CommonMark 0.31.2, section 6.3)
 #[tactic(auto, unfolding(crate::specs::Parts::IsTitlePart))]
 #[unsafe(no_mangle)]
 pub extern "C" fn mds_scan_link_title(bytes: &[u8], start: usize) -> Part
@@ -83,7 +83,7 @@ pub extern "C" fn mds_scan_link_title(bytes: &[u8], start: usize) -> Part
     }
 }
 
-/// The code span that begins at the place, as if no backtick stood before that. (CommonMark 0.31.2,
+/// The code span that begins at the offset, as if no backtick stood before that. (CommonMark 0.31.2,
 /// section 6.1)
 #[tactic(auto, unfolding(crate::specs::Parts::IsCodePart))]
 #[unsafe(no_mangle)]
@@ -108,7 +108,7 @@ pub extern "C" fn mds_scan_code_span(bytes: &[u8], start: usize) -> Part
     }
 }
 
-/// The URI of the autolink whose `<` stands before the place. (CommonMark 0.31.2, section 6.5)
+/// The URI of the autolink whose `<` stands before the offset. (CommonMark 0.31.2, section 6.5)
 #[tactic(auto, unfolding(crate::specs::Parts::IsAutolinkPart))]
 #[unsafe(no_mangle)]
 pub extern "C" fn mds_scan_autolink(bytes: &[u8], start: usize) -> Part
@@ -132,7 +132,7 @@ pub extern "C" fn mds_scan_autolink(bytes: &[u8], start: usize) -> Part
     }
 }
 
-/// The email address of the autolink whose `<` stands before the place. (CommonMark 0.31.2, section
+/// The email address of the autolink whose `<` stands before the offset. (CommonMark 0.31.2, section
 /// 6.5)
 #[tactic(auto, unfolding(crate::specs::Parts::IsAutolinkPart))]
 #[unsafe(no_mangle)]

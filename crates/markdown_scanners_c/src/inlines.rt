@@ -15,7 +15,7 @@ use crate::extensions::{are_extensions, extensions_of};
 use crate::known_labels::{KnownLabels, View, are_texts};
 use crate::status::{BAD_KIND, NO_MEMORY, NONE, NOT_UTF8, OK, TOO_SHORT};
 use markdown_inlines::inlines::{Inline as Found, find_inlines};
-use markdown_inlines::links::{Link, LinkTarget};
+use markdown_inlines::links::{Link, LinkTarget, Links};
 use markdown_inlines::pieces::{Piece, PieceKind};
 use markdown_values::values::Extensions;
 use std::alloc::{AllocError, Global};
@@ -146,7 +146,7 @@ fn returned_inlines(
 // The inlines with these links, as C has them.
 fn inlines_returned(
     alloc: Global,
-    links: &[Option<Link>],
+    links: &Links,
     inlines: &[Found],
 ) -> Result<Vec<Inline>, AllocError>
     requires { AreRoomy links.now }
@@ -176,19 +176,19 @@ fn write_inlines(returned: &[Inline], inlines: &mut [Inline]) -> InlineCount
 }
 
 // An inline as C has it, by the links of its text.
-fn inline_returned(links: &[Option<Link>], inline: Found) -> Inline
+fn inline_returned(links: &Links, inline: Found) -> Inline
     requires { AreRoomy links.now }
     ensures { result ≡ inline_returned links.now inline }
 {
     match inline {
         Found::Leaf(piece) => piece_returned(piece),
-        Found::StartEmphasis(place, count) => inline_at(start_number(count), place, count),
-        Found::EndEmphasis(place, count) => inline_at(end_number(count), place, count),
-        Found::StartStrikethrough(place, count) => inline_at(STRIKETHROUGH, place, count),
-        Found::EndStrikethrough(place, count) => inline_at(STRIKETHROUGH_END, place, count),
+        Found::StartEmphasis(offset, count) => inline_at(start_number(count), offset, count),
+        Found::EndEmphasis(offset, count) => inline_at(end_number(count), offset, count),
+        Found::StartStrikethrough(offset, count) => inline_at(STRIKETHROUGH, offset, count),
+        Found::EndStrikethrough(offset, count) => inline_at(STRIKETHROUGH_END, offset, count),
         Found::StartLink(number) => match links.get(number) {
-            Some(Some(link)) => link_returned(link),
-            _ => inline_at(TEXT, 0, 0),
+            Some(link) => link_returned(link),
+            None => inline_at(TEXT, 0, 0),
         },
         Found::EndLink(piece) => {
             inline_at(LINK_END, piece.start, piece.end.saturating_sub(piece.start))
@@ -196,7 +196,7 @@ fn inline_returned(links: &[Option<Link>], inline: Found) -> Inline
     }
 }
 
-// An inline of this kind, with so many bytes at the place, which leads nowhere.
+// An inline of this kind, with so many bytes at the offset, which leads nowhere.
 fn inline_at(kind: u32, start: usize, length: usize) -> Inline
     ensures { result ≡ inline_at kind start length }
 {

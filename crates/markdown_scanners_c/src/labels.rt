@@ -18,7 +18,7 @@ use markdown_scanners_tree::linklabel::{LinkLabel, scan_link_label_bytes};
 use markdown_values::strings::CowStr;
 use std::alloc::Global;
 
-/// `struct mds_label` of C: the place after a label, its text, and where it stands in the input, if
+/// `struct mds_label` of C: the offset after a label, its text, and where it stands in the input, if
 /// it does.
 #[repr(C)]
 pub struct LabelText {
@@ -40,7 +40,7 @@ fn no_label(status: u32) -> LabelText
     }
 }
 
-/// Writes the link label whose bracket stands before the place, over lines of which the skips are
+/// Writes the link label whose bracket stands before the offset, over lines of which the skips are
 /// left out. (CommonMark 0.31.2, section 6.3)
 #[unsafe(no_mangle)]
 pub extern "C" fn mds_scan_link_label(
@@ -52,8 +52,8 @@ pub extern "C" fn mds_scan_link_label(
     buffer: &mut [u8],
 ) -> LabelText
     // With a table of a text that the bytes begin.
-    ensures label { (behind : List ℕ) → are_skips skips.now (bytes.now ++ behind) ≡ true
-        → are_ascii_skips skips.now (bytes.now ++ behind) ≡ true
+    ensures label { (after : List ℕ) → are_skips skips.now (bytes.now ++ after) ≡ true
+        → are_ascii_skips skips.now (bytes.now ++ after) ≡ true
         → IsScannedLabel is_in_table skips.now bytes.now start buffer.old buffer.new result }
 
     // With any table.
@@ -68,7 +68,7 @@ pub extern "C" fn mds_scan_link_label(
     label_at(alloc, bytes, start, is_in_table, skips, buffer)
 }
 
-// The label at the place, over lines, and its text in the buffer.
+// The label at the offset, over lines, and its text in the buffer.
 fn label_at(
     alloc: Global,
     bytes: &[u8],
@@ -78,8 +78,8 @@ fn label_at(
     buffer: &mut [u8],
 ) -> LabelText
     requires within { start ≤ length bytes.now }
-    ensures label { (behind : List ℕ) → are_skips skips.now (bytes.now ++ behind) ≡ true
-        → are_ascii_skips skips.now (bytes.now ++ behind) ≡ true
+    ensures label { (after : List ℕ) → are_skips skips.now (bytes.now ++ after) ≡ true
+        → are_ascii_skips skips.now (bytes.now ++ after) ≡ true
         → IsLabelText (IsLabelAt skips.now bytes.now start is_in_table)
         bytes.now start buffer.old buffer.new result }
     ensures there { result.status ≢ past_end }
@@ -93,7 +93,7 @@ fn label_at(
     { returned_ascii(skips, bytes, rest) };
     match scan_link_label_bytes(alloc, rest, &handler, is_in_table) {
         Ok(Some((taken, label))) => {
-            let place = start_of(&label, rest, start);
+            let offset = start_of(&label, rest, start);
             let Text {
                 status,
                 taken,
@@ -103,7 +103,7 @@ fn label_at(
                 status,
                 end: start + taken,
                 length,
-                start: place,
+                start: offset,
             }
         }
         Ok(None) => no_label(NOTHING),

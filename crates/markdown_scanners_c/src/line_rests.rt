@@ -10,7 +10,7 @@ use crate::line_starts::Start;
 use crate::status::{BAD_STATE, NONE, OK, TOO_SHORT};
 use crate::texts::{Text, no_text};
 
-/// Writes what is left of a line: the pending columns as spaces, then the bytes from the place on,
+/// Writes what is left of a line: the pending columns as spaces, then the bytes from the offset on,
 /// their tabs before a line ending as spaces. (CommonMark 0.31.2, section 2.2)
 #[tactic(auto, using(markdown_scanners_tree::proofs::ForCallers::rest_within))]
 #[unsafe(no_mangle)]
@@ -21,12 +21,12 @@ pub extern "C" fn mds_line_rest(bytes: &[u8], start: &Start, buffer: &mut [u8]) 
     ensures rest { OfState bytes.now start.now (λ s.
         IsWrittenRest (rest_of s) buffer.old buffer.new result.status result.length) }
     ensures room { OfState bytes.now start.now (λ s.
-        result.length ≤ s.pending + 4 * (length bytes.now - s.place)) }
+        result.length ≤ s.pending + 4 * (length bytes.now - s.offset)) }
 {
     let Some(line) = start.on(bytes) else {
         return no_text(BAD_STATE);
     };
-    let taken = bytes.len() - start.place;
+    let taken = bytes.len() - start.offset;
     match line.write_rest(buffer) {
         Ok(length) => Text {
             status: OK,

@@ -125,7 +125,7 @@ fn made_run(
 ) -> LineEnds
     requires { length calls.now ≤ length answers.old }
 
-    // Where what is known is true of the line from the place on, and up to the first MDS_LIST.
+    // Where what is known is true of the line from the offset on, and up to the first MDS_LIST.
     ensures returned { IsSure line.old breaks.old calls.now result.count
         → AreAnswers (state_run line.old breaks.old (map line_call calls.now)).answers
         (state_run line.old breaks.old (map line_call calls.now)).stop
@@ -134,8 +134,8 @@ fn made_run(
         → line.new ≡ (state_run line.old breaks.old (map line_call calls.now)).state }
     ensures known { IsSure line.old breaks.old calls.now result.count
         → breaks.new ≡ (state_run line.old breaks.old (map line_call calls.now)).known }
-    ensures truth { AreTrueBreaks line.old.bytes breaks.old line.old.place
-        → AreTrueBreaks line.new.bytes breaks.new line.new.place }
+    ensures truth { AreTrueBreaks line.old.bytes breaks.old line.old.offset
+        → AreTrueBreaks line.new.bytes breaks.new line.new.offset }
 
     // Whatever is known.
     ensures up_to_list { calls_before_list calls.now < result.count
@@ -143,7 +143,7 @@ fn made_run(
         (state_run line.old breaks.old (map line_call calls.now)) answers.new }
     ensures ended { (result.status ≡ ok) ↔ (result.count ≡ length calls.now) }
     ensures bytes { line.new.bytes ≡ line.old.bytes }
-    ensures forward { line.old.place ≤ line.new.place }
+    ensures forward { line.old.offset ≤ line.new.offset }
     ensures room { result.count ≤ length calls.now }
     ensures kept { drop result.count answers.new ≡ drop result.count answers.old }
 {

@@ -15,46 +15,46 @@ use crate::status::{BAD_STATE, NOTHING, OK, TOO_LARGE};
 use markdown_scanners_tree::line::{KnownBreaks, LARGEST_INDENT, LineStart};
 use markdown_values::values::BlockQuoteKind;
 
-/// `struct mds_line_start` of C: a place in a line, and what is known of the line from there on.
+/// `struct mds_line_start` of C: an offset in a line, and what is known of the line from there on.
 #[repr(C)]
 pub struct Start {
-    pub place: usize,
+    pub offset: usize,
     pub pending: usize,
     pub phase: usize,
     pub none_before: usize,
-    pub behind_break: usize,
+    pub after_break: usize,
 }
 
 impl Start {
-    // The library's line start at the place in these bytes.
+    // The library's line start at the offset in these bytes.
     pub(crate) fn on<'a>(&self, bytes: &'a [u8]) -> Option<LineStart<'a>>
         ensures state { IfSome result (λ line. line ≡ state_on bytes.now self.now) }
         ensures is_state { IfSome result (λ line. IsLineState (state_on bytes.now self.now)) }
         ensures none { IfNone result (¬ IsLineState (state_on bytes.now self.now)) }
     {
-        LineStart::resumed(bytes, self.place, self.pending, self.phase)
+        LineStart::resumed(bytes, self.offset, self.pending, self.phase)
     }
 
-    // Whether this is a place in these bytes, with nothing pending and a byte that is no space: most
+    // Whether this is an offset in these bytes, with nothing pending and a byte that is no space: most
     // often it is. It is asked first, so that most calls make no line start.
     fn has_no_space(&self, bytes: &[u8]) -> bool
         ensures { IsTrue result → IsLineState (state_on bytes.now self.now)
             × HasNoSpace (state_on bytes.now self.now)
             × (after_all_space (state_on bytes.now self.now) ≡ state_on bytes.now self.now) }
     {
-        if self.pending > 0 || self.phase > 3 || self.place >= bytes.len() {
+        if self.pending > 0 || self.phase > 3 || self.offset >= bytes.len() {
             return false;
         }
-        !is_space(bytes[self.place])
+        !is_space(bytes[self.offset])
     }
 
-    // Keeps the place of the library's line start.
+    // Keeps the offset of the library's line start.
     pub(crate) fn keep(&mut self, line: &LineStart)
         ensures state { state_on line.now.bytes self.new ≡ line.now }
         ensures breaks { known_breaks self.new ≡ known_breaks self.old }
-        ensures next { self.old.place ≤ line.now.place → IsNext line.now.bytes self.old self.new }
+        ensures next { self.old.offset ≤ line.now.offset → IsNext line.now.bytes self.old self.new }
     {
-        self.place = line.bytes_scanned();
+        self.offset = line.bytes_scanned();
         self.pending = line.remaining_space();
         self.phase = line.phase();
     }
@@ -65,18 +65,18 @@ impl Start {
     {
         KnownBreaks {
             none_before: self.none_before,
-            behind_break: self.behind_break,
+            after_break: self.after_break,
         }
     }
 
     // Keeps what is known of the thematic breaks.
     pub(crate) fn learn(&mut self, breaks: &KnownBreaks)
         ensures breaks { known_breaks self.new ≡ breaks.now }
-        ensures place { self.new.place ≡ self.old.place }
+        ensures offset { self.new.offset ≡ self.old.offset }
         ensures state { (bytes : List ℕ) → state_on bytes self.new ≡ state_on bytes self.old }
     {
         self.none_before = breaks.none_before;
-        self.behind_break = breaks.behind_break;
+        self.after_break = breaks.after_break;
     }
 }
 
@@ -212,7 +212,7 @@ pub extern "C" fn mds_line_all_space(bytes: &[u8], start: &mut Start) -> u32
     OK
 }
 
-/// Whether the line ends at the place. (CommonMark 0.31.2, section 2.1)
+/// Whether the line ends at the offset. (CommonMark 0.31.2, section 2.1)
 #[unsafe(no_mangle)]
 pub extern "C" fn mds_line_is_at_end(bytes: &[u8], start: &Start) -> u32
     ensures refused { ¬ IsLineState (state_on bytes.now start.now) → result ≡ bad_state }
@@ -288,7 +288,7 @@ pub extern "C" fn mds_line_list(bytes: &[u8], start: &mut Start, indent: usize) 
     ensures next { OfState bytes.now start.old (λ s. IsNext bytes.now start.old start.new) }
     ensures learnt { OfState bytes.now start.old (λ s. indent ≤ usize.MAX - 16
         → known_breaks start.new
-        ≡ learnt_by_marker bytes.now start.old.place (known_breaks start.old)) }
+        ≡ learnt_by_marker bytes.now start.old.offset (known_breaks start.old)) }
 {
     let Some(mut line) = start.on(bytes) else {
         return no_item(BAD_STATE);
@@ -298,12 +298,12 @@ pub extern "C" fn mds_line_list(bytes: &[u8], start: &mut Start, indent: usize) 
     }
     let mut breaks = KnownBreaks {
         none_before: start.none_before,
-        behind_break: start.behind_break,
+        after_break: start.after_break,
     };
     let item = line.scan_list_marker_with_breaks(indent, &mut breaks);
     start.keep(&line);
     start.none_before = breaks.none_before;
-    start.behind_break = breaks.behind_break;
+    start.after_break = breaks.after_break;
     item_of(item)
 }
 

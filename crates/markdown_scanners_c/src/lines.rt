@@ -117,7 +117,7 @@ pub extern "C" fn mds_scan_line(bytes: &[u8]) -> usize
     scan_line(bytes)
 }
 
-/// The place after the first LF, or the length; a CR ends no line here.
+/// The offset after the first LF, or the length; a CR ends no line here.
 #[unsafe(no_mangle)]
 pub extern "C" fn mds_scan_nextline(bytes: &[u8]) -> usize
     ensures line { result ≡ next_line bytes.now }
@@ -178,11 +178,11 @@ pub extern "C" fn mds_scan_listitem(bytes: &[u8]) -> ListItem
     }
 }
 
-/// `struct mds_indent` of C: columns, and the place of the last byte that was looked at.
+/// `struct mds_indent` of C: columns, and the offset of the last byte that was looked at.
 #[repr(C)]
 pub struct Indent {
     pub status: u32,
-    pub place: usize,
+    pub offset: usize,
     pub columns: usize,
 }
 
@@ -190,22 +190,22 @@ pub struct Indent {
 #[unsafe(no_mangle)]
 pub extern "C" fn mds_calc_indent(bytes: &[u8], max: usize) -> Indent
     ensures indent { ((result.status ≡ ok) × (max ≤ usize.MAX / 4)
-        × IsIndent bytes.now max result.place result.columns)
-        ⊎ ((result.status ≡ too_large) × (result.place ≡ 0) × (result.columns ≡ 0)
+        × IsIndent bytes.now max result.offset result.columns)
+        ⊎ ((result.status ≡ too_large) × (result.offset ≡ 0) × (result.columns ≡ 0)
         × (usize.MAX / 4 < max)) }
-    ensures within { result.place ≤ length bytes.now }
+    ensures within { result.offset ≤ length bytes.now }
 {
     if max > usize::MAX / 4 {
         return Indent {
             status: TOO_LARGE,
-            place: 0,
+            offset: 0,
             columns: 0,
         };
     }
-    let (place, columns) = calc_indent(bytes, max);
+    let (offset, columns) = calc_indent(bytes, max);
     Indent {
         status: OK,
-        place,
+        offset,
         columns,
     }
 }

@@ -7,7 +7,7 @@ ghost use Rattle.markdown_events.specs.page.PageEvents.{ArePageEvents};
 ghost use Rattle.markdown_scanners_c.specs.EventRecords.{records_from, texts_of};
 ghost use Rattle.markdown_scanners_c.specs.PageEvents.{AreBothWritten, AreEventsReturned};
 ghost use Rattle.markdown_scanners_c.specs.Extensions.{extensions_of};
-ghost use Rattle.markdown_scanners_c.specs.Status.{ok, too_short};
+ghost use Rattle.markdown_scanners_c.specs.Status.{not_utf8, ok, too_short};
 
 use crate::event_records::{PageEvent, add_event};
 use crate::extensions::{are_built, extensions_of};
@@ -40,8 +40,9 @@ pub extern "C" fn mds_events(
     if !are_built(extensions) {
         return no_events(BAD_KIND);
     }
-    let Ok(page) = str::from_utf8(text) else {
-        return no_events(NOT_UTF8);
+    let page = match str::from_utf8(text) {
+        Ok(page) => page,
+        Err(error) => return not_utf8(error.valid_up_to()),
     };
     match made_events(alloc, page, extensions) {
         Ok((made, words)) => write_events(&made, words.as_str(), events, texts),
@@ -57,6 +58,17 @@ fn no_events(status: u32) -> EventCount
         status,
         count: 0,
         length: 0,
+    }
+}
+
+// No events, as the page is not UTF-8, of which so many bytes are.
+fn not_utf8(length: usize) -> EventCount
+    ensures { result ≡ record { status = not_utf8; count = 0; length = length } }
+{
+    EventCount {
+        status: NOT_UTF8,
+        count: 0,
+        length,
     }
 }
 

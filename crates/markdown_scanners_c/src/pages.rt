@@ -71,7 +71,7 @@ pub struct Block {
     pub lines: usize,
     pub start: usize,
     pub bytes: usize,
-    pub place: usize,
+    pub offset: usize,
 }
 
 /// `struct mds_blocks` of C: how many blocks are written, or need room.
@@ -151,28 +151,28 @@ fn event_returned(event: BlockEvent) -> Block
     ensures { result ≡ event_returned (seen_event event.entry) }
 {
     match event {
-        BlockEvent::Start(container, place) => container_returned(container, place),
+        BlockEvent::Start(container, offset) => container_returned(container, offset),
         BlockEvent::Block(leaf) => leaf_returned(leaf),
         BlockEvent::End => of_kind(plain_kind(CONTAINER_END)),
     }
 }
 
-// A container that begins at the place, as C has it.
-pub(crate) fn container_returned(container: Container, place: usize) -> Block
-    ensures { result ≡ container_returned container place }
+// A container that begins at the offset, as C has it.
+pub(crate) fn container_returned(container: Container, offset: usize) -> Block
+    ensures { result ≡ container_returned container offset }
 {
     match container {
         Container::Quote => Block {
-            place,
+            offset,
             ..of_kind(plain_kind(BLOCK_QUOTE))
         },
         Container::Footnote => Block {
-            place,
+            offset,
             ..of_kind(plain_kind(FOOTNOTE))
         },
         Container::TermDefinition(definition) => Block {
             width: definition.width,
-            place,
+            offset,
             ..of_kind(plain_kind(TERM_DEFINITION))
         },
         Container::Item(item) => {
@@ -183,7 +183,7 @@ pub(crate) fn container_returned(container: Container, place: usize) -> Block
             };
             Block {
                 width: item.width,
-                place,
+                offset,
                 ..of_kind(kind)
             }
         }
@@ -200,7 +200,7 @@ fn leaf_returned(leaf: Leaf) -> Block
         lines: leaf.lines,
         start: leaf.start,
         bytes: leaf.bytes,
-        place: leaf.place,
+        offset: leaf.offset,
         ..of_kind(kind_returned(leaf.kind))
     }
 }
@@ -220,7 +220,7 @@ pub(crate) fn of_kind(kind: Kind) -> Block
         lines: 0,
         start: 0,
         bytes: 0,
-        place: 0,
+        offset: 0,
     }
 }
 
@@ -428,12 +428,12 @@ fn container_in(block: &Block) -> Container
         BLOCK_QUOTE => Container::Quote,
         FOOTNOTE => Container::Footnote,
         TERM_DEFINITION => Container::TermDefinition(DefinitionItem {
-            begun: false,
+            starts_blank: false,
             width: block.width,
         }),
         _ => Container::Item(ListItem {
             delimiter: block.byte,
-            begun: false,
+            starts_blank: false,
             width: block.width,
             start: block.number,
         }),

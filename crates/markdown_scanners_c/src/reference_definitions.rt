@@ -10,7 +10,7 @@ use crate::status::{NONE, NOTHING, OK, PAST_END};
 use markdown_scanners_tree::scanners::{ReferenceDefinition, scan_reference_definition};
 use std::ops::Range;
 
-/// `struct mds_reference_definition` of C: where its parts stand in the bytes, and the place after
+/// `struct mds_reference_definition` of C: where its parts stand in the bytes, and the offset after
 /// it, where the status is `OK`.
 #[repr(C)]
 pub struct Definition {
@@ -40,7 +40,7 @@ fn no_definition(status: u32) -> Definition
     }
 }
 
-/// The link reference definition that begins at the place. (CommonMark 0.31.2, section 4.7)
+/// The link reference definition that begins at the offset. (CommonMark 0.31.2, section 4.7)
 #[tactic(auto, unfolding(crate::specs::ReferenceDefinitions::IsReturnedDefinition))]
 #[unsafe(no_mangle)]
 pub extern "C" fn mds_scan_reference_definition(

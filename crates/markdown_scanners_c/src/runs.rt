@@ -15,20 +15,20 @@ pub struct HtmlEnds {
     pub count: usize,
 }
 
-/// Writes the ends of what begins at the places in turn. (CommonMark 0.31.2, section 6.6)
+/// Writes the ends of what begins at the offsets in turn. (CommonMark 0.31.2, section 6.6)
 #[unsafe(no_mangle)]
 pub extern "C" fn mds_run_inline_html(
     alloc: Global,
     bytes: &[u8],
-    places: &[usize],
+    offsets: &[usize],
     ends: &mut [usize],
 ) -> HtmlEnds
-    ensures run { IsHtmlRun bytes.now places.now ends.old ends.new result }
-    ensures budget { bytes_passed bytes.now (take result.count places.now)
+    ensures run { IsHtmlRun bytes.now offsets.now ends.old ends.new result }
+    ensures budget { bytes_passed bytes.now (take result.count offsets.now)
         ≤ 4 * length bytes.now + 8 * result.count }
-    ensures room { result.count ≤ length places.now }
+    ensures room { result.count ≤ length offsets.now }
 {
-    match ends_of(alloc, bytes, places) {
+    match ends_of(alloc, bytes, offsets) {
         Ok((found, done)) => HtmlEnds {
             status: write_numbers(&found, ends, done),
             count: found.len(),
@@ -52,17 +52,17 @@ fn write_numbers(numbers: &[usize], buffer: &mut [usize], done: u32) -> u32
     done
 }
 
-// The ends that are found at the places in turn, and the reason why one is refused, if one is.
-fn ends_of(alloc: Global, bytes: &[u8], places: &[usize]) -> Result<(Vec<usize>, u32), AllocError>
-    ensures ends { IfOk result (λ r. r.0.items ≡ run_ends bytes.now places.now) }
+// The ends that are found at the offsets in turn, and the reason why one is refused, if one is.
+fn ends_of(alloc: Global, bytes: &[u8], offsets: &[usize]) -> Result<(Vec<usize>, u32), AllocError>
+    ensures ends { IfOk result (λ r. r.0.items ≡ run_ends bytes.now offsets.now) }
     ensures status { IfOk result (λ r. r.1
-        ≡ stop_status (run_stop (new_run bytes.now) 0 places.now)) }
-    ensures budget { IfOk result (λ r. bytes_passed bytes.now (take (length r.0.items) places.now)
+        ≡ stop_status (run_stop (new_run bytes.now) 0 offsets.now)) }
+    ensures budget { IfOk result (λ r. bytes_passed bytes.now (take (length r.0.items) offsets.now)
         ≤ 4 * length bytes.now + 8 * length r.0.items) }
-    ensures count { IfOk result (λ r. length r.0.items ≤ length places.now) }
-    ensures asked { OnErr result (0 < length (run_ends bytes.now places.now)) }
+    ensures count { IfOk result (λ r. length r.0.items ≤ length offsets.now) }
+    ensures asked { OnErr result (0 < length (run_ends bytes.now offsets.now)) }
 {
-    let run = run_inline_html(alloc, bytes, places)?;
+    let run = run_inline_html(alloc, bytes, offsets)?;
     if run.answers.is_empty() {
         return Ok((Vec::new(alloc), status_of(&run.stop)));
     }

@@ -6,11 +6,11 @@ ghost use Rattle.markdown_scanners_c.specs.private.Searched.{searched, returned_
 
 use crate::status::{BAD_SKIPS, OK};
 
-/// `struct mds_skip` of C: so many bytes are left out at the place.
+/// `struct mds_skip` of C: so many bytes are left out at the offset.
 #[repr(C)]
 #[derive(Clone, Copy)]
 pub struct Skip {
-    pub place: usize,
+    pub offset: usize,
     pub length: usize,
 }
 
@@ -35,16 +35,16 @@ fn are_skips(skips: &[Skip], bytes: &[u8]) -> bool
         if !stands(*skip, from, bytes.len()) {
             return false;
         }
-        from = skip.place + skip.length.max(1);
+        from = skip.offset + skip.length.max(1);
     }
     true
 }
 
-// Whether the skip begins at the place or after it, and ends within so many bytes.
+// Whether the skip begins at the offset or after it, and ends within so many bytes.
 fn stands(skip: Skip, from: usize, size: usize) -> bool
-    ensures { result ≡ (nat_le from skip.place && nat_le (skip.place + skip.length) size) }
+    ensures { result ≡ (nat_le from skip.offset && nat_le (skip.offset + skip.length) size) }
 {
-    from <= skip.place && skip.place <= size && skip.length <= size - skip.place
+    from <= skip.offset && skip.offset <= size && skip.length <= size - skip.offset
 }
 
 // Whether each skip leaves out ASCII alone.
@@ -61,10 +61,10 @@ fn are_ascii_skips(skips: &[Skip], bytes: &[u8]) -> bool
 
 // Whether the bytes that are left out there are ASCII.
 fn is_ascii_skip(skip: Skip, bytes: &[u8]) -> bool
-    ensures { result ≡ is_ascii_front (drop skip.place bytes.now) skip.length }
+    ensures { result ≡ is_ascii_front (drop skip.offset bytes.now) skip.length }
 {
-    let place = skip.place.min(bytes.len());
-    is_ascii_front(&bytes[place..], skip.length)
+    let offset = skip.offset.min(bytes.len());
+    is_ascii_front(&bytes[offset..], skip.length)
 }
 
 // Whether so many bytes are there at the front, and are ASCII.
@@ -74,21 +74,21 @@ fn is_ascii_front(rest: &[u8], count: usize) -> bool
     count <= rest.len() && rest[..count].is_ascii()
 }
 
-/// How many bytes a table leaves out at the place, in as many steps as its length has binary
+/// How many bytes a table leaves out at the offset, in as many steps as its length has binary
 /// digits. Of a table that is out of order it is some number, and always the same.
-pub(crate) fn searched(skips: &[Skip], place: usize) -> usize
-    ensures halves { result ≡ searched skips.now place }
+pub(crate) fn searched(skips: &[Skip], offset: usize) -> usize
+    ensures halves { result ≡ searched skips.now offset }
     ensures found { (size : ℕ) → stand_from 0 size skips.now ≡ true
-        → result ≡ left_out skips.now place }
+        → result ≡ left_out skips.now offset }
 {
     let mut rest = skips;
     while !rest.is_empty() {
         let middle = rest.len() / 2;
         let skip = rest[middle];
-        if skip.place == place {
+        if skip.offset == offset {
             return skip.length;
         }
-        rest = if skip.place < place {
+        rest = if skip.offset < offset {
             &rest[middle + 1..]
         } else {
             &rest[..middle]
@@ -101,8 +101,8 @@ pub(crate) fn searched(skips: &[Skip], place: usize) -> usize
 pub(crate) fn returned_skip(skips: &[Skip], bytes: &[u8], rest: &[u8]) -> usize
     ensures { result ≡ returned_skip skips.now bytes.now rest.now }
 {
-    let place = bytes.len().saturating_sub(rest.len());
-    searched(skips, place).min(rest.len())
+    let offset = bytes.len().saturating_sub(rest.len());
+    searched(skips, offset).min(rest.len())
 }
 
 /// How many bytes of a rest of the text a table leaves out, all of them where it names more, if they

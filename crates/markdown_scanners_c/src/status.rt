@@ -6,7 +6,7 @@ pub(crate) const OK: u32 = 0;
 pub(crate) const NOTHING: u32 = 1;
 /// The text is not UTF-8.
 pub(crate) const NOT_UTF8: u32 = 2;
-/// The place is past the end of the bytes.
+/// The offset is past the end of the bytes.
 pub(crate) const PAST_END: u32 = 3;
 /// The table of what is left out is none of the text.
 pub(crate) const BAD_SKIPS: u32 = 4;
@@ -18,11 +18,11 @@ pub(crate) const EMPTY: u32 = 6;
 pub(crate) const TOO_SHORT: u32 = 7;
 /// Memory was refused.
 pub(crate) const NO_MEMORY: u32 = 8;
-/// No opener of inline HTML ends at the place.
+/// No opener of inline HTML ends at the offset.
 pub(crate) const NO_OPENER: u32 = 9;
-/// The place is not above the one before it.
+/// The offset is not above the one before it.
 pub(crate) const NOT_RISING: u32 = 10;
-/// The place is inside what was found before it.
+/// The offset is inside what was found before it.
 pub(crate) const INSIDE_FIND: u32 = 11;
 /// Columns of a tab are pending, and the call is not one that takes space.
 pub(crate) const SPACE_PENDING: u32 = 12;
@@ -31,5 +31,5 @@ pub(crate) const BAD_KIND: u32 = 13;
 /// The numbers are those of no line start on these bytes.
 pub(crate) const BAD_STATE: u32 = 14;
 
-/// In place of a length or a place, where nothing is found.
+/// In place of a length or an offset, where nothing is found.
 pub(crate) const NONE: usize = usize::MAX;

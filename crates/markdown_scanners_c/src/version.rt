@@ -4,7 +4,7 @@ ghost use Rattle.markdown_scanners_c.specs.Version.{version};
 
 const MAJOR: u32 = 0;
 
-const MINOR: u32 = 1;
+const MINOR: u32 = 2;
 
 const PATCH: u32 = 0;
 

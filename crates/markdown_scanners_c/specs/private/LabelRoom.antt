@@ -1,11 +1,11 @@
--- Numbers that a place in a label may be added to.
+-- Numbers that an offset in a label may be added to.
 use Rattle.std.specs.Prelude.{◌<◌, ◌+◌, ◌^◌, List, Option, IfSome, ⊤}
 use Rattle.std.specs.List.{All}
 use Rattle.markdown_inlines.specs.declared.links.Link.{Link}
 use Rattle.markdown_inlines.specs.declared.links.LinkTarget.{LinkTarget}
 use Rattle.markdown_inlines.specs.declared.links.LinkTarget.TheVariants.{Full}
 
--- a label has a place after its left bracket
+-- a label has an offset after its left bracket
 abbrev pub IsRoomy : LinkTarget → Type 0
 IsRoomy (Full label) = label.start + 1 < 2 ^ 64
 IsRoomy target = ⊤

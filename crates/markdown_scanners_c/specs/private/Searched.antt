@@ -3,19 +3,19 @@ use Rattle.std.specs.Prelude.{ℕ, suc, zero, List, ◌-◌, ◌/◌, ◌==◌, 
 use Rattle.markdown_scanners_c.specs.declared.skips.Skip.{Skip}
 
 abbrev pub no_skip : Skip
-no_skip = record { place = 0; length = 0 }
+no_skip = record { offset = 0; length = 0 }
 
 -- in so many steps, each of which goes on in one half
 abbrev pub halved : ℕ → List Skip → ℕ → ℕ
-halved zero skips place = 0
-halved (suc steps) skips place =
+halved zero skips offset = 0
+halved (suc steps) skips offset =
     let middle = length skips / 2 in
     let skip = get_or skips middle no_skip in
-    if skip.place == place then skip.length
-    else halved steps (if nat_lt skip.place place then drop (suc middle) skips else take middle skips) place
+    if skip.offset == offset then skip.length
+    else halved steps (if nat_lt skip.offset offset then drop (suc middle) skips else take middle skips) offset
 
 abbrev pub searched : List Skip → ℕ → ℕ
-searched skips place = halved (length skips) skips place
+searched skips offset = halved (length skips) skips offset
 
 -- how many bytes of a rest of the text are left out, all of them where the table names more
 abbrev pub returned_skip : List Skip → List ℕ → List ℕ → ℕ

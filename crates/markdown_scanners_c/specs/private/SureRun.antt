@@ -9,9 +9,9 @@ use Rattle.markdown_scanners_c.specs.LineRuns.{answer_of, calls_before_list}
 use Rattle.markdown_scanners_c.specs.declared.line_runs.Answer.{Answer}
 use Rattle.markdown_scanners_c.specs.declared.line_runs.Call.{Call}
 
--- What is known is true of the line from the place on, or the first calls, so many, have none of MDS_LIST among them.
+-- What is known is true of the line from the offset on, or the first calls, so many, have none of MDS_LIST among them.
 abbrev pub IsSure : LineState → KnownBreaks → List Call → ℕ → Type 0
-IsSure line breaks calls count = AreTrueBreaks line.bytes breaks line.place ⊎ (count ≤ calls_before_list calls)
+IsSure line breaks calls count = AreTrueBreaks line.bytes breaks line.offset ⊎ (count ≤ calls_before_list calls)
 
 -- A run makes more calls than so many, and the answers of these stand at the front of the buffer.
 pub record IsMadeTo (count : ℕ) (run : StateRun) (answers : List Answer) : Type 0 where

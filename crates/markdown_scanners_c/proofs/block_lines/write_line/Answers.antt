@@ -1,6 +1,5 @@
 use Rattle.std.proofs.Common.{[], inl, inr, refl, ap, ◌∙◌, subst}
-use Rattle.std.specs.Prelude.{if◌then◌else◌}
-use Rattle.markdown_scanners_c.specs.BlockLines.{if_returned, opened_returned}
+use Rattle.markdown_scanners_c.specs.BlockLines.{if_returned, opened_returned, state_of}
 use Rattle.markdown_scanners_c.specs.Buffer.{IsWritten}
 use Rattle.markdown_scanners_c.specs.declared.block_lines.LineBlock.{LineBlock}
 use Rattle.markdown_scanners_c.specs.declared.block_lines.OpenBlocks.{OpenBlocks}
@@ -17,11 +16,11 @@ pub returns-in-Ok-Some-clause-line : goal.returns-in-Ok-Some-clause-line
 returns-in-Ok-Some-clause-line c =
     let is = rw c.in-Ok-Some.field-0-is at c.in-Ok-Some.ensures.step in
     let page = c.args.page.now in
-    let kept = rw c.is_after_term.ensures.term at c.keep_open.ensures in
+    let kept = rw (c.state_of-state.ensures, c.is_after_term.ensures.term, c.is_after_paragraph.ensures.paragraph) at c.keep_open.ensures in
     elim c.write_step-returned.ensures [
       | inl h ↦ inl (
         h.0,
-        kept ∙ ap (λ (t : LineBlock). if_returned t (record page { depth = t.depth; state = if c.next_block.new.self.term then 1 else 0 }) page) h.0,
+        kept ∙ ap (λ (t : LineBlock). if_returned t (record page { depth = t.depth; state = state_of c.next_block.new.self.term c.next_block.new.self.paragraph }) page) h.0,
         h.1,
         h.2,
       )

@@ -3,7 +3,7 @@ use Rattle.markdown_scanners_c.proofs.HtmlScans.{IsScan, guarded, ends, ends_fir
 use Rattle.markdown_scanners_c.proofs.html.mds_scan_inline_html.Goals as goal
 
 scanned : (c : goal.After-end_returned)
-    → IsScan c.args.bytes.now c.args.place c.args.guard.now c.of.result c.scan_inline_html_counted-found.result
+    → IsScan c.args.bytes.now c.args.offset c.args.guard.now c.of.result c.scan_inline_html_counted-found.result
     c.scan_inline_html_counted-found.new.text
 scanned c =
     let did = rw (c.new-text.ensures.start, c.to_scan-stops.ensures, ← c.of.ensures) at c.scan_inline_html_counted-found.ensures in

@@ -5,7 +5,7 @@ use Rattle.markdown_scanners_tree.specs.scanners.html_tag.KeptTag.{IsKeptTag, ta
 use Rattle.markdown_scanners_c.specs.Buffer.{IsWritten}
 use Rattle.markdown_scanners_c.specs.Skips.{LeavesOut}
 use Rattle.markdown_scanners_c.specs.Tags.{IsTagText}
-use Rattle.markdown_scanners_c.proofs.Buffers.{front_changed, no_refused_place}
+use Rattle.markdown_scanners_c.proofs.Buffers.{front_changed, no_refused_offset}
 use Rattle.markdown_scanners_c.proofs.TagLemmas.{Returned, tag_of_more, tag_too, tag_room, returned_is_left_out, left_out_is_returned}
 use Rattle.markdown_scanners_c.proofs.html.tag_text.Goals as goal
 
@@ -24,13 +24,13 @@ returns-in-Ok-Some c =
     let w = c.write_text-status in
     let written = subst (λ t. IsWritten t c.args.buffer.now w.new.buffer w.result.status w.result.length) text w.ensures.written in
     record {
-      tag = λ behind stand. inr (inr (
+      tag = λ after stand. inr (inr (
         found.0,
-        tag_too bytes _ (LeavesOut skips bytes) (returned_is_left_out skips bytes behind stand) c.args.start found.0 returned,
+        tag_too bytes _ (LeavesOut skips bytes) (returned_is_left_out skips bytes after stand) c.args.start found.0 returned,
         omega (arith, w.ensures.taken, found.2.1),
         written,
       ));
-      there = no_refused_place _ _ _ _ _ written;
+      there = no_refused_offset _ _ _ _ _ written;
       within = omega (arith, w.ensures.taken, within, ap length source, length-drop c.args.start bytes, c.requires);
       room = omega (arith, w.ensures.taken, written.0, found.2.1, tag_room _ _ found.0 returned);
       kept = front_changed _ _ _ _ _ written;
@@ -43,13 +43,13 @@ returns-in-Ok-None c =
     let skips = c.args.skips.now in
     let none = rw (c.in-Ok-None.field-0-is, take_rest bytes c.args.start) at c.in-Ok-None.ensures.none in
     record {
-      tag = λ behind stand. inl (
+      tag = λ after stand. inl (
         c.no_tag.ensures,
         refl,
         λ tag is. none tag (tag_of_more (Returned skips bytes) _
             (λ rest skip e. record { shown = record c.args.bytes { now = rest }; shows = refl; says = record { met = e } })
             (drop c.args.start bytes) tag
-            (tag_too bytes (LeavesOut skips bytes) (Returned skips bytes) (left_out_is_returned skips bytes behind stand) c.args.start tag is)),
+            (tag_too bytes (LeavesOut skips bytes) (Returned skips bytes) (left_out_is_returned skips bytes after stand) c.args.start tag is)),
       );
       there = λ past. omega (arith, past, c.no_tag.ensures.0);
       within = omega (arith, c.no_tag.ensures.1);
@@ -67,10 +67,10 @@ returns-in-Err c =
     subst (λ s. IsKeptTag (Returned skips bytes) s found.0) (take_rest bytes c.args.start)
     (tag_of_more _ (Returned skips bytes) (λ rest skip x. subst (λ r. Returned skips bytes r skip) x.shows x.says.met) _ found.0 found.1) in
     record {
-      tag = λ behind stand. inr (inl (
+      tag = λ after stand. inr (inl (
         c.no_tag-in-Err.ensures,
         refl,
-        (found.0, tag_too bytes _ (LeavesOut skips bytes) (returned_is_left_out skips bytes behind stand) c.args.start found.0 returned, found.2),
+        (found.0, tag_too bytes _ (LeavesOut skips bytes) (returned_is_left_out skips bytes after stand) c.args.start found.0 returned, found.2),
       ));
       there = λ past. omega (arith, past, c.no_tag-in-Err.ensures.0);
       within = omega (arith, c.no_tag-in-Err.ensures.1);

@@ -22,7 +22,7 @@ returns-in-Some-clause-part c =
 pub returns-in-Some-clause-boundary : goal.returns-in-Some-clause-boundary
 returns-in-Some-clause-boundary c = λ text found.
     cut_closed c.args.start c.in-Some.length c.args.bytes.now _ (take_rest c.args.bytes.now c.args.start) text
-    c.in-Some.ensures.before c.in-Some.ensures.behind
+    c.in-Some.ensures.before c.in-Some.ensures.after
 
 pub returns-in-None-clause-part : goal.returns-in-None-clause-part
 unfolding IsAutolinkPart

@@ -26,7 +26,7 @@ pub returns-in-Some-clause-boundary : goal.returns-in-Some-clause-boundary
 returns-in-Some-clause-boundary c = λ text found.
     let title = c.in-Some.ensures in
     cut_title c.args.start c.in-Some.whole c.args.bytes.now _ (take_rest c.args.bytes.now c.args.start) text
-    title.within.0 title.begins title.ends title.behind
+    title.within.0 title.begins title.ends title.after
 
 pub returns-in-None-clause-part : goal.returns-in-None-clause-part
 unfolding IsTitlePart

@@ -27,16 +27,16 @@ returns-in-Ok-Some c =
     let returned : IsLabel (ReturnedAscii skips bytes) (drop start bytes) t label =
     label_of_more _ (ReturnedAscii skips bytes)
     (λ rest skip x. ap (returned_ascii skips bytes) (sym x.shows) ∙ sym x.says.met) (drop start bytes) t label found.0 in
-    let place = rw source at c.start_of-place.ensures in
-    let starts : IsStart bytes label c.start_of-place.result =
-    started bytes start c.requires.within label c.in-Ok-Some.taken c.start_of-place.result (is_borrowed c.in-Ok-Some.label) refl
-    place slice in
+    let offset = rw source at c.start_of-offset.ensures in
+    let starts : IsStart bytes label c.start_of-offset.result =
+    started bytes start c.requires.within label c.in-Ok-Some.taken c.start_of-offset.result (is_borrowed c.in-Ok-Some.label) refl
+    offset slice in
     let w = c.write_label-status in
     let given = w.ensures.written in
     record {
-      label = λ behind stand ascii. inr (inr (
+      label = λ after stand ascii. inr (inr (
         label,
-        (label_of_returned skips bytes behind stand ascii start t label returned, found.1),
+        (label_of_returned skips bytes after stand ascii start t label returned, found.1),
         omega (arith, w.ensures.taken),
         starts,
         given,
@@ -49,7 +49,7 @@ returns-in-Ok-Some c =
 
 pub returns-in-Ok-None-clause-label : goal.returns-in-Ok-None-clause-label
 unfolding IsLabelText
-returns-in-Ok-None-clause-label c behind stand ascii =
+returns-in-Ok-None-clause-label c after stand ascii =
     let bytes = c.args.bytes.now in
     let skips = c.args.skips.now in
     let none = rw (c.in-Ok-None.field-0-is, take_rest bytes c.args.start) at c.in-Ok-None.ensures.found in
@@ -60,14 +60,14 @@ returns-in-Ok-None-clause-label c behind stand ascii =
         label_of_more (ReturnedAscii skips bytes) _
             (λ rest skip returned. record { shown = record c.args.bytes { now = rest }; shows = refl; says = record { met = sym returned } })
             (drop c.args.start bytes) c.args.is_in_table label
-            (label_as_returned skips bytes behind stand ascii c.args.start c.args.is_in_table label is.0),
+            (label_as_returned skips bytes after stand ascii c.args.start c.args.is_in_table label is.0),
         is.1,
       ),
     )
 
 pub returns-in-Err-clause-label : goal.returns-in-Err-clause-label
 unfolding IsLabelText
-returns-in-Err-clause-label c behind stand ascii =
+returns-in-Err-clause-label c after stand ascii =
     let bytes = c.args.bytes.now in
     let skips = c.args.skips.now in
     let start = c.args.start in
@@ -78,7 +78,7 @@ returns-in-Err-clause-label c behind stand ascii =
       c.no_label-in-Err.ensures,
       refl,
       (λ none. false≢true (no_label (λ label is. none label (
-        label_of_returned skips bytes behind stand ascii start c.args.is_in_table label
+        label_of_returned skips bytes after stand ascii start c.args.is_in_table label
             (label_of_more _ (ReturnedAscii skips bytes)
             (λ rest skip x. ap (returned_ascii skips bytes) (sym x.shows) ∙ sym x.says.met) (drop start bytes) c.args.is_in_table
             label is.0),
@@ -88,7 +88,7 @@ returns-in-Err-clause-label c behind stand ascii =
         label_of_more (ReturnedAscii skips bytes) _
             (λ rest skip returned. record { shown = record c.args.bytes { now = rest }; shows = refl; says = record { met = sym returned } })
             (drop start bytes) c.args.is_in_table label
-            (label_as_returned skips bytes behind stand ascii start c.args.is_in_table label is.0),
+            (label_as_returned skips bytes after stand ascii start c.args.is_in_table label is.0),
         is.1,
       ) plain)),
     ))

@@ -2,7 +2,7 @@ use Rattle.std.proofs.Common.{◌≡◌, ◌<◌, ◌+◌, ◌++◌, ◌∷◌, 
 use Rattle.std.proofs.lemmas.List.{drop_more, length-append}
 use Rattle.std.proofs.lemmas.Bool.{cases_lt}
 use Rattle.markdown_scanners_tree.specs.line.PlainStep.{IsPlainStep}
-use Rattle.markdown_scanners_tree.specs.line.run.StateRun.{StateRun, behind_answers, state_run}
+use Rattle.markdown_scanners_tree.specs.line.run.StateRun.{StateRun, after_answers, state_run}
 use Rattle.markdown_scanners_c.specs.LineRuns.{answer_of, calls_before_list, line_call}
 use Rattle.markdown_scanners_c.specs.private.SureRun.{IsSure}
 use Rattle.markdown_scanners_c.specs.declared.line_runs.Call.{Call}
@@ -37,9 +37,9 @@ loop-index-preserved c =
     let earlier : IsSure line known calls (at + 1) → IsSure line known calls at =
     λ sure. elim sure [ inl true ↦ inl true | inr before ↦ inr (omega (arith, before)) ] in
     let here : IsSure line known calls at → whole
-    ≡ behind_answers i.0 (state_run c.loop-index.line c.loop-index.breaks
+    ≡ after_answers i.0 (state_run c.loop-index.line c.loop-index.breaks
     (line_call (get_or calls at none) ∷ map line_call left)) =
-    λ sure. i.6 sure ∙ ap (λ it. behind_answers i.0 (state_run c.loop-index.line c.loop-index.breaks it)) split in
+    λ sure. i.6 sure ∙ ap (λ it. after_answers i.0 (state_run c.loop-index.line c.loop-index.breaks it)) split in
     let made = rw c.line_call.ensures at scan.made in (
       more,
       omega (arith, length-append i.0 (answer ∷ []), i.1),
@@ -52,9 +52,9 @@ loop-index-preserved c =
           _ (map line_call left) answer i.0 made (step sure) (rw c.line_call.ensures at scan.learnt),
       λ past. elim (cases_lt first at) [
         | inl before ↦ still_made first whole c.loop-index.answers at _ (omega (arith, before)) (i.7 before)
-        | inr behind ↦ rw written (made_next i.0 answer whole c.loop-index.line c.loop-index.breaks _
-            (map line_call left) (drop (at + 1) c.args.answers.now) first (omega (arith, i.1, behind, past))
-            (here (inr behind)) made)
+        | inr after ↦ rw written (made_next i.0 answer whole c.loop-index.line c.loop-index.breaks _
+            (map line_call left) (drop (at + 1) c.args.answers.now) first (omega (arith, i.1, after, past))
+            (here (inr after)) made)
       ],
     )
 
@@ -74,7 +74,7 @@ module _ (c : goal.After-status_of) where
       let none : Call = record { kind = 0; number = 0 } in
       let split = ap (map line_call) (drop_more calls at none c.loop-index-test.true) in
       c.loop-index.invariant.6 sure
-      ∙ ap (λ it. behind_answers c.loop-index.invariant.0 (state_run c.loop-index.line c.loop-index.breaks it)) split
+      ∙ ap (λ it. after_answers c.loop-index.invariant.0 (state_run c.loop-index.line c.loop-index.breaks it)) split
       ∙ run_ends c.loop-index.line c.loop-index.breaks _ (map line_call (drop (at + 1) calls)) c.in-Err.reason
       c.loop-index.invariant.0 (rw c.line_call.ensures at c.in-Err.ensures.refused)
 

@@ -20,7 +20,7 @@ module _ (c : goal.After-learn) where
 
   -- the library's line start holds what is known of the line
   held : IsTrueStart c.args.bytes.now c.args.start.now
-      → AreTrueBreaks c.in-Some.line.bytes c.breaks-breaks.result c.in-Some.line.place
+      → AreTrueBreaks c.in-Some.line.bytes c.breaks-breaks.result c.in-Some.line.offset
   held known = rw (c.in-Some.ensures.state, c.breaks-breaks.ensures) known
 
   same : state_run c.in-Some.line c.breaks-breaks.result (map line_call c.args.calls.now)
@@ -74,7 +74,7 @@ returns-clause-front c can front =
     let start = c.args.start.now in
     let calls = map line_call c.args.calls.now in
     let known : IsTrueStart bytes start =
-    (λ k from before. absurd (omega (arith, before, front.3)), λ k behind. absurd (omega (arith, behind, front.4))) in
+    (λ k from before. absurd (omega (arith, before, front.3)), λ k after. absurd (omega (arith, after, front.4))) in
     let run = made c (inl (held c known)) in
     let at : state_on bytes start ≡ start_of bytes = rw (front.0, front.1, front.2) refl in
     let runs = ap (λ s. state_run s (known_breaks start) calls) at in
@@ -90,25 +90,25 @@ returns-clause-front c can front =
     record {
       answers = subst (λ it. Returned plain.answers it) alike.1 (subst (λ it. Returned it first.stop) alike.0 returned);
       rest = ap rest_of state ∙ alike.2;
-      scanned = ap (λ (s : LineState). s.place) state ∙ alike.3;
+      scanned = ap (λ (s : LineState). s.offset) state ∙ alike.3;
     }
 
 pub returns-clause-next : goal.returns-clause-next
 returns-clause-next c is =
     let bytes = c.args.bytes.now in
     let old = c.args.start.now in
-    let forward : old.place ≤ c.made_run-ends.new.line.place =
-    subst (λ (s : LineState). s.place ≤ c.made_run-ends.new.line.place) c.in-Some.ensures.state
+    let forward : old.offset ≤ c.made_run-ends.new.line.offset =
+    subst (λ (s : LineState). s.offset ≤ c.made_run-ends.new.line.offset) c.in-Some.ensures.state
     c.made_run-ends.ensures.forward in
     let kept : IsNext bytes old c.keep.new.self =
     subst (λ it. IsNext it old c.keep.new.self) (whole c) (c.keep.ensures.next forward) in
-    let place : c.learn.new.self.place ≡ c.made_run-ends.new.line.place = ap (λ (s : LineState). s.place) (left c) in
+    let offset : c.learn.new.self.offset ≡ c.made_run-ends.new.line.offset = ap (λ (s : LineState). s.offset) (left c) in
     record {
       is_state = subst IsLineState (sym (c.learn.ensures.state bytes)) kept.is_state;
-      forward = subst (λ n. old.place ≤ n) (sym c.learn.ensures.place) kept.forward;
+      forward = subst (λ n. old.offset ≤ n) (sym c.learn.ensures.offset) kept.forward;
       truth = λ known.
-          subst (λ (it : KnownBreaks). AreTrueBreaks bytes it c.learn.new.self.place) (sym c.learn.ensures.breaks)
-          (subst (λ n. AreTrueBreaks bytes c.made_run-ends.new.breaks n) (sym place)
-          (subst (λ it. AreTrueBreaks it c.made_run-ends.new.breaks c.made_run-ends.new.line.place) (whole c)
+          subst (λ (it : KnownBreaks). AreTrueBreaks bytes it c.learn.new.self.offset) (sym c.learn.ensures.breaks)
+          (subst (λ n. AreTrueBreaks bytes c.made_run-ends.new.breaks n) (sym offset)
+          (subst (λ it. AreTrueBreaks it c.made_run-ends.new.breaks c.made_run-ends.new.line.offset) (whole c)
           (c.made_run-ends.ensures.truth (held c known))));
     }

@@ -13,6 +13,6 @@ returns-clause-next c is =
     scan.ensures.state ∙ ap (λ s. (alert_outcome s).state) c.in-Some.ensures.state in
     let whole : scan.new.self.bytes ≡ c.args.bytes.now =
     scan.ensures.bytes ∙ ap (λ (s : LineState). s.bytes) c.in-Some.ensures.state in
-    let forward : c.args.start.now.place ≤ scan.new.self.place =
-    subst (λ (s : LineState). c.args.start.now.place ≤ s.place) (sym moved) (alert_forward before) in
+    let forward : c.args.start.now.offset ≤ scan.new.self.offset =
+    subst (λ (s : LineState). c.args.start.now.offset ≤ s.offset) (sym moved) (alert_forward before) in
     subst (λ bytes. IsNext bytes c.args.start.now c.keep.new.self) whole (c.keep.ensures.next forward)

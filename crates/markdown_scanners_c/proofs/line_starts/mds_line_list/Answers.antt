@@ -11,18 +11,18 @@ returns-clause-next c is =
     let line : c.in-Some.line ≡ state_on c.args.bytes.now old = c.in-Some.ensures.state in
     let whole : scan.new.self.bytes ≡ c.args.bytes.now =
     scan.ensures.bytes ∙ ap (λ (s : LineState). s.bytes) line in
-    let forward : old.place ≤ scan.new.self.place =
-    subst (λ (s : LineState). s.place ≤ scan.new.self.place) line scan.ensures.forward in
+    let forward : old.offset ≤ scan.new.self.offset =
+    subst (λ (s : LineState). s.offset ≤ scan.new.self.offset) line scan.ensures.forward in
     let kept : IsNext c.args.bytes.now old c.keep.new.self =
     subst (λ bytes. IsNext bytes old c.keep.new.self) whole (c.keep.ensures.next forward) in
-    let place : c.keep.new.self.place ≡ scan.new.self.place =
-    ap (λ (s : LineState). s.place) c.keep.ensures.state in
+    let offset : c.keep.new.self.offset ≡ scan.new.self.offset =
+    ap (λ (s : LineState). s.offset) c.keep.ensures.state in
     record {
       is_state = kept.is_state;
       forward = kept.forward;
       truth = λ known.
-          (let before : AreTrueBreaks c.in-Some.line.bytes (known_breaks old) c.in-Some.line.place =
-          subst (λ (s : LineState). AreTrueBreaks s.bytes (known_breaks old) s.place) (sym line) known in
-          subst (λ n. AreTrueBreaks c.args.bytes.now scan.new.breaks n) (sym place)
-          (subst (λ bytes. AreTrueBreaks bytes scan.new.breaks scan.new.self.place) whole (scan.ensures.truth before)));
+          (let before : AreTrueBreaks c.in-Some.line.bytes (known_breaks old) c.in-Some.line.offset =
+          subst (λ (s : LineState). AreTrueBreaks s.bytes (known_breaks old) s.offset) (sym line) known in
+          subst (λ n. AreTrueBreaks c.args.bytes.now scan.new.breaks n) (sym offset)
+          (subst (λ bytes. AreTrueBreaks bytes scan.new.breaks scan.new.self.offset) whole (scan.ensures.truth before)));
     }

@@ -27,6 +27,6 @@ returns-clause-state c is =
 
 pub returns-clause-next : goal.returns-clause-next
 returns-clause-next c is =
-    let forward : c.args.start.now.place ≤ c.scan_task_list_marker-checked.new.self.place =
-    subst (λ (s : LineState). c.args.start.now.place ≤ s.place) (sym (moved c)) (task_forward (before c)) in
+    let forward : c.args.start.now.offset ≤ c.scan_task_list_marker-checked.new.self.offset =
+    subst (λ (s : LineState). c.args.start.now.offset ≤ s.offset) (sym (moved c)) (task_forward (before c)) in
     subst (λ bytes. IsNext bytes c.args.start.now c.keep.new.self) (whole c) (c.keep.ensures.next forward)

@@ -21,14 +21,14 @@ loop-texts-preserved c = λ later gives.
     let events = c.loop-texts.events.items in
     let texts = string_bytes c.loop-texts.texts in
     let words = event_words event.0 in
-    let behind : length texts + length words ≡ length (string_bytes c.add_event.new.texts) =
+    let after : length texts + length words ≡ length (string_bytes c.add_event.new.texts) =
     sym (ap length c.in_ok-add_event.ensures.words ∙ length-append texts words) in
     let later_records : List PageEvent = records_from (length texts + length words) later in (
       whole.0,
       whole.1,
       whole.2 ∙ sym (append_assoc events (event_record (length texts) event ∷ []) later_records)
           ∙ ap (λ es. es ++ later_records) (sym c.in_ok-add_event.ensures.returned)
-          ∙ ap (λ n. c.add_event.new.events.items ++ records_from n later) behind,
+          ∙ ap (λ n. c.add_event.new.events.items ++ records_from n later) after,
       whole.3 ∙ sym (append_assoc texts words (texts_of later))
           ∙ ap (λ ts. ts ++ texts_of later) (sym c.in_ok-add_event.ensures.words),
     )

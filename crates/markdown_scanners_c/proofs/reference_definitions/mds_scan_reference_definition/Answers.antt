@@ -8,15 +8,15 @@ use Rattle.markdown_scanners_tree.specs.scanners.reference_definitions.Reference
 use Rattle.markdown_scanners_c.specs.Answers.{none}
 use Rattle.markdown_scanners_c.specs.ReferenceDefinitions.{IsReturnedDefinition, IsRangeAt, IsTitleAt, IsCutOut}
 use Rattle.markdown_scanners_c.specs.TextPlace.{IsTextPlace}
-use Rattle.markdown_scanners_c.proofs.Parts.{place_in}
+use Rattle.markdown_scanners_c.proofs.Parts.{offset_in}
 use Rattle.markdown_scanners_c.proofs.reference_definitions.mds_scan_reference_definition.Goals as goal
 
 module _ (start : ℕ) (bytes rest : List ℕ) (same : rest ≡ drop start bytes) (text : IsTextPlace bytes start) where
   cut_range : (range : Range ℕ) (from count : ℕ) → IsRangeAt start range from count → (IsUtf8 rest → IsCutAt rest range)
       → IsCutOut bytes from count
   cut_range range from count is cut = (
-    place_in start bytes rest same text range.start from (sym is.0) (λ utf8. (cut utf8).0),
-    place_in start bytes rest same text range.end (from + count) (sym is.1) (λ utf8. (cut utf8).1),
+    offset_in start bytes rest same text range.start from (sym is.0) (λ utf8. (cut utf8).0),
+    offset_in start bytes rest same text range.end (from + count) (sym is.1) (λ utf8. (cut utf8).1),
   )
 
   cut_title : (title : Option (Range ℕ)) (from count : ℕ) → IsTitleAt start title from count
@@ -47,5 +47,5 @@ returns-clause-boundary c = λ text found.
       cut_range start bytes _ rest text definition.label _ _ (refl, omega (arith, is.label.1)) is.label_cut,
       cut_range start bytes _ rest text definition.destination _ _ (refl, omega (arith, is.destination.0)) is.destination_cut,
       cut_title start bytes _ rest text definition.title _ _ c.title_at-title_start.ensures is.title_cut,
-      place_in start bytes _ rest text definition.len _ refl is.after,
+      offset_in start bytes _ rest text definition.len _ refl is.after,
     )
