@@ -1,10 +1,8 @@
 -- What is printed of a page of which a write failed.
-use Rattle.std.proofs.Common.{ℕ, Bool, List, [], ◌++◌, ◌≡◌, Option, Some, None, Result, Ok, Err, IfOk, IfErr, inl, inr, refl, sym, ap, ◌∙◌, append_assoc}
+use Rattle.std.proofs.Common.{ℕ, List, [], ◌++◌, Option, Some, None, Result, Ok, Err, IfErr, inr, refl, sym, ap, ◌∙◌, append_assoc}
 use Rattle.std.specs.Io.KnownBytes.{Appends, append_known}
 use Rattle.program_faults.specs.Faults.{AppendsPrefix}
-use Rattle.page_programs.specs.Cuts.{IsAllOf, IsCutShort, PrintsAllOf, PrintsPart}
-use Rattle.page_programs.specs.Texts.{IsReadAs, PrintsText, is_unwritten}
-use Rattle.page_programs.proofs.ReadingLemmas.{appends-more}
+use Rattle.page_programs.specs.Cuts.{IsCutShort, PrintsPart}
 
 pub appends-known : (old : Option (List ℕ)) (bytes : List ℕ) → Appends old (append_known old bytes) bytes
 appends-known None bytes = tt
@@ -32,45 +30,9 @@ front-after (Some xs) (Some ys) (Some zs) text more appends (rest, (prefix, all,
   ),
 )
 
--- A part at the front of a text is a text.
-pub front-part : (old new : Option (List ℕ)) (text : List ℕ) → AppendsPrefix old new text
-    → (part : List ℕ) × (rest : List ℕ) × (text ≡ part ++ rest) × Appends old new part
-front-part None new text front = ([], text, refl, tt)
-front-part (Some xs) None text (rest, front) = absurd front
-front-part (Some xs) (Some ys) text (rest, (prefix, all, is)) = (prefix, rest, all, is)
-
 -- A part at the front of these bytes is printed, by which known bytes would have grown.
 cut-short : (old new : Option (List ℕ)) (bytes : List ℕ) → AppendsPrefix old new bytes → IsCutShort old new (append_known old bytes)
 cut-short old new bytes front = (bytes, appends-known old bytes, front)
-
--- it is due of a page that was read whole
-pub whole-cut : (is_printed : List ℕ → List ℕ → Type 0) (begins : Option (List ℕ) → Option (List ℕ) → Option (List ℕ) → Option (List ℕ) → Type 0)
-    (title page text : List ℕ) (input left old new : Option (List ℕ)) → IsAllOf input page → is_printed page text
-    → AppendsPrefix old new (title ++ text)
-    → PrintsPart (λ bytes from to. (all : List ℕ) × is_printed bytes all × Appends from to (title ++ all)) begins input left old new
-whole-cut is_printed begins title page text input left old new read printed front = (
-  append_known old (title ++ text),
-  inl (page, read, (text, printed, appends-known old (title ++ text))),
-  cut-short old new (title ++ text) front,
-)
-
-module _ (mends : Bool) (is_printed : List ℕ → List ℕ → Type 0) (title page read text : List ℕ) where
-  -- so it is of one that was read as a text
-  pub text-cut : (input left old new : Option (List ℕ)) → IsAllOf input page → IsReadAs mends page read → is_printed read text
-      → AppendsPrefix old new (title ++ text) → PrintsPart (PrintsText mends is_printed title) (is_unwritten title) input left old new
-  text-cut input left old new all is printed front = (
-    append_known old (title ++ text),
-    inl (page, all, (read, text, is, printed, appends-known old (title ++ text))),
-    cut-short old new (title ++ text) front,
-  )
-
-  -- and that text is printed whole
-  pub text-printed : {T E : Type 0} (input old middle new : Option (List ℕ)) (r : Result T E) → IsAllOf input page → IsReadAs mends page read
-      → is_printed read text → Appends old middle title → IfOk r (λ _. Appends middle new text)
-      → IfOk r (λ _. PrintsAllOf (PrintsText mends is_printed title) input old new)
-  text-printed input old middle new (Ok t) all is printed first next =
-      (page, all, (read, text, is, printed, appends-more old middle new title text first next))
-  text-printed input old middle new (Err e) all is printed first next = tt
 
 -- it is due of one that was begun
 pub begun-cut : (prints : List ℕ → Option (List ℕ) → Option (List ℕ) → Type 0)

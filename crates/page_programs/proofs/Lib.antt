@@ -2,8 +2,8 @@ pub mod AnswerLemmas
 pub mod CameLemmas
 pub mod CutLemmas
 pub mod EndLemmas
-mod PageRuns
 mod RunLemmas
+mod WholeLemmas
 pub mod ReadingLemmas
 mod StopLemmas
-mod WordLemmas
+mod ArgumentLemmas

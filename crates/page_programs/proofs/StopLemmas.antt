@@ -11,6 +11,7 @@ not_left reason.Folder other = refl
 not_left reason.NotFolder other = refl
 not_left reason.Links other = refl
 not_left reason.LongName other = refl
+not_left reason.TooManyFiles other = refl
 not_left reason.Interrupted other = refl
 not_left reason.Waits other = refl
 not_left reason.Full other = refl

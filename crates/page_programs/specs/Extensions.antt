@@ -1,9 +1,10 @@
--- The extensions that the words of the command line ask for. An option and its value are one word.
+-- The extensions that the arguments of the command line ask for. An option and its value are one word.
 use Rattle.std.specs.Prelude.{ℕ, Bool, ◌||◌, List, [], ◌∷◌, codes}
 use Rattle.std.specs.Borrow.{Bor}
 use Rattle.markdown_values.specs.declared.values.extensions.Extensions.{Extensions}
-use Rattle.page_programs.specs.Words.{asks}
+use Rattle.page_programs.specs.Arguments.{asks}
 
+-- packages/extensions
 abbrev pub tables : List ℕ
 tables = codes "-e tables"
 
@@ -35,14 +36,16 @@ extension_options = footnotes ∷ definition_lists ∷ event_options
 
 -- an extension of GitHub Flavored Markdown is on where its option asks for it, or `--gfm`
 abbrev pub is_on : List ℕ → List (Bor (List ℕ)) → Bool
-is_on option words = asks gfm words || asks option words
+is_on option arguments = asks gfm arguments || asks option arguments
 
 abbrev pub extensions_of : List (Bor (List ℕ)) → Extensions
-extensions_of words = record {
-  tables = is_on tables words;
-  footnotes = asks footnotes words;
-  strikethrough = is_on strikethrough words;
-  tasks = is_on tasks words;
-  definition_lists = asks definition_lists words;
-  wikilinks = asks wikilinks words;
+extensions_of arguments = record {
+  tables = is_on tables arguments;
+  footnotes = asks footnotes arguments;
+  strikethrough = is_on strikethrough arguments;
+  tasks = is_on tasks arguments;
+  definition_lists = asks definition_lists arguments;
+  wikilinks = asks wikilinks arguments;
 }
+
+-- end

@@ -1,12 +1,14 @@
 pub mod Answers
+pub mod Arguments
 pub mod Came
 pub mod Cuts
 pub mod Extensions
+pub mod Files
 pub mod Names
+pub mod Reads
 pub mod Runs
 pub mod Stops
 pub mod Texts
 pub mod Tried
 pub mod Values
-pub mod Words
-pub mod Worlds
+pub mod Wholes

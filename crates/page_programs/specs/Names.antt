@@ -4,7 +4,7 @@ use Rattle.std.specs.Char.{is_control}
 use Rattle.std.specs.Fmt.{digits}
 use Rattle.std.specs.List.{flat_map}
 use Rattle.std.specs.Str.{bytes_eq, chars}
-use Rattle.page_programs.specs.Words.{dash}
+use Rattle.page_programs.specs.Arguments.{dash}
 
 -- A character of a name: a control character (Unicode, Cc) is an escape, as Rust writes it, and any other stands for itself.
 abbrev pub shown_char : ℕ → List ℕ

@@ -1,6 +1,5 @@
 -- What a page is read as that may not be UTF-8.
-use Rattle.std.specs.Prelude.{ℕ, Bool, true, false, ◌≡◌, ◌⊎◌, List, [], ◌++◌, Option}
-use Rattle.std.specs.Io.KnownBytes.{Appends}
+use Rattle.std.specs.Prelude.{ℕ, Bool, true, false, ◌≡◌, ◌⊎◌, List}
 use Rattle.std.specs.Str.{IsUtf8, IsValidUpTo}
 use Rattle.std.specs.Str.Lossy.{utf8_lossy}
 
@@ -12,16 +11,3 @@ IsReadAs mends page text = (IsUtf8 page × (text ≡ page)) ⊎ ((¬ IsUtf8 page
 -- A page is refused, if that is not mended: it is not UTF-8, and so many bytes stand before the first that is wrong.
 abbrev pub IsRefused : Bool → List ℕ → ℕ → Type 0
 IsRefused mends page offset = (¬ IsUtf8 page) × (mends ≡ false) × IsValidUpTo page offset
-
--- known bytes grow by the title, and by what is printed of the text that a page is read as
-abbrev pub PrintsText : Bool → (List ℕ → List ℕ → Type 0) → List ℕ → List ℕ → Option (List ℕ) → Option (List ℕ) → Type 0
-PrintsText mends is_printed title page old new =
-    (read : List ℕ) × (text : List ℕ) × IsReadAs mends page read × is_printed read text × Appends old new (title ++ text)
-
--- nothing of the page is printed, whatever was read of it
-abbrev pub is_unwritten : List ℕ → Option (List ℕ) → Option (List ℕ) → Option (List ℕ) → Option (List ℕ) → Type 0
-is_unwritten title input left old new = new ≡ old
-
--- nothing is printed before a page
-abbrev pub no_title : List ℕ → List ℕ
-no_title name = []

@@ -35,13 +35,13 @@ pub fn is_reported(text: &str) -> bool
     !text.is_empty()
 }
 
-/// What came of a page at which the program stops.
+/// What came of a page that is not done.
 pub fn came_at(stop: Stop) -> Came
     ensures { result ≡ came_at stop }
 {
     match stop {
         Stop::Write(_) => Came::HasNoOutput,
-        Stop::Read(_) | Stop::NotText(_) | Stop::Memory => Came::IsNotDone,
+        Stop::Read(_) | Stop::NotText(_) | Stop::Memory | Stop::NotReplaced(_) => Came::IsNotDone,
     }
 }
 

@@ -1,64 +1,45 @@
-//! What a program prints of a page.
-ghost use Rattle.std.specs.Prelude.{◌≡◌, ◌⊎◌, ℕ, List, Option, IfOk, IfErr, string_bytes};
-ghost use Rattle.std.specs.Io.KnownBytes.{IsAtEnd};
-ghost use Rattle.program_faults.specs.Steps.{AreReads, CantWrite, HasEnded, HasFailed};
-ghost use Rattle.program_faults.specs.declared.reasons.Reason.{Reason};
-ghost use Rattle.page_programs.specs.Cuts.{PrintsAllOf, PrintsPart, RefusesAllOf};
-ghost use Rattle.page_programs.specs.Stops.{IfWrite, IsWrite};
+//! What a command does with a page.
+ghost use Rattle.std.specs.Prelude.{◌≡◌, true, false, Bool, ℕ, List, Option, Result, IfOk, IfErr};
+ghost use Rattle.program_faults.specs.Steps.{CantWrite};
+ghost use Rattle.page_programs.specs.Reads.{IsRead};
+ghost use Rattle.page_programs.specs.Stops.{IfWrite};
 ghost use Rattle.page_programs.specs.declared.stops.Stop.{Stop};
+ghost use Rattle.page_programs.specs.declared.streams.Outputs.{Outputs};
 
 use crate::stops::Stop;
-use program_faults::{Reason, StepReader, StepWriter};
-use std::alloc::{AllocError, Global};
+use crate::streams::Outputs;
+use program_faults::{StepReader, StepWriter};
+use std::alloc::Global;
 
-/// What prints something of a page, while it is read. `Whole` is one of what reads a page whole.
-pub trait PrintsPages {
-    // The title of a page: what is printed before it, where there are so many pages and it has this
-    // name.
-    ghost titles: { Self → ℕ → List ℕ → List ℕ };
+/// What does something with a page. `Whole` is one of what reads a page whole, and prints a text.
+pub trait DoesPages<F, W: StepWriter, V> {
+    // What is done with the page of this name, of so many pages, of which this was left to read at
+    // first, and this in the end, between these outputs; or how far it is done where it stops.
+    ghost does: { Self → ℕ → List ℕ → Option (List ℕ) → Option (List ℕ)
+        → Outputs F W V → Outputs F W V → Result Bool Stop → Type 0 };
 
-    // After this title, known bytes grow by what is printed of a page of these bytes.
-    ghost prints: { Self → List ℕ → List ℕ → Option (List ℕ) → Option (List ℕ) → Type 0 };
+    // It checks pages, in which something may be found.
+    ghost checks: { Self → Bool };
 
-    // After this title, known bytes grow by what is printed of a page of which this was left to
-    // read at first, and this in the end; then it stopped, and no write had failed.
-    ghost begins: { Self → List ℕ → Option (List ℕ) → Option (List ℕ) →
-        Option (List ℕ) → Option (List ℕ) → Type 0 };
+    // Of a page that is done something may be said to the faults.
+    ghost notes: { Self → Bool };
 
-    // A page of these bytes is refused, as it is not UTF-8: so many stand before the first that is
-    // wrong.
-    ghost refuses: { Self → List ℕ → ℕ → Type 0 };
-
-    /// The title of the page of this name, of so many pages.
-    fn make_title(&self, alloc: Global, pages: usize, name: &str) -> Result<String, AllocError>
-        ensures { IfOk result (λ text. string_bytes text ≡ titles self.now pages name.now) };
-
-    /// Writes the title, and what is printed of the page that the input has.
-    fn print_page<R: StepReader, W: StepWriter>(
+    /// Does this with the page of this name, of so many pages, that the input has, and answers
+    /// whether a check finds something.
+    fn do_page<R: StepReader>(
         &self,
         alloc: Global,
-        title: &str,
+        pages: usize,
+        name: &str,
         input: &mut R,
-        output: &mut W,
-    ) -> Result<(), Stop>
-        ensures printed { IfOk result (λ _. PrintsAllOf (prints self.now title.now)
-            (R.remaining input.old) (W.contents output.old) (W.contents output.new)) }
-        ensures read { IfOk result (λ _. IsAtEnd (R.remaining input.new)) }
-        ensures ended { IfOk result (λ _. HasEnded R.reads input.new) }
-        ensures begun { IfErr result (λ stop. ¬ IsWrite stop →
-            begins self.now title.now (R.remaining input.old) (R.remaining input.new)
-            (W.contents output.old) (W.contents output.new)) }
-        ensures cut { IfErr result (λ stop. IsWrite stop →
-            PrintsPart (prints self.now title.now) (begins self.now title.now)
-            (R.remaining input.old) (R.remaining input.new)
-            (W.contents output.old) (W.contents output.new)) }
-        ensures reads { (count : ℕ) × AreReads R.reads count input.old input.new }
-        ensures failed { IfErr result (λ stop. (why : Reason) → stop ≡ Stop.Read why →
-            HasFailed R.reads why input.new
-            ⊎ AreReads R.reads 281474976710655 input.old input.new) }
-        ensures not_text { IfErr result (λ stop. (offset : ℕ) → stop ≡ Stop.NotText offset →
-            RefusesAllOf (refuses self.now) (R.remaining input.old) offset
-            × HasEnded R.reads input.new) }
+        outputs: &mut Outputs<F, W, V>,
+    ) -> Result<bool, Stop>
+        ensures done { does self.now pages name.now (R.remaining input.old) (R.remaining input.new)
+            outputs.old outputs.new result }
+        ensures read { IsRead R.remaining R.reads input.old input.new result }
         ensures refused { IfErr result (λ stop.
-            IfWrite stop (λ why. CantWrite W.writes why output.new)) };
+            IfWrite stop (λ why. CantWrite W.writes why outputs.new.output)) }
+        ensures found { IfOk result (λ found. found ≡ true → checks self.now ≡ true) }
+        ensures silent { IfOk result (λ _. notes self.now ≡ false →
+            outputs.new.faults ≡ outputs.old.faults) };
 }

@@ -3,6 +3,7 @@ ghost use Rattle.std.specs.Prelude.{◌≡◌, ◌≢◌, ◌⊎◌, ◌<◌, �
 ghost use Rattle.std.specs.Io.KnownBytes.{Consumes, IsAtEnd};
 ghost use Rattle.program_faults.specs.Steps.{AreReads, HasEnded, HasFailed};
 ghost use Rattle.program_faults.specs.declared.reasons.Reason.{Reason};
+ghost use Rattle.page_programs.specs.declared.stops.Refusal.{Refusal};
 
 use crate::stops::Stop;
 use program_faults::{Reason, StepReader};
@@ -49,6 +50,8 @@ impl Unread {
             ≤ length self.old.text.items + READ_SIZE * self.old.reads) }
         ensures unwritten { IfErr result (λ stop. (why : Reason) → stop ≢ Stop.Write why) }
         ensures taken { IfErr result (λ stop. (offset : ℕ) → stop ≢ Stop.NotText offset) }
+        ensures unreplaced { IfErr result (λ stop. (refusal : Refusal) →
+            stop ≢ Stop.NotReplaced refusal) }
         ensures reads { (count : ℕ) × (self.new.reads + count ≡ self.old.reads)
             × AreReads R.reads count input.old input.new }
         ensures ended { IfOk result (λ has_ended. IsTrue has_ended →
@@ -94,6 +97,8 @@ pub fn read_page<R: StepReader>(alloc: Global, input: &mut R) -> Result<Vec<u8>,
     ensures ended { IfOk result (λ _. HasEnded R.reads input.new) }
     ensures unwritten { IfErr result (λ stop. (why : Reason) → stop ≢ Stop.Write why) }
     ensures taken { IfErr result (λ stop. (offset : ℕ) → stop ≢ Stop.NotText offset) }
+    ensures unreplaced { IfErr result (λ stop. (refusal : Refusal) →
+        stop ≢ Stop.NotReplaced refusal) }
     ensures reads { (count : ℕ) × AreReads R.reads count input.old input.new }
     ensures failed { IfErr result (λ stop. (why : Reason) → stop ≡ Stop.Read why →
         HasFailed R.reads why input.new ⊎ AreReads R.reads 281474976710655 input.old input.new) }

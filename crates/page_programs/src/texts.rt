@@ -3,6 +3,7 @@ ghost use Rattle.std.specs.Prelude.{◌≡◌, ◌≢◌, ◌⊎◌, false, ℕ,
 ghost use Rattle.std.specs.Io.KnownBytes.{IsAtEnd};
 ghost use Rattle.program_faults.specs.Steps.{AreReads, HasEnded, HasFailed};
 ghost use Rattle.program_faults.specs.declared.reasons.Reason.{Reason};
+ghost use Rattle.page_programs.specs.declared.stops.Refusal.{Refusal};
 ghost use Rattle.page_programs.specs.Cuts.{RefusesAllOf};
 ghost use Rattle.page_programs.specs.Texts.{IsReadAs, IsRefused};
 
@@ -19,6 +20,8 @@ pub fn text_of(alloc: Global, page: Vec<u8>, mends: bool) -> Result<String, Stop
         IsRefused mends page.items offset) }
     ensures unread { IfErr result (λ stop. (why : Reason) → stop ≢ Stop.Read why) }
     ensures unwritten { IfErr result (λ stop. (why : Reason) → stop ≢ Stop.Write why) }
+    ensures unreplaced { IfErr result (λ stop. (refusal : Refusal) →
+        stop ≢ Stop.NotReplaced refusal) }
 {
     match std::str::from_utf8(&page) {
         Ok(text) => Ok(String::from_str(alloc, text)?),
@@ -37,6 +40,8 @@ pub fn read_text<R: StepReader>(alloc: Global, input: &mut R) -> Result<String, 
         RefusesAllOf (IsRefused false) (R.remaining input.old) offset
         × HasEnded R.reads input.new) }
     ensures unwritten { IfErr result (λ stop. (why : Reason) → stop ≢ Stop.Write why) }
+    ensures unreplaced { IfErr result (λ stop. (refusal : Refusal) →
+        stop ≢ Stop.NotReplaced refusal) }
     ensures reads { (count : ℕ) × AreReads R.reads count input.old input.new }
     ensures failed { IfErr result (λ stop. (why : Reason) → stop ≡ Stop.Read why →
         HasFailed R.reads why input.new ⊎ AreReads R.reads 281474976710655 input.old input.new) }

@@ -1,45 +1,49 @@
-//! The words of the command line, some of which take the word after them.
+//! The arguments of the command line, some of which take the word after them.
 ghost use Rattle.std.specs.Prelude.{◌≡◌, ◌<◌, ◌≤◌, ◌++◌, [], ◌∷◌, IfOk, OnOk, codes, drop, length, map, string_bytes};
 ghost use Rattle.page_programs.specs.Values.{joined, respelled, spelled, takes_value, with_value};
 
-use crate::words::after;
+use crate::arguments::after;
 use std::alloc::{AllocError, Global};
 
-/// The words, where up to `--` each option that takes a value, `-e`, `--to` or `--root`, is one word
+/// The arguments, where up to `--` each option that takes a value, `-e`, `--to` or `--root`, is one word
 /// with it and a space between: of `-e` and `tables`, and of `-etables`, becomes `-e tables`. This is
 /// what `run_program` takes.
 ///
 /// # Errors
 ///
 /// `AllocError` where memory is refused.
-pub fn join_values(alloc: Global, words: &[String]) -> Result<Vec<String>, AllocError>
+pub fn join_values(alloc: Global, arguments: &[String]) -> Result<Vec<String>, AllocError>
     ensures { IfOk result (λ made.
-        map string_bytes made.items ≡ joined (map string_bytes words.now)) }
+        map string_bytes made.items ≡ joined (map string_bytes arguments.now)) }
 {
     let mut made = Vec::new(alloc);
     let mut at = 0;
-    while at < words.len() {
-        at += push_next(alloc, &mut made, &words[at..])?;
+    while at < arguments.len() {
+        at += push_next(alloc, &mut made, &arguments[at..])?;
     }
     Ok(made)
 }
 
-// Adds the next of these words, with its value if it takes one; from `--` on, all of them. Answers
+// Adds the next of these arguments, with its value if it takes one; from `--` on, all of them. Answers
 // how many they were.
-fn push_next(alloc: Global, made: &mut Vec<String>, words: &[String]) -> Result<usize, AllocError>
-    requires { 0 < length words.now }
-    ensures taken { IfOk result (λ taken. (0 < taken) × (taken ≤ length words.now)) }
+fn push_next(
+    alloc: Global,
+    made: &mut Vec<String>,
+    arguments: &[String],
+) -> Result<usize, AllocError>
+    requires { 0 < length arguments.now }
+    ensures taken { IfOk result (λ taken. (0 < taken) × (taken ≤ length arguments.now)) }
     ensures made { IfOk result (λ taken.
-        map string_bytes made.new.items ++ joined (map string_bytes (drop taken words.now))
-        ≡ map string_bytes made.old.items ++ joined (map string_bytes words.now)) }
+        map string_bytes made.new.items ++ joined (map string_bytes (drop taken arguments.now))
+        ≡ map string_bytes made.old.items ++ joined (map string_bytes arguments.now)) }
 {
-    let word = words[0].as_str();
+    let word = arguments[0].as_str();
     if word == "--" {
-        push_all(made, words)?;
-        return Ok(words.len());
+        push_all(made, arguments)?;
+        return Ok(arguments.len());
     }
-    if words.len() > 1 && takes_value(word) {
-        made.push(with_value(alloc, word, words[1].as_str())?)?;
+    if arguments.len() > 1 && takes_value(word) {
+        made.push(with_value(alloc, word, arguments[1].as_str())?)?;
         return Ok(2);
     }
     push_word(alloc, made, word)?;
@@ -55,12 +59,12 @@ fn push_word(alloc: Global, made: &mut Vec<String>, word: &str) -> Result<(), Al
     Ok(())
 }
 
-// Adds all of these words.
-fn push_all(made: &mut Vec<String>, words: &[String]) -> Result<(), AllocError>
+// Adds all of these arguments.
+fn push_all(made: &mut Vec<String>, arguments: &[String]) -> Result<(), AllocError>
     ensures { OnOk result (map string_bytes made.new.items
-        ≡ map string_bytes made.old.items ++ map string_bytes words.now) }
+        ≡ map string_bytes made.old.items ++ map string_bytes arguments.now) }
 {
-    for word in words {
+    for word in arguments {
         made.push(word.clone()?)?;
     }
     Ok(())
@@ -95,12 +99,14 @@ fn spelled(word: &str) -> &str
         "--to=html" => "--to html",
         "--to=events" => "--to events",
         "--to=json" => "--to json",
+        // packages/extensions
         "-etables" => "-e tables",
         "-efootnotes" => "-e footnotes",
         "-estrikethrough" => "-e strikethrough",
         "-etasks" => "-e tasks",
         "-edefinition-lists" => "-e definition-lists",
         "-ewikilinks" => "-e wikilinks",
+        // end
         _ => word,
     }
 }

@@ -9,7 +9,7 @@ use Rattle.std.specs.Prelude.{Result, Ok, Err}
 use Rattle.program_faults.specs.declared.reasons.Reason.{Reason}
 use Rattle.program_faults.specs.Steps.{AreReads, AreWrites, no_read, read, write, IsGiven, nothing_left, refused, failed, taken}
 
--- what a slice takes from a place on is all that is after it
+-- what a slice takes from an offset on is all that is after it
 whole_rest : (bytes : List ℕ) (i : ℕ) → take (length bytes - i) (drop i bytes) ≡ drop i bytes
 whole_rest bytes i = take_all (length bytes - i) (drop i bytes) (omega (arith, length-drop i bytes))
 

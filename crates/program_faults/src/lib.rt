@@ -9,7 +9,7 @@ mod reasons;
 mod steps;
 mod writing;
 
-pub use reasons::{Reason, reason_of};
+pub use reasons::{Reason, reason_of, reason_of_error};
 use std::alloc::AllocError;
 pub use steps::{StepReader, StepWriter};
 pub use writing::{write_bytes, write_whole};

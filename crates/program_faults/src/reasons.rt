@@ -1,8 +1,8 @@
 //! Why a call on a file, a reader or a writer fails, and how a program says so.
 ghost use Rattle.std.specs.Prelude.{◌≡◌};
-ghost use Rattle.program_faults.specs.Reasons.{reason_of, reason_line};
+ghost use Rattle.program_faults.specs.Reasons.{error_reason, reason_of, reason_line};
 
-use std::io::ErrorKind;
+use std::io::{Error, ErrorKind};
 
 /// Why it fails, as far as a program tells one reason from another.
 #[derive(Clone, Copy, Debug, PartialEq, Eq)]
@@ -19,6 +19,8 @@ pub enum Reason {
     Links,
     /// Its name is too long.
     LongName,
+    /// The program has as many files open as it may.
+    TooManyFiles,
     /// A signal came between.
     Interrupted,
     /// It would have to wait.
@@ -61,6 +63,7 @@ impl Reason {
             Reason::NotFolder => ": Not a directory\n",
             Reason::Links => ": Too many levels of symbolic links\n",
             Reason::LongName => ": File name too long\n",
+            Reason::TooManyFiles => ": Too many open files\n",
             Reason::Interrupted => ": Interrupted system call\n",
             Reason::Waits => ": Resource temporarily unavailable\n",
             Reason::Full => ": No space left on device\n",
@@ -76,6 +79,19 @@ impl Reason {
             Reason::Memory => ": Cannot allocate memory\n",
             Reason::Other => ": Input/output error\n",
         }
+    }
+}
+
+// The number of `EMFILE` on Linux, which has no `ErrorKind`.
+const TOO_MANY_FILES: i32 = 24;
+
+/// The reason of an error.
+pub fn reason_of_error(error: &Error) -> Reason
+    ensures { result ≡ error_reason error.now }
+{
+    match error.raw_os_error() {
+        Some(TOO_MANY_FILES) => Reason::TooManyFiles,
+        _ => reason_of(error.kind()),
     }
 }
 

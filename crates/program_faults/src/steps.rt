@@ -4,7 +4,7 @@ ghost use Rattle.std.specs.Io.KnownBytes.{Appends, Consumes, IsAtEnd, Keeps};
 ghost use Rattle.program_faults.specs.Steps.{bytes_read};
 ghost use Rattle.program_faults.specs.declared.reasons.Reason.{Reason};
 
-use crate::reasons::{Reason, reason_of};
+use crate::reasons::{Reason, reason_of_error};
 use std::io::{Read, Write};
 
 /// A reader, by what a read does to it. Every `Read` is one: a contract over all of them can say how
@@ -31,7 +31,7 @@ impl<R: Read> StepReader for R {
     fn read_once(&mut self, buffer: &mut [u8]) -> Result<usize, Reason> {
         match self.read(buffer) {
             Ok(count) => Ok(count),
-            Err(error) => Err(reason_of(error.kind())),
+            Err(error) => Err(reason_of_error(&error)),
         }
     }
 }
@@ -59,7 +59,7 @@ impl<W: Write> StepWriter for W {
     fn write_once(&mut self, bytes: &[u8]) -> Result<usize, Reason> {
         match self.write(bytes) {
             Ok(count) => Ok(count),
-            Err(error) => Err(reason_of(error.kind())),
+            Err(error) => Err(reason_of_error(&error)),
         }
     }
 }

@@ -17,3 +17,8 @@ returns-in-NotText g c =
     (part _ _ _ _ _ c.complain-in-NotText.ensures.given (part _ _ _ _ _ c.complain-in-NotText-2.ensures.given
     (part _ _ _ _ _ c.complain-in-NotText-3.ensures.given (part _ _ _ _ _ c.complain-in-NotText-4.ensures.given
     (part _ _ _ _ _ c.complain-in-NotText-5.ensures.given (part _ _ _ _ _ c.complain-in-NotText-6.ensures.given (no_part _)))))))
+
+pub returns-in-NotReplaced : goal.returns-in-NotReplaced
+returns-in-NotReplaced g c =
+    rw c.in-NotReplaced.is
+    (part _ _ _ _ _ c.complain-in-NotReplaced.ensures.given (part _ _ _ _ _ c.complain-in-NotReplaced-2.ensures.given c.report_refusal.ensures))

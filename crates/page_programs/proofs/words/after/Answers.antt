@@ -1,5 +1,0 @@
-use Rattle.page_programs.proofs.WordLemmas.{stripped}
-use Rattle.page_programs.proofs.words.after.Goals as goal
-
-pub returns : goal.returns
-returns c = stripped c.args.front.now c.args.word.now c.strip_prefix.result c.strip_prefix.ensures.cases

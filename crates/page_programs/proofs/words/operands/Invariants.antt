@@ -1,7 +1,0 @@
-use Rattle.std.proofs.Common.{◌≡◌, ◌++◌, drop}
-use Rattle.page_programs.specs.Words.{operands}
-use Rattle.page_programs.proofs.words.operands.Given as goal
-
--- with the operands that are left, those of all are named
-abbrev pub invariant-loop-i : goal.invariant-loop-i
-invariant-loop-i l = l.names.items ++ operands (drop l.i l.words) ≡ operands l.words

@@ -1,6 +1,0 @@
-use Rattle.std.proofs.Common.{◌≡◌, ◌++◌, drop}
-use Rattle.page_programs.proofs.words.push_words.Given as goal
-
--- with the words that are left, all are added
-abbrev pub invariant-loop-word : goal.invariant-loop-word
-invariant-loop-word l = l.names.items ++ drop l.word-index l.words ≡ l.fn.names.items ++ l.words
