@@ -1,0 +1,4 @@
+pub mod BeginningLemmas
+pub mod PageLemmas
+pub mod ProgramLemmas
+mod StopLemmas

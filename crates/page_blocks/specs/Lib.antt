@@ -1,6 +1,9 @@
-pub mod definition
-pub mod info
-pub mod json
-pub mod page
-pub mod printer
-pub mod words
+pub mod Arguments
+pub mod Definition
+pub mod Info
+pub mod Json
+pub mod Beginning
+pub mod Going
+pub mod Printed
+pub mod Pages
+pub mod Printers

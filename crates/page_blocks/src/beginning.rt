@@ -1,11 +1,11 @@
 //! Where the text of a page begins, while the page is read.
 ghost use Rattle.std.specs.Prelude.{◌≡◌, ◌≤◌, ◌+◌, ◌++◌, [], List, ℕ, length, drop, IsTrue, IfOk, OnOk, string_bytes};
-ghost use Rattle.page_blocks.specs.page.Beginning.{HasPrintedPage, PrintsMore};
-ghost use Rattle.page_blocks.specs.page.Printed.{PrintsPage, front_of};
-ghost use Rattle.page_blocks.specs.printer.Printers.{printed_of};
+ghost use Rattle.page_blocks.specs.Beginning.{HasPrintedPage, PrintsMore};
+ghost use Rattle.page_blocks.specs.Printed.{PrintsPage, front_of};
+ghost use Rattle.page_blocks.specs.Printers.{printed_of};
 
+use crate::arguments::Form;
 use crate::page::Printing;
-use crate::words::Form;
 use markdown_blocks::byte_order_mark::{BYTE_ORDER_MARK, text_start};
 use markdown_values::values::Extensions;
 use std::alloc::{AllocError, Global};

@@ -4,7 +4,7 @@ ghost use Rattle.std.specs.Option.{option_map};
 ghost use Rattle.markdown_blocks.specs.events.Events.{seen_event};
 ghost use Rattle.markdown_blocks.specs.events.Shown.{IsWritten, IsWrittenIn};
 ghost use Rattle.markdown_blocks.specs.link_definitions.LinkDefinitions.{slice};
-ghost use Rattle.page_blocks.specs.definition.Definition.{seen_definition};
+ghost use Rattle.page_blocks.specs.Definition.{seen_definition};
 
 use markdown_blocks::definitions::scan_definition;
 use markdown_blocks::events::BlockEvent;

@@ -7,7 +7,7 @@ usage: fillaqut blocks [--json] [-e NAME].. [--gfm] [--] [FILE ..]
 ";
 
 /// What `--version` prints.
-pub const VERSION: &str = "fillaqut 0.1.0\n";
+pub const VERSION: &str = "fillaqut 0.2.0\n";
 
 /// What `--help` prints.
 pub const HELP: &str = "\
@@ -81,9 +81,9 @@ An option and its value may be one word, as -etables.
 
 Together the blocks contain every line of the page.
 
-A table may begin with a later line of a paragraph, which then ends before it: with a header row
-that stands in the containers of the paragraph, after at most three columns of space, and that would
-begin a paragraph without the lines before it.
+A table may begin with a later line of a paragraph, which then ends before it: its header row is
+whatever line goes on with the paragraph, also one that is indented, lazy, or like 2. a|b. The
+delimiter row and the rows after it stand in the containers by themselves.
 
 Lines are printed while a page is read, and its bytes need not be UTF-8. Where a page can't be read
 or memory is refused, the program says why on standard error and goes on with the next page; the

@@ -3,8 +3,8 @@ ghost use Rattle.std.specs.Prelude.{◌≡◌, ◌<◌, ◌++◌, IfOk, OnOk, co
 ghost use Rattle.std.specs.Fmt.{digit_glyph};
 ghost use Rattle.std.specs.List.{flat_map};
 ghost use Rattle.std.specs.Str.{is_utf8};
-ghost use Rattle.page_blocks.specs.info.Info.{is_plain, byte_text, bytes_text, escaped_byte};
-ghost use Rattle.page_blocks.specs.info.Info.{bytes_json, digits_json, hex_byte, json_text, text_json};
+ghost use Rattle.page_blocks.specs.Info.{is_plain, byte_text, bytes_text, escaped_byte};
+ghost use Rattle.page_blocks.specs.Info.{bytes_json, digits_json, hex_byte, json_text, text_json};
 
 use std::alloc::{AllocError, Global};
 use std::str::from_utf8;
@@ -40,7 +40,7 @@ fn is_plain(byte: u8) -> bool
 
 /// Adds a text as a member of this name, and where it is not UTF-8 its bytes in hexadecimal digits
 /// as another.
-#[tactic(auto, unfolding(crate::specs::info::Info::text_json))]
+#[tactic(auto, unfolding(crate::specs::Info::text_json))]
 pub(crate) fn push_text_json(
     alloc: Global,
     text: &mut String,

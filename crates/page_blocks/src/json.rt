@@ -1,9 +1,9 @@
 //! Blocks and containers as JSON Lines.
 ghost use Rattle.std.specs.Prelude.{◌≡◌, ◌++◌, [], None, OnOk, decimal, string_bytes};
 ghost use Rattle.std.specs.Option.{option_map};
-ghost use Rattle.page_blocks.specs.json.Json.{kind_json, container_json, front_json, marker_json, size_json};
-ghost use Rattle.page_blocks.specs.definition.Definition.{seen_definition};
-ghost use Rattle.page_blocks.specs.json.Json.{definition_json, end_json, list_json, page_json, title_json, truth, written_json};
+ghost use Rattle.page_blocks.specs.Json.{kind_json, container_json, front_json, marker_json, size_json};
+ghost use Rattle.page_blocks.specs.Definition.{seen_definition};
+ghost use Rattle.page_blocks.specs.Json.{definition_json, end_json, list_json, page_json, title_json, truth, written_json};
 ghost use Rattle.markdown_blocks.specs.declared.blocks.BlockKind.TheVariants.{Definition as ADefinition, Fenced};
 
 use crate::definition::Definition;
@@ -13,7 +13,7 @@ use markdown_blocks::blocks::BlockKind;
 use markdown_blocks::containers::Container;
 use markdown_blocks::info::info_of;
 use markdown_blocks::lists::ListBlock;
-use markdown_blocks::taken::Taken;
+use markdown_blocks::taken::Extent;
 use std::alloc::{AllocError, Global};
 
 /// Adds the front of an object: its lines, how many containers stand around, how many bytes of the
@@ -34,7 +34,7 @@ pub(crate) fn push_front_json(text: &mut String, front: Front) -> Result<(), All
 }
 
 /// Adds the object of the end of a container in so many others, after so much of the page.
-pub(crate) fn push_end_json(text: &mut String, at: Taken, depth: usize) -> Result<(), AllocError>
+pub(crate) fn push_end_json(text: &mut String, at: Extent, depth: usize) -> Result<(), AllocError>
     ensures { OnOk result (string_bytes text.new ≡ string_bytes text.old
         ++ end_json at.lines depth at.bytes) }
 {

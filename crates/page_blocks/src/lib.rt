@@ -1,6 +1,7 @@
 //! What `fillaqut blocks` prints of the blocks of a page of Markdown.
 #![tactic(auto)]
 
+mod arguments;
 mod beginning;
 mod definition;
 pub mod help;
@@ -10,4 +11,3 @@ mod page;
 mod printer;
 mod printing;
 pub mod program;
-mod words;

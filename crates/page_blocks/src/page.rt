@@ -5,15 +5,15 @@ ghost use Rattle.markdown_scanners_tree.specs.scanners.TextLines.{lines_of};
 ghost use Rattle.markdown_blocks.specs.blocks.Pages.{root};
 ghost use Rattle.markdown_blocks.specs.byte_order_mark.ByteOrderMark.{text_of, text_start};
 ghost use Rattle.markdown_blocks.specs.taken.Whole.{AreWhole};
-ghost use Rattle.page_blocks.specs.page.Going.{HasPrinted, Prints};
-ghost use Rattle.page_blocks.specs.page.Beginning.{IsFresh};
-ghost use Rattle.page_blocks.specs.page.Printed.{PrintsPage, front_of};
-ghost use Rattle.page_blocks.specs.printer.Printers.{printed_of};
+ghost use Rattle.page_blocks.specs.Going.{HasPrinted, Prints};
+ghost use Rattle.page_blocks.specs.Beginning.{IsFresh};
+ghost use Rattle.page_blocks.specs.Printed.{PrintsPage, front_of};
+ghost use Rattle.page_blocks.specs.Printers.{printed_of};
 
+use crate::arguments::Form;
 use crate::printer::Printer;
-use crate::words::Form;
 use markdown_blocks::events::BlockEvents;
-use markdown_blocks::taken::Taken;
+use markdown_blocks::taken::Extent;
 use markdown_blocks::walk::Walk;
 use markdown_blocks::whole::whole_lines;
 use markdown_values::values::Extensions;
@@ -52,7 +52,7 @@ impl Printing {
         ensures form { self.new.printer.form ≡ self.old.printer.form }
         ensures asked { self.new.walk ≡ self.old.walk }
     {
-        self.printer.at = Taken {
+        self.printer.at = Extent {
             lines: 0,
             bytes: start,
         };

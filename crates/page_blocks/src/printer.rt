@@ -1,17 +1,17 @@
 //! The lines of a page's events and lists, from the first to the last.
 ghost use Rattle.std.specs.Prelude.{◌≡◌, ◌++◌, [], OnOk, string_bytes};
 ghost use Rattle.markdown_blocks.specs.events.Events.{seen_event};
-ghost use Rattle.page_blocks.specs.definition.Definition.{shown_of};
-ghost use Rattle.page_blocks.specs.page.Printed.{after, ended_line, event_lines, front_of, last_lines};
-ghost use Rattle.page_blocks.specs.printer.Printers.{HasPrinted, printed_of};
+ghost use Rattle.page_blocks.specs.Definition.{shown_of};
+ghost use Rattle.page_blocks.specs.Printed.{after, ended_line, event_lines, front_of, last_lines};
+ghost use Rattle.page_blocks.specs.Printers.{HasPrinted, printed_of};
 
+use crate::arguments::Form;
 use crate::definition::{Definition, definition_of};
 use crate::printing::{push_container, push_end, push_leaf, push_list};
-use crate::words::Form;
 use markdown_blocks::containers::Container;
 use markdown_blocks::events::{BlockEvent, BlockEvents};
 use markdown_blocks::lists::{ListBlock, Lists};
-use markdown_blocks::taken::Taken;
+use markdown_blocks::taken::Extent;
 use std::alloc::{AllocError, Global};
 
 /// The lines that are made of a page and not yet written; how much of it stands before what comes
@@ -19,7 +19,7 @@ use std::alloc::{AllocError, Global};
 #[derive(Drop)]
 pub(crate) struct Printer {
     form: Form,
-    pub(crate) at: Taken,
+    pub(crate) at: Extent,
     lists: Lists,
     pub(crate) text: String,
 }
@@ -33,7 +33,7 @@ impl Printer {
     {
         Printer {
             form,
-            at: Taken { lines: 0, bytes: 0 },
+            at: Extent { lines: 0, bytes: 0 },
             lists: Lists::new(alloc),
             text: String::new(alloc),
         }
@@ -63,7 +63,7 @@ impl Printer {
             }
             BlockEvent::Block(leaf) => {
                 push_leaf(alloc, &mut self.text, self.form, depth, leaf, written)?;
-                self.at = Taken {
+                self.at = Extent {
                     lines: leaf.line + leaf.lines,
                     bytes: leaf.start + leaf.bytes,
                 };

@@ -2,24 +2,24 @@
 ghost use Rattle.std.specs.Prelude.{◌≡◌, ◌++◌, IfOk, OnOk, string_bytes};
 ghost use Rattle.std.specs.Option.{option_map};
 ghost use Rattle.markdown_blocks.specs.events.Events.{seen_leaf};
-ghost use Rattle.page_blocks.specs.definition.Definition.{seen_definition};
-ghost use Rattle.page_blocks.specs.page.Printed.{kind_printed, container_printed, front_printed, size_printed, line_end};
-ghost use Rattle.page_blocks.specs.page.Printed.{column_of, place_of, container_line, end_line, leaf_line, list_line};
-ghost use Rattle.page_blocks.specs.page.Printed.{kind_text, container_text, fence_text, info_text, list_text, tightness, title_of};
+ghost use Rattle.page_blocks.specs.Definition.{seen_definition};
+ghost use Rattle.page_blocks.specs.Printed.{kind_printed, container_printed, front_printed, size_printed, line_end};
+ghost use Rattle.page_blocks.specs.Printed.{column_of, position_of, container_line, end_line, leaf_line, list_line};
+ghost use Rattle.page_blocks.specs.Printed.{kind_text, container_text, fence_text, info_text, list_text, tightness, title_of};
 
+use crate::arguments::Form;
 use crate::definition::Definition;
 use crate::info::push_bytes;
 use crate::json::{
     push_container_json, push_end_json, push_front_json, push_kind_json, push_list_json,
     push_page_json, push_size_json,
 };
-use crate::words::Form;
 use markdown_blocks::blocks::BlockKind;
 use markdown_blocks::containers::Container;
 use markdown_blocks::events::Leaf;
 use markdown_blocks::info::info_of;
 use markdown_blocks::lists::ListBlock;
-use markdown_blocks::taken::Taken;
+use markdown_blocks::taken::Extent;
 use std::alloc::{AllocError, Global};
 
 /// What stands at the front of a line: the first line and the last one of what it is about, how many
@@ -52,7 +52,7 @@ pub(crate) fn push_leaf(
         last: leaf.line as u128 + leaf.lines as u128,
         depth,
         offset: leaf.start,
-        column: column_of(leaf.start, leaf.place),
+        column: column_of(leaf.start, leaf.offset),
     };
     push_front(text, form, front)?;
     push_kind(alloc, text, form, leaf.kind, leaf.text, written)?;
@@ -65,13 +65,13 @@ pub(crate) fn push_leaf(
 pub(crate) fn push_container(
     text: &mut String,
     form: Form,
-    at: Taken,
+    at: Extent,
     depth: usize,
     container: Container,
     marker: usize,
 ) -> Result<(), AllocError>
     ensures { OnOk result (string_bytes text.new ≡ string_bytes text.old
-        ++ container_line form (place_of at) depth container marker) }
+        ++ container_line form (position_of at) depth container marker) }
 {
     let front = Front {
         first: at.lines as u128 + 1,
@@ -90,11 +90,11 @@ pub(crate) fn push_container(
 pub(crate) fn push_end(
     text: &mut String,
     form: Form,
-    at: Taken,
+    at: Extent,
     depth: usize,
 ) -> Result<(), AllocError>
     ensures { OnOk result (string_bytes text.new
-        ≡ string_bytes text.old ++ end_line form (place_of at) depth) }
+        ≡ string_bytes text.old ++ end_line form (position_of at) depth) }
 {
     match form {
         Form::Words => Ok(()),
@@ -154,11 +154,11 @@ fn tightness(is_loose: bool) -> &'static str
     if is_loose { "loose" } else { "tight" }
 }
 
-// With which byte of a line the place begins, counted from 1, where the line begins there.
-fn column_of(start: usize, place: usize) -> u128
-    ensures { result ≡ column_of start place }
+// With which byte of a line the offset begins, counted from 1, where the line begins there.
+fn column_of(start: usize, position: usize) -> u128
+    ensures { result ≡ column_of start position }
 {
-    place.saturating_sub(start) as u128 + 1
+    position.saturating_sub(start) as u128 + 1
 }
 
 // Adds what stands at the front of a line.

@@ -1,105 +1,72 @@
-//! What the program does with its words, its input and its output.
-ghost use Rattle.std.specs.Prelude.{◌≡◌, ◌≢◌, ◌⊎◌, ℕ, IfOk, IfErr, codes, length};
+//! What the program does with its arguments, its input and its output.
+ghost use Rattle.std.specs.Prelude.{◌≡◌, ◌≢◌, ◌⊎◌, false, ℕ, IfOk, IfErr};
 ghost use Rattle.std.specs.Io.KnownBytes.{IsAtEnd};
 ghost use Rattle.program_faults.specs.Steps.{AreReads, CantWrite, HasEnded, HasFailed};
 ghost use Rattle.program_faults.specs.declared.reasons.Reason.{Reason};
+ghost use Rattle.page_programs.specs.Answers.{texts_of};
 ghost use Rattle.page_programs.specs.Cuts.{PrintsAllOf, PrintsPart};
-ghost use Rattle.page_programs.specs.Answers.{Answers, fillaqut_texts};
-ghost use Rattle.page_programs.specs.Came.{status_of};
-ghost use Rattle.page_programs.specs.Runs.{PrintsAll};
-ghost use Rattle.page_programs.specs.Stops.{IfWrite, IsWrite};
-ghost use Rattle.page_programs.specs.Words.{pages_of, request_of};
-ghost use Rattle.page_programs.specs.Worlds.{world};
-ghost use Rattle.page_programs.specs.declared.came.Came.{Came};
-ghost use Rattle.page_programs.specs.declared.stops.Stop.{Stop};
-ghost use Rattle.page_programs.specs.declared.words.Request.TheVariants.{Pages};
-ghost use Rattle.page_blocks.specs.page.Printed.{IsPrintedTo, IsBegunTo, no_page_is_refused, title_of};
 ghost use Rattle.page_programs.specs.Extensions.{extensions_of};
-ghost use Rattle.page_blocks.specs.words.Words.{form_of, own_options};
+ghost use Rattle.page_programs.specs.Runs.{IsRun};
+ghost use Rattle.page_programs.specs.Stops.{IfWrite, IsWrite};
+ghost use Rattle.page_programs.specs.declared.stops.Refusal.{Refusal};
+ghost use Rattle.page_programs.specs.declared.stops.Stop.{Stop};
+ghost use Rattle.page_blocks.specs.Arguments.{form_of, own_options};
+ghost use Rattle.page_blocks.specs.Pages.{PrintsBlocks};
+ghost use Rattle.page_blocks.specs.Printed.{IsPrintedTo, IsBegunTo};
 
+use crate::arguments::{Form, form_of};
 use crate::beginning::PagePrinting;
 use crate::help::{HELP, USAGE, VERSION};
 use crate::printing::make_title;
-use crate::words::{Form, form_of};
 use markdown_values::values::Extensions;
-use page_programs::extensions::extensions_of;
+use page_programs::arguments::Options;
+use page_programs::extensions::{EXTENSION_OPTIONS, extensions_of};
 use page_programs::files::OpensFiles;
-use page_programs::pages::PrintsPages;
-use page_programs::program;
+use page_programs::pages::DoesPages;
+use page_programs::program::{Command, run_command};
 use page_programs::reading::Unread;
-use page_programs::says::Says;
 use page_programs::stops::Stop;
+use page_programs::streams::{Outputs, Streams};
 use page_programs::writing::write_text;
 use program_faults::{Reason, StepReader, StepWriter};
-use std::alloc::{AllocError, Global};
+use std::alloc::Global;
 
-/// Runs the program on its words, without its name, and answers its status.
+/// Runs the program on its arguments, without its name, and answers its status.
 ///
 /// 0: done. 2: an option that is not known, and nothing is read. 3: a page that can't be opened or
 /// read, or memory that is refused, after which it goes on with the next page; or output that can't
 /// be written, where it stops. Blocks are written while a page is read, so those at its front may be
 /// written of one that can't be read to its end.
-pub fn run_program<R: StepReader, F: OpensFiles, W: StepWriter, V: StepWriter>(
+pub fn run_program<R, F, W, V>(
     alloc: Global,
-    words: &[&str],
-    input: &mut R,
-    files: &mut F,
-    output: &mut W,
-    faults: &mut V,
+    arguments: &[&str],
+    streams: &mut Streams<R, F, W, V>,
 ) -> u8
-    ensures status { (result ≡ 0) ⊎ ((result ≡ 2) ⊎ (result ≡ 3)) }
-
-    // An option that is not known, the help and the version.
-    ensures answered { Answers W.contents W.writes V.writes
-        (fillaqut_texts USAGE.now HELP.now VERSION.now) own_options words.now result
-        (world input.old files.old output.old faults.old)
-        (world input.new files.new output.new faults.new) }
-
-    // Pages: each is printed, or the faults are given why it is not.
-    ensures printed { result ≢ 2 → request_of words.now ≡ Pages →
-        (came : Came) × (result ≡ status_of came)
-        × PrintsAll (title_of (form_of words.now) (length (pages_of words.now)))
-        (IsPrintedTo (extensions_of words.now) (form_of words.now))
-        (IsBegunTo (extensions_of words.now) (form_of words.now))
-        no_page_is_refused
-        R.remaining R.reads F.opens F.File.remaining F.File.reads
-        W.contents W.writes V.writes (codes "fillaqut") (pages_of words.now)
-        (world input.old files.old output.old faults.old)
-        (world input.new files.new output.new faults.new) came }
-
-    // At status 0 nothing is written to the faults.
-    ensures done { result ≡ 0 → faults.new ≡ faults.old }
+where
+    R: StepReader,
+    F: OpensFiles,
+    F::File: StepReader,
+    W: StepWriter,
+    V: StepWriter,
+    ensures { IsRun (PrintsBlocks (extensions_of arguments.now) (form_of arguments.now) W.contents)
+        R.remaining R.reads F.opens F.holds F.File.remaining F.File.reads W.writes V.writes W.contents
+        (texts_of USAGE.now HELP.now VERSION.now) own_options false false
+        arguments.now result streams.old streams.new }
 {
-    let says = Says {
-        name: "fillaqut",
+    let says = Command {
         usage: USAGE,
         help: HELP,
         version: VERSION,
+        options: Options {
+            own: &["--json"],
+            extensions: EXTENSION_OPTIONS,
+        },
     };
     let blocks = Blocks {
-        form: form_of(words),
-        extensions: extensions_of(words),
+        form: form_of(arguments),
+        extensions: extensions_of(arguments),
     };
-    program::run_program(
-        alloc,
-        &says,
-        &[
-            "--json",
-            "-e footnotes",
-            "-e definition-lists",
-            "-e tables",
-            "-e strikethrough",
-            "-e tasks",
-            "-e wikilinks",
-            "--gfm",
-        ],
-        &blocks,
-        words,
-        input,
-        files,
-        output,
-        faults,
-    )
+    run_command(alloc, says, &blocks, arguments, streams)
 }
 
 // What prints the blocks of pages in this form, with these extensions on.
@@ -109,29 +76,35 @@ struct Blocks {
     extensions: Extensions,
 }
 
-impl PrintsPages for Blocks {
-    ghost use Rattle.page_blocks.specs.page.Printed.{IsPrintedTo, IsBegunTo, no_page_is_refused, title_of};
+impl<F, W: StepWriter, V> DoesPages<F, W, V> for Blocks {
+    ghost use Rattle.std.specs.Prelude.{false};
+    ghost use Rattle.page_blocks.specs.Pages.{PrintsBlocks};
 
-    ghost titles = { λ it. title_of it.form };
+    ghost does = { λ it. PrintsBlocks it.extensions it.form W.contents };
 
-    ghost prints = { λ it. IsPrintedTo it.extensions it.form };
+    ghost checks = { λ _. false };
 
-    ghost begins = { λ it. IsBegunTo it.extensions it.form };
+    ghost notes = { λ _. false };
 
-    ghost refuses = { λ _. no_page_is_refused };
-
-    fn make_title(&self, alloc: Global, pages: usize, name: &str) -> Result<String, AllocError> {
-        make_title(alloc, self.form, pages, name)
-    }
-
-    fn print_page<R: StepReader, W: StepWriter>(
+    fn do_page<R: StepReader>(
         &self,
         alloc: Global,
-        title: &str,
+        pages: usize,
+        name: &str,
         input: &mut R,
-        output: &mut W,
-    ) -> Result<(), Stop> {
-        print_page(alloc, self.extensions, self.form, title, input, output)
+        outputs: &mut Outputs<F, W, V>,
+    ) -> Result<bool, Stop> {
+        let title = make_title(alloc, self.form, pages, name)?;
+        let (extensions, form) = (self.extensions, self.form);
+        print_page(
+            alloc,
+            extensions,
+            form,
+            title.as_str(),
+            input,
+            &mut outputs.output,
+        )?;
+        Ok(false)
     }
 }
 
@@ -159,6 +132,8 @@ fn print_page<R: StepReader, W: StepWriter>(
     ensures failed { IfErr result (λ stop. (why : Reason) → stop ≡ Stop.Read why →
         HasFailed R.reads why input.new ⊎ AreReads R.reads 281474976710655 input.old input.new) }
     ensures taken { IfErr result (λ stop. (offset : ℕ) → stop ≢ Stop.NotText offset) }
+    ensures unreplaced { IfErr result (λ stop. (refusal : Refusal) →
+        stop ≢ Stop.NotReplaced refusal) }
     ensures refused { IfErr result (λ stop.
         IfWrite stop (λ why. CantWrite W.writes why output.new)) }
 {

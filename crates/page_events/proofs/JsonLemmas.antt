@@ -10,7 +10,7 @@ use Rattle.markdown_values.specs.declared.values.tags.Tag.TheVariants.{Definitio
 use Rattle.markdown_values.specs.declared.values.tags.Tag.TheVariants.{Emphasis, Strong, Strikethrough, Superscript, Subscript, Link, Image}
 use Rattle.markdown_values.specs.declared.values.tags.Tag.TheVariants.{MetadataBlock}
 use Rattle.markdown_events.specs.TagEnds.{tag_end}
-use Rattle.page_events.specs.json.Json.{array_member, member}
+use Rattle.page_events.specs.Json.{array_member, member}
 
 pub array_of_seen : {A B : Type 0} (name : List ℕ) (item_json : B → List ℕ) (see : A → B) (items : List A)
     → array_member name item_json (map see items) ≡ array_member name (λ item. item_json (see item)) items

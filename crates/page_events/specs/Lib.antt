@@ -1,4 +1,4 @@
-pub mod help
-pub mod json
-pub mod page
-pub mod printing
+pub mod Texts
+pub mod Json
+pub mod Printed
+pub mod Lines

@@ -4,9 +4,9 @@ ghost use Rattle.std.specs.List.{flat_map};
 ghost use Rattle.markdown_values.specs.strings.Text.{cow_text};
 ghost use Rattle.markdown_values.specs.values.Events.{end, start};
 ghost use Rattle.markdown_values.specs.values.Tags.{attribute_view, info_view, tag_view};
-ghost use Rattle.page_events.specs.printing.Lines.{alert_name, alert_text, alignment_name, alignment_text, attribute_text, class_text, element_kind};
-ghost use Rattle.page_events.specs.printing.Lines.{element_name, element_text, event_text, held_text, id_text, label_text, link_text, link_word};
-ghost use Rattle.page_events.specs.printing.Lines.{metadata_name, number_text, quoted_if};
+ghost use Rattle.page_events.specs.Lines.{alert_name, alert_text, alignment_name, alignment_text, attribute_text, class_text, element_kind};
+ghost use Rattle.page_events.specs.Lines.{element_name, element_text, event_text, held_text, id_text, label_text, link_text, link_word};
+ghost use Rattle.page_events.specs.Lines.{metadata_name, number_text, quoted_if};
 
 use crate::printing::{push_named, push_quoted};
 use markdown_values::strings::CowStr;

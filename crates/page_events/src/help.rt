@@ -1,6 +1,6 @@
 //! What the program says of itself.
 ghost use Rattle.std.specs.Prelude.{◌≡◌};
-ghost use Rattle.page_events.specs.help.Texts.{help_of, usage_of};
+ghost use Rattle.page_events.specs.Texts.{help_of, usage_of};
 
 use crate::page::EventForm;
 
@@ -17,7 +17,7 @@ usage: fillaqut json [-e NAME].. [--gfm] [--] [FILE ..]
 ";
 
 /// What `--version` prints.
-pub const VERSION: &str = "fillaqut 0.1.0\n";
+pub const VERSION: &str = "fillaqut 0.2.0\n";
 
 /// What `--help` prints.
 pub const HELP: &str = "\

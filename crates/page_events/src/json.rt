@@ -3,8 +3,8 @@ ghost use Rattle.std.specs.Prelude.{◌≡◌, ◌++◌, OnOk, codes, string_byt
 ghost use Rattle.markdown_values.specs.strings.Text.{cow_text};
 ghost use Rattle.markdown_values.specs.values.Events.{event_view};
 ghost use Rattle.markdown_events.specs.InlineEvents.{seen_event};
-ghost use Rattle.page_blocks.specs.json.Json.{truth};
-ghost use Rattle.page_events.specs.json.Json.{event_json, event_kind, event_members, member};
+ghost use Rattle.page_blocks.specs.Json.{truth};
+ghost use Rattle.page_events.specs.Json.{event_json, event_kind, event_members, member};
 
 pub mod elements;
 pub mod values;

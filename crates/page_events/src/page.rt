@@ -1,7 +1,7 @@
 //! What is printed of a page.
 ghost use Rattle.std.specs.Prelude.{◌≡◌, ◌++◌, IfOk, OnOk, string_bytes};
 ghost use Rattle.markdown_events.specs.InlineEvents.{seen_event};
-ghost use Rattle.page_events.specs.page.Printed.{AreEventLines, line_in};
+ghost use Rattle.page_events.specs.Printed.{AreEventLines, line_in};
 
 use crate::json::push_event_json;
 use crate::printing::push_event;

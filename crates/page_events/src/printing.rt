@@ -3,7 +3,7 @@ ghost use Rattle.std.specs.Prelude.{◌≡◌, ◌++◌, OnOk, string_bytes};
 ghost use Rattle.markdown_values.specs.strings.Text.{cow_text};
 ghost use Rattle.markdown_values.specs.values.Events.{event_view};
 ghost use Rattle.markdown_events.specs.InlineEvents.{seen_event};
-ghost use Rattle.page_events.specs.printing.Lines.{event_line, event_text, quoted, task_word};
+ghost use Rattle.page_events.specs.Lines.{event_line, event_text, quoted, task_word};
 
 use crate::elements::{push_end, push_start};
 use markdown_values::strings::CowStr;

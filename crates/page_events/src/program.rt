@@ -1,96 +1,65 @@
-//! What the program does with its words, its input and its output.
-ghost use Rattle.std.specs.Prelude.{◌≡◌, ◌≢◌, ◌⊎◌, false, codes};
-ghost use Rattle.page_programs.specs.Answers.{Answers, fillaqut_texts};
-ghost use Rattle.page_programs.specs.Came.{status_of};
-ghost use Rattle.page_programs.specs.Runs.{PrintsAll};
-ghost use Rattle.page_programs.specs.Texts.{IsRefused, is_unwritten, no_title};
-ghost use Rattle.page_programs.specs.Words.{pages_of, request_of};
-ghost use Rattle.page_programs.specs.Worlds.{world};
-ghost use Rattle.page_programs.specs.declared.came.Came.{Came};
-ghost use Rattle.page_programs.specs.declared.words.Request.TheVariants.{Pages};
-ghost use Rattle.page_events.specs.help.Texts.{help_of, usage_of};
-ghost use Rattle.page_events.specs.page.Printed.{IsPrintedTo};
+//! What the program does with its arguments, its input and its output.
+ghost use Rattle.std.specs.Prelude.{false};
+ghost use Rattle.page_programs.specs.Answers.{texts_of};
 ghost use Rattle.page_programs.specs.Extensions.{event_options, extensions_of};
+ghost use Rattle.page_programs.specs.Runs.{IsRun};
+ghost use Rattle.page_programs.specs.Wholes.{PrintsWhole};
+ghost use Rattle.page_events.specs.Texts.{help_of, usage_of};
+ghost use Rattle.page_events.specs.Printed.{AreEventLines};
 
 use crate::help::{VERSION, help_of, usage_of};
 use crate::page::{EventForm, lines_of_page};
 use markdown_values::values::Extensions;
-use page_programs::extensions::extensions_of;
+use page_programs::arguments::Options;
+use page_programs::extensions::{EVENT_OPTIONS, extensions_of};
 use page_programs::files::OpensFiles;
-use page_programs::program;
-use page_programs::says::Says;
+use page_programs::program::{Command, run_command};
+use page_programs::streams::Streams;
 use page_programs::whole::{PrintsWholePages, Whole};
 use program_faults::{StepReader, StepWriter};
 use std::alloc::{AllocError, Global};
 
-/// Runs the command that prints events in this form on its words, without its name, and answers its
+/// Runs the command that prints events in this form on its arguments, without its name, and answers its
 /// status.
 ///
 /// 0: done. 2: an option that is not known, and nothing is read. 3: a page that can't be opened or
 /// read, or is refused, or memory that is refused, after which it goes on with the next page; or
 /// output that can't be written, where it stops. Each page is read whole before its lines are
 /// written.
-pub fn run_program<R: StepReader, F: OpensFiles, W: StepWriter, V: StepWriter>(
+pub fn run_program<R, F, W, V>(
     alloc: Global,
     form: EventForm,
-    words: &[&str],
-    input: &mut R,
-    files: &mut F,
-    output: &mut W,
-    faults: &mut V,
+    arguments: &[&str],
+    streams: &mut Streams<R, F, W, V>,
 ) -> u8
-    ensures status { (result ≡ 0) ⊎ ((result ≡ 2) ⊎ (result ≡ 3)) }
-
-    // An option that is not known, the help and the version.
-    ensures answered { Answers W.contents W.writes V.writes
-        (fillaqut_texts (usage_of form) (help_of form) VERSION.now)
-        event_options words.now result
-        (world input.old files.old output.old faults.old)
-        (world input.new files.new output.new faults.new) }
-
-    // Pages: each is printed, or the faults are given why it is not.
-    ensures printed { result ≢ 2 → request_of words.now ≡ Pages →
-        (came : Came) × (result ≡ status_of came)
-        × PrintsAll no_title
-        (IsPrintedTo form (extensions_of words.now))
-        is_unwritten (IsRefused false)
-        R.remaining R.reads F.opens F.File.remaining F.File.reads
-        W.contents W.writes V.writes (codes "fillaqut") (pages_of words.now)
-        (world input.old files.old output.old faults.old)
-        (world input.new files.new output.new faults.new) came }
-
-    // At status 0 nothing is written to the faults.
-    ensures done { result ≡ 0 → faults.new ≡ faults.old }
+where
+    R: StepReader,
+    F: OpensFiles,
+    F::File: StepReader,
+    W: StepWriter,
+    V: StepWriter,
+    ensures { IsRun (PrintsWhole false (λ _. AreEventLines form (extensions_of arguments.now))
+        false W.contents)
+        R.remaining R.reads F.opens F.holds F.File.remaining F.File.reads W.writes V.writes W.contents
+        (texts_of (usage_of form) (help_of form) VERSION.now) event_options false false
+        arguments.now result streams.old streams.new }
 {
-    let says = Says {
-        name: "fillaqut",
+    let says = Command {
         usage: usage_of(form),
         help: help_of(form),
         version: VERSION,
+        options: Options {
+            own: &[],
+            extensions: EVENT_OPTIONS,
+        },
     };
     let events = Whole {
         printer: Events {
             form,
-            setting: extensions_of(words),
+            setting: extensions_of(arguments),
         },
     };
-    program::run_program(
-        alloc,
-        &says,
-        &[
-            "-e tables",
-            "-e strikethrough",
-            "-e tasks",
-            "-e wikilinks",
-            "--gfm",
-        ],
-        &events,
-        words,
-        input,
-        files,
-        output,
-        faults,
-    )
+    run_command(alloc, says, &events, arguments, streams)
 }
 
 // What prints the events of pages in this form, which are read in this way.
@@ -101,29 +70,24 @@ struct Events {
 }
 
 impl PrintsWholePages for Events {
-    ghost use Rattle.std.specs.Prelude.{[], false};
-    ghost use Rattle.page_events.specs.page.Printed.{AreEventLines};
-
-    ghost headings = { λ _ _ _. [] };
+    ghost use Rattle.std.specs.Prelude.{false};
+    ghost use Rattle.page_events.specs.Printed.{AreEventLines};
 
     ghost mends = { λ _. false };
 
-    ghost is_printed = { λ it. AreEventLines it.form it.setting };
+    ghost checks = { λ _. false };
 
-    fn make_heading(
-        &self,
-        alloc: Global,
-        _pages: usize,
-        _name: &str,
-    ) -> Result<String, AllocError> {
-        Ok(String::new(alloc))
-    }
+    ghost is_printed = { λ it _. AreEventLines it.form it.setting };
 
     fn mends_pages(&self) -> bool {
         false
     }
 
-    fn text_of_page(&self, alloc: Global, page: &str) -> Result<String, AllocError> {
+    fn is_check(&self) -> bool {
+        false
+    }
+
+    fn text_of_page(&self, alloc: Global, _name: &str, page: &str) -> Result<String, AllocError> {
         lines_of_page(alloc, page, self.setting, self.form)
     }
 }

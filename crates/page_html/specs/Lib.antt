@@ -1,2 +1,2 @@
-pub mod asked
-pub mod page
+pub mod Asked
+pub mod Printed

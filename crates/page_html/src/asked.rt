@@ -1,10 +1,10 @@
-//! What is printed of a page, as the words of the command line ask for it.
+//! What is printed of a page, as the arguments of the command line ask for it.
 ghost use Rattle.std.specs.Prelude.{◌≡◌};
-ghost use Rattle.page_html.specs.asked.Asked.{asked_of, form_of, is_html};
+ghost use Rattle.page_html.specs.Asked.{asked_of, form_of, is_html};
 
 use markdown_values::values::Extensions;
+use page_programs::arguments::has_option;
 use page_programs::extensions::extensions_of;
-use page_programs::words::has_option;
 
 /// What is printed of a page.
 #[derive(Clone, Copy)]
@@ -31,26 +31,26 @@ pub struct Asked {
     pub setting: Extensions,
 }
 
-/// What the words ask for.
-pub(crate) fn asked_of(words: &[&str]) -> Asked
-    ensures { result ≡ asked_of words.now }
+/// What the arguments ask for.
+pub(crate) fn asked_of(arguments: &[&str]) -> Asked
+    ensures { result ≡ asked_of arguments.now }
 {
     Asked {
-        form: form_of(words),
-        safe: !has_option(words, "--unsafe"),
-        strict: has_option(words, "--strict"),
-        setting: extensions_of(words),
+        form: form_of(arguments),
+        safe: !has_option(arguments, "--unsafe"),
+        strict: has_option(arguments, "--strict"),
+        setting: extensions_of(arguments),
     }
 }
 
 // In which form a page is printed.
-fn form_of(words: &[&str]) -> Form
-    ensures { result ≡ form_of words.now }
+fn form_of(arguments: &[&str]) -> Form
+    ensures { result ≡ form_of arguments.now }
 {
-    if has_option(words, "--to events") {
+    if has_option(arguments, "--to events") {
         return Form::Events;
     }
-    if has_option(words, "--to json") {
+    if has_option(arguments, "--to json") {
         return Form::Json;
     }
     Form::Html

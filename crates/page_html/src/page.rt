@@ -3,7 +3,7 @@ ghost use Rattle.std.specs.Prelude.{◌≡◌, IfOk, string_bytes, true};
 ghost use Rattle.markdown_html.specs.PageHtml.{IsHtmlOf};
 ghost use Rattle.markdown_html.specs.SafeHtml.{IsSafeHtml};
 ghost use Rattle.markdown_html.specs.SafeSetting.{default_schemes};
-ghost use Rattle.page_html.specs.page.Printed.{IsPrinted, html_setting};
+ghost use Rattle.page_html.specs.Printed.{IsPrinted, html_setting};
 
 use crate::asked::{Asked, Form};
 use markdown_html::page::html_of_page_with;

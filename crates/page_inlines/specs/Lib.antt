@@ -1,4 +1,4 @@
-pub mod blocks
-pub mod labels
-pub mod page
-pub mod printing
+pub mod BlockTexts
+pub mod Labels
+pub mod Printed
+pub mod Lines

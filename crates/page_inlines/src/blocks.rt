@@ -2,10 +2,10 @@
 ghost use Rattle.std.specs.Prelude.{◌≡◌, ◌∷◌, ◌++◌, IfOk, List, ℕ, length, OnOk, string_bytes};
 ghost use Rattle.std.specs.List.{flat_map};
 ghost use Rattle.markdown_blocks.specs.events.Events.{Event, seen_event, seen_leaf};
-ghost use Rattle.page_inlines.specs.blocks.BlockTexts.{HasPrinted, IsEventsText};
-ghost use Rattle.page_inlines.specs.labels.Labels.{setting_of};
-ghost use Rattle.page_inlines.specs.page.Printed.{AreContentLines, IsLeafText};
-ghost use Rattle.page_inlines.specs.printing.Lines.{inline_line};
+ghost use Rattle.page_inlines.specs.BlockTexts.{HasPrinted, IsEventsText};
+ghost use Rattle.page_inlines.specs.Labels.{setting_of};
+ghost use Rattle.page_inlines.specs.Printed.{AreContentLines, IsLeafText};
+ghost use Rattle.page_inlines.specs.Lines.{inline_line};
 
 use crate::labels::PageLabels;
 use crate::printing::{has_inlines, part_of, push_block_line, push_inline};
@@ -115,7 +115,7 @@ impl<'p> Page<'p> {
         start: usize,
         content: &Content,
     ) -> Result<(), AllocError>
-        requires { length content.now.places ≡ length content.now.text }
+        requires { length content.now.offsets ≡ length content.now.text }
         ensures { OnOk result ((lines : List ℕ)
             × AreContentLines (setting_of self.now) start content.now lines
             × (string_bytes out.new.text ≡ string_bytes out.old.text ++ lines)) }
@@ -137,7 +137,7 @@ fn push_inlines(
     content: &Content,
     found: &InlineFinder,
 ) -> Result<(), AllocError>
-    requires { length content.now.places ≡ length content.now.text }
+    requires { length content.now.offsets ≡ length content.now.text }
     ensures { OnOk result (string_bytes text.new ≡ string_bytes text.old
         ++ flat_map (inline_line start content.now found.now.links) found.now.inlines) }
 {

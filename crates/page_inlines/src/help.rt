@@ -5,7 +5,7 @@ pub const USAGE: &str =
     "\nusage: fillaqut inlines [-e NAME].. [--gfm] [--] [FILE ..]\n       fillaqut inlines -h | --help | --version\n";
 
 /// What `--version` prints.
-pub const VERSION: &str = "fillaqut 0.1.0\n";
+pub const VERSION: &str = "fillaqut 0.2.0\n";
 
 /// What `--help` prints.
 pub const HELP: &str = "\

@@ -1,7 +1,7 @@
 //! The labels that a page defines.
 ghost use Rattle.std.specs.Prelude.{IfOk};
-ghost use Rattle.page_inlines.specs.labels.Labels.{labels_of};
-ghost use Rattle.page_inlines.specs.page.Printed.{AreLabelsOf};
+ghost use Rattle.page_inlines.specs.Labels.{labels_of};
+ghost use Rattle.page_inlines.specs.Printed.{AreLabelsOf};
 
 use markdown_blocks::link_definitions::LinkDefinitions;
 use markdown_inlines::links::Labels;
@@ -15,7 +15,7 @@ pub(crate) struct PageLabels<'a> {
 }
 
 impl<'a> Labels for PageLabels<'a> {
-    ghost use Rattle.page_inlines.specs.labels.Labels.{labels_of};
+    ghost use Rattle.page_inlines.specs.Labels.{labels_of};
 
     ghost known = { λ it. labels_of it.definitions };
 

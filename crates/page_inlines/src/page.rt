@@ -1,12 +1,12 @@
 //! What is printed of a page.
 ghost use Rattle.std.specs.Prelude.{IfOk, string_bytes};
-ghost use Rattle.page_inlines.specs.page.Printed.{IsPrinted};
+ghost use Rattle.page_inlines.specs.Printed.{IsPrinted};
 
 use crate::blocks::{Output, Page};
 use crate::labels::PageLabels;
 use markdown_blocks::byte_order_mark::text_start;
 use markdown_blocks::events::BlockEvents;
-use markdown_blocks::taken::Taken;
+use markdown_blocks::taken::Extent;
 use markdown_blocks::walk::Walk;
 use markdown_inlines::inlines::InlineFinder;
 use markdown_values::values::Extensions;
@@ -37,7 +37,7 @@ pub fn lines_of_page(alloc: Global, page: &[u8], asked: Extensions) -> Result<St
     let mut lines = 0;
     let mut bytes = text_start(page);
     loop {
-        let before = Taken { lines, bytes };
+        let before = Extent { lines, bytes };
         let depth = walk.containers().len();
         let Some(step) = walk.next_block(alloc, &mut content, &page[bytes..], true)? else {
             let Output { text, .. } = out;

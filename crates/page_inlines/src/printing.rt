@@ -1,16 +1,16 @@
 //! The lines of blocks and of their inlines.
 ghost use Rattle.std.specs.Prelude.{◌≡◌, ◌++◌, ◌+◌, ◌<◌, IsTrue, List, ℕ, length, slice_range, OnOk, string_bytes};
 ghost use Rattle.markdown_blocks.specs.events.Events.{seen_leaf};
-ghost use Rattle.page_blocks.specs.page.Printed.{kind_text};
-ghost use Rattle.page_inlines.specs.printing.Lines.{has_inlines, block_line, place_of, front, span, quoted, piece_word};
-ghost use Rattle.page_inlines.specs.printing.Lines.{emphasis_word, title_text, target_text, link_word, link_text, opened_text};
-ghost use Rattle.page_inlines.specs.printing.Lines.{emphasis_text, piece_text, end_text, inline_line};
+ghost use Rattle.page_blocks.specs.Printed.{kind_text};
+ghost use Rattle.page_inlines.specs.Lines.{has_inlines, block_line, offset_of, front, span, quoted, piece_word};
+ghost use Rattle.page_inlines.specs.Lines.{emphasis_word, title_text, target_text, link_word, link_text, opened_text};
+ghost use Rattle.page_inlines.specs.Lines.{emphasis_text, piece_text, end_text, inline_line};
 
 use markdown_blocks::blocks::BlockKind;
 use markdown_blocks::content::Content;
 use markdown_blocks::events::Leaf;
 use markdown_inlines::inlines::Inline;
-use markdown_inlines::links::{Link, LinkTarget};
+use markdown_inlines::links::{Link, LinkTarget, Links};
 use markdown_inlines::pieces::{Piece, PieceKind};
 use page_blocks::info::push_bytes;
 use std::alloc::AllocError;
@@ -58,32 +58,32 @@ pub(crate) fn push_inline(
     text: &mut String,
     start: usize,
     content: &Content,
-    links: &[Option<Link>],
+    links: &Links,
     inline: Inline,
 ) -> Result<(), AllocError>
-    requires { length content.now.places ≡ length content.now.text }
+    requires { length content.now.offsets ≡ length content.now.text }
     ensures { OnOk result (string_bytes text.new
         ≡ string_bytes text.old ++ inline_line start content.now links.now inline) }
 {
     match inline {
         Inline::Leaf(piece) => push_piece(text, start, content, piece),
-        Inline::StartEmphasis(place, count) => {
+        Inline::StartEmphasis(offset, count) => {
             let kind = emphasis_word(count);
-            push_emphasis(text, "start ", kind, start, content, place, count)
+            push_emphasis(text, "start ", kind, start, content, offset, count)
         }
-        Inline::EndEmphasis(place, count) => {
+        Inline::EndEmphasis(offset, count) => {
             let kind = emphasis_word(count);
-            push_emphasis(text, "end ", kind, start, content, place, count)
+            push_emphasis(text, "end ", kind, start, content, offset, count)
         }
-        Inline::StartStrikethrough(place, count) => {
-            push_emphasis(text, "start ", STRIKETHROUGH, start, content, place, count)
+        Inline::StartStrikethrough(offset, count) => {
+            push_emphasis(text, "start ", STRIKETHROUGH, start, content, offset, count)
         }
-        Inline::EndStrikethrough(place, count) => {
-            push_emphasis(text, "end ", STRIKETHROUGH, start, content, place, count)
+        Inline::EndStrikethrough(offset, count) => {
+            push_emphasis(text, "end ", STRIKETHROUGH, start, content, offset, count)
         }
         Inline::StartLink(number) => match links.get(number) {
-            Some(Some(link)) => push_link(text, start, content, link),
-            _ => Ok(()),
+            Some(link) => push_link(text, start, content, link),
+            None => Ok(()),
         },
         Inline::EndLink(piece) => push_end(text, start, content, piece),
     }
@@ -96,7 +96,7 @@ fn push_piece(
     content: &Content,
     piece: Piece,
 ) -> Result<(), AllocError>
-    requires { length content.now.places ≡ length content.now.text }
+    requires { length content.now.offsets ≡ length content.now.text }
     ensures { OnOk result (string_bytes text.new
         ≡ string_bytes text.old ++ piece_text start content.now piece) }
 {
@@ -130,14 +130,14 @@ fn push_emphasis(
     kind: &str,
     start: usize,
     content: &Content,
-    place: usize,
+    offset: usize,
     count: usize,
 ) -> Result<(), AllocError>
-    requires { length content.now.places ≡ length content.now.text }
+    requires { length content.now.offsets ≡ length content.now.text }
     ensures { OnOk result (string_bytes text.new
-        ≡ string_bytes text.old ++ emphasis_text word.now kind.now start content.now place count) }
+        ≡ string_bytes text.old ++ emphasis_text word.now kind.now start content.now offset count) }
 {
-    let from = place_of(start, content, place);
+    let from = offset_of(start, content, offset);
     push_front(text, from, from + count as u128)?;
     text.push_str(word)?;
     text.push_str(kind)?;
@@ -158,7 +158,7 @@ fn push_link(
     content: &Content,
     link: &Link,
 ) -> Result<(), AllocError>
-    requires { length content.now.places ≡ length content.now.text }
+    requires { length content.now.offsets ≡ length content.now.text }
     ensures { OnOk result (string_bytes text.new
         ≡ string_bytes text.old ++ link_text start content.now link.now) }
 {
@@ -236,7 +236,7 @@ fn push_end(
     content: &Content,
     piece: Piece,
 ) -> Result<(), AllocError>
-    requires { length content.now.places ≡ length content.now.text }
+    requires { length content.now.offsets ≡ length content.now.text }
     ensures { OnOk result (string_bytes text.new
         ≡ string_bytes text.old ++ end_text start content.now piece) }
 {
@@ -252,12 +252,12 @@ fn push_span(
     from: usize,
     to: usize,
 ) -> Result<(), AllocError>
-    requires { length content.now.places ≡ length content.now.text }
+    requires { length content.now.offsets ≡ length content.now.text }
     ensures { OnOk result (string_bytes text.new
         ≡ string_bytes text.old ++ span start content.now from to) }
 {
-    let last = place_of(start, content, to.saturating_sub(1));
-    push_front(text, place_of(start, content, from), last + 1)
+    let last = offset_of(start, content, to.saturating_sub(1));
+    push_front(text, offset_of(start, content, from), last + 1)
 }
 
 // Adds where it begins and ends.
@@ -268,18 +268,18 @@ fn push_front(text: &mut String, from: u128, to: u128) -> Result<(), AllocError>
 }
 
 // How many bytes of the page stand before the byte at an offset of a content.
-fn place_of(start: usize, content: &Content, offset: usize) -> u128
-    requires { length content.now.places ≡ length content.now.text }
-    ensures place { result ≡ place_of start content.now offset }
+fn offset_of(start: usize, content: &Content, offset: usize) -> u128
+    requires { length content.now.offsets ≡ length content.now.text }
+    ensures offset { result ≡ offset_of start content.now offset }
     ensures within { result + 1 < 36893488147419103232 }
 {
     if offset < content.text().len() {
-        return start as u128 + content.place(offset) as u128;
+        return start as u128 + content.source_offset(offset) as u128;
     }
     start as u128
 }
 
-// Adds the bytes from one place up to another, in quotation marks.
+// Adds the bytes from one offset up to another, in quotation marks.
 fn push_quoted(text: &mut String, bytes: &[u8], from: usize, to: usize) -> Result<(), AllocError>
     ensures { OnOk result (string_bytes text.new
         ≡ string_bytes text.old ++ quoted bytes.now from to) }
@@ -289,7 +289,7 @@ fn push_quoted(text: &mut String, bytes: &[u8], from: usize, to: usize) -> Resul
     text.push_str("\"")
 }
 
-/// The bytes from one place up to another, as far as there are some.
+/// The bytes from one offset up to another, as far as there are some.
 pub(crate) fn part_of(bytes: &[u8], from: usize, to: usize) -> &[u8]
     ensures { result.now ≡ slice_range bytes.now from to }
 {

@@ -3,8 +3,8 @@ ghost use Rattle.std.specs.Prelude.{◌≡◌, ◌++◌, OnOk, codes, map, strin
 ghost use Rattle.markdown_values.specs.strings.Text.{cow_text};
 ghost use Rattle.markdown_values.specs.values.Events.{end, start};
 ghost use Rattle.markdown_values.specs.values.Tags.{attribute_view, info_view, tag_view};
-ghost use Rattle.page_events.specs.json.Json.{alignment_json, array_member, attribute_json, element_members, event_members, kind_members};
-ghost use Rattle.page_events.specs.json.Json.{label_member, link_members, number_member, start_members, text_json, text_member_if};
+ghost use Rattle.page_events.specs.Json.{alignment_json, array_member, attribute_json, element_members, event_members, kind_members};
+ghost use Rattle.page_events.specs.Json.{label_member, link_members, number_member, start_members, text_json, text_member_if};
 
 use crate::elements::{alert_name, element_name, link_word, metadata_name};
 use crate::json::values::{push_array, push_text, push_text_if, push_word};

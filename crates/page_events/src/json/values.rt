@@ -2,7 +2,7 @@
 ghost use Rattle.std.specs.Prelude.{List, ℕ, ◌≡◌, ◌++◌, OnOk, codes, option_map, string_bytes};
 ghost use Rattle.std.specs.List.{flat_map};
 ghost use Rattle.markdown_values.specs.strings.Text.{cow_text};
-ghost use Rattle.page_events.specs.json.Json.{array_member, member, text_json, text_member, text_member_if, value_json, word_json};
+ghost use Rattle.page_events.specs.Json.{array_member, member, text_json, text_member, text_member_if, value_json, word_json};
 
 use crate::elements::alignment_name;
 use markdown_values::strings::CowStr;
@@ -81,7 +81,7 @@ pub(crate) trait Item {
 
 impl<'a> Item for CowStr<'a> {
     ghost use Rattle.markdown_values.specs.strings.Text.{cow_text};
-    ghost use Rattle.page_events.specs.json.Json.{text_json};
+    ghost use Rattle.page_events.specs.Json.{text_json};
 
     ghost json = { λ it. text_json (cow_text it) };
 
@@ -94,7 +94,7 @@ impl<'a> Item for CowStr<'a> {
 impl<'a> Item for (CowStr<'a>, Option<CowStr<'a>>) {
     ghost use Rattle.markdown_values.specs.strings.Text.{cow_text};
     ghost use Rattle.markdown_values.specs.values.Tags.{attribute_view};
-    ghost use Rattle.page_events.specs.json.Json.{attribute_json};
+    ghost use Rattle.page_events.specs.Json.{attribute_json};
 
     ghost json = { λ it. attribute_json (attribute_view cow_text it) };
 
@@ -108,7 +108,7 @@ impl<'a> Item for (CowStr<'a>, Option<CowStr<'a>>) {
 }
 
 impl Item for Alignment {
-    ghost use Rattle.page_events.specs.json.Json.{alignment_json};
+    ghost use Rattle.page_events.specs.Json.{alignment_json};
 
     ghost json = { alignment_json };
 

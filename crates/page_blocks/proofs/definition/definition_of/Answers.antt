@@ -8,7 +8,7 @@ use Rattle.page_blocks.proofs.definition.definition_of.Goals as goal
 
 nothing_in : (content : List ℕ) (event : BlockEvent) → ((block : Leaf) → ¬ (event ≡ Block block))
     → (rest : List ℕ) × IsWrittenIn content (seen_event event) None rest
-nothing_in content (Start container place) other = (content, (refl, refl))
+nothing_in content (Start container position) other = (content, (refl, refl))
 nothing_in content (Block block) other = absurd (other block refl)
 nothing_in content End other = (content, (refl, refl))
 

@@ -1,7 +1,7 @@
 -- What is written and the digits of the bytes that are left make the digits of all.
 use Rattle.std.proofs.Common.{◌≡◌, ◌++◌, drop, string_bytes}
 use Rattle.std.specs.List.{flat_map}
-use Rattle.page_blocks.specs.info.Info.{hex_byte}
+use Rattle.page_blocks.specs.Info.{hex_byte}
 use Rattle.page_blocks.proofs.info.push_hex.Given as goal
 
 abbrev pub invariant-loop-byte : goal.invariant-loop-byte

@@ -1,11 +1,11 @@
 use Rattle.std.proofs.Common.{ℕ, ◌+◌, ◌-◌, ◌++◌, ◌≡◌, true, false, IsTrue, length, drop, arith, refl, sym, ap, subst, ◌∙◌}
 use Rattle.std.proofs.lemmas.List.{length-drop}
 use Rattle.program_faults.specs.Steps.{AreReads, no_read}
-use Rattle.page_blocks.specs.page.Printed.{Printed}
+use Rattle.page_blocks.specs.Printed.{Printed}
 use Rattle.page_programs.specs.declared.reading.TheConstants.{READS}
 use Rattle.page_programs.proofs.CutLemmas.{if_err}
 use Rattle.page_programs.proofs.ReadingLemmas.{by_err, reads_on, reads_made, reads_all}
-use Rattle.page_blocks.proofs.program.ProgramLemmas.{begun-first, begun-read, begun-written, begun-stopped, begun-done, cut-lines, cut-title}
+use Rattle.page_blocks.proofs.ProgramLemmas.{begun-first, begun-read, begun-written, begun-stopped, begun-done, cut-lines, cut-title}
 use Rattle.page_blocks.proofs.program.print_page.Goals as goal
 
 pub loop-printing-init : goal.loop-printing-init

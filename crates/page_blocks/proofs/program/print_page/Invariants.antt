@@ -1,7 +1,7 @@
 use Rattle.std.proofs.Common.{ℕ, [], ◌+◌, ◌*◌, ◌≤◌, ◌≡◌, length, string_bytes}
 use Rattle.program_faults.specs.Steps.{AreReads}
 use Rattle.page_programs.specs.declared.reading.TheConstants.{READS}
-use Rattle.page_blocks.proofs.program.ProgramLemmas.{Begun}
+use Rattle.page_blocks.proofs.ProgramLemmas.{Begun}
 use Rattle.page_blocks.proofs.program.print_page.Given as goal
 
 -- what was read is printed and written as far as the text that is left, by the reads that are no longer left; there are no more lines than reads gave bytes

@@ -1,4 +1,4 @@
 use Rattle.page_blocks.proofs.program.run_program.Goals as goal
 
-pub returns-clause-printed : goal.returns-clause-printed
-returns-clause-printed g c = rw (← c.form_of.ensures, ← c.extensions_of.ensures) c.run_program.ensures.printed
+pub returns : goal.returns
+returns g c = rw (← c.form_of.ensures, ← c.extensions_of.ensures) c.run_command.ensures

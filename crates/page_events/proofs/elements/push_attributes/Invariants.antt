@@ -3,7 +3,7 @@ use Rattle.std.proofs.Common.{◌≡◌, ◌++◌, drop, map, string_bytes}
 use Rattle.std.specs.List.{flat_map}
 use Rattle.markdown_values.specs.strings.Text.{cow_text}
 use Rattle.markdown_values.specs.values.Tags.{attribute_view}
-use Rattle.page_events.specs.printing.Lines.{attribute_text}
+use Rattle.page_events.specs.Lines.{attribute_text}
 use Rattle.page_events.proofs.elements.push_attributes.Given as goal
 
 abbrev pub invariant-loop-attribute : goal.invariant-loop-attribute

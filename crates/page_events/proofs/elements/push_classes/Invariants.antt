@@ -2,7 +2,7 @@
 use Rattle.std.proofs.Common.{◌≡◌, ◌++◌, drop, map, string_bytes}
 use Rattle.std.specs.List.{flat_map}
 use Rattle.markdown_values.specs.strings.Text.{cow_text}
-use Rattle.page_events.specs.printing.Lines.{class_text}
+use Rattle.page_events.specs.Lines.{class_text}
 use Rattle.page_events.proofs.elements.push_classes.Given as goal
 
 abbrev pub invariant-loop-class : goal.invariant-loop-class

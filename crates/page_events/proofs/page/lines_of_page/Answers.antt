@@ -1,7 +1,7 @@
 use Rattle.std.proofs.Common.{[], ◌∷◌, ◌++◌, string_bytes, sym, ap, ◌∙◌, append_assoc, append-nil}
 use Rattle.std.specs.List.{flat_map}
 use Rattle.markdown_events.specs.InlineEvents.{seen_event}
-use Rattle.page_events.specs.page.Printed.{line_in}
+use Rattle.page_events.specs.Printed.{line_in}
 use Rattle.page_events.proofs.page.lines_of_page.Goals as goal
 
 pub loop-text-init : goal.loop-text-init

@@ -3,7 +3,7 @@ use Rattle.std.specs.List.{flat_map}
 use Rattle.markdown_events.specs.InlineEvents.{RangedEvent}
 use Rattle.markdown_events.specs.page.Given.{Gives, events_left}
 use Rattle.markdown_events.specs.page.PageEvents.{ArePageEvents}
-use Rattle.page_events.specs.page.Printed.{line_in}
+use Rattle.page_events.specs.Printed.{line_in}
 use Rattle.page_events.proofs.page.lines_of_page.Given as goal
 
 -- whatever events are left, what is written and their lines are those of the page

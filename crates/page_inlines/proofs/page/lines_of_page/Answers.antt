@@ -2,9 +2,9 @@ use Rattle.std.proofs.Common.{[], ◌++◌, length, drop, string_bytes, refl, sy
 use Rattle.std.proofs.lemmas.List.{drop-drop, length-drop}
 use Rattle.markdown_blocks.proofs.taken.TakenLemmas.{slice_after}
 use Rattle.markdown_inlines.specs.Inlines.{Setting}
-use Rattle.page_inlines.specs.labels.Labels.{labels_of}
-use Rattle.page_inlines.specs.page.Printed.{IsPrinted}
-use Rattle.page_inlines.proofs.page.PageLemmas.{none_left, whole_page, block_text}
+use Rattle.page_inlines.specs.Labels.{labels_of}
+use Rattle.page_inlines.specs.Printed.{IsPrinted}
+use Rattle.page_inlines.proofs.PageLemmas.{none_left, whole_page, block_text}
 use Rattle.page_inlines.proofs.page.lines_of_page.Goals as goal
 
 pub loop-content-init : goal.loop-content-init

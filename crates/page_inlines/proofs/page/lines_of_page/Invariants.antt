@@ -1,7 +1,7 @@
 use Rattle.std.proofs.Common.{ℕ, List, ◌-◌, ◌≤◌, ◌++◌, drop, length, string_bytes}
-use Rattle.page_inlines.specs.labels.Labels.{setting_of}
-use Rattle.page_inlines.specs.page.Printed.{IsPrinted}
-use Rattle.page_inlines.proofs.page.PageLemmas.{LeftText}
+use Rattle.page_inlines.specs.Labels.{setting_of}
+use Rattle.page_inlines.specs.Printed.{IsPrinted}
+use Rattle.page_inlines.proofs.PageLemmas.{LeftText}
 use Rattle.page_inlines.proofs.page.lines_of_page.Given as goal
 
 -- whatever is printed of the blocks that are left, with it the page is printed

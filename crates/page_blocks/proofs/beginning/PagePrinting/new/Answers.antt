@@ -1,7 +1,7 @@
 use Rattle.std.proofs.Common.{refl, sym, ap, ◌∙◌}
 use Rattle.markdown_blocks.specs.blocks.Pages.{root}
 use Rattle.markdown_blocks.specs.containers.Containers.{Between}
-use Rattle.page_blocks.specs.page.Printed.{Printed}
+use Rattle.page_blocks.specs.Printed.{Printed}
 use Rattle.page_blocks.proofs.beginning.PagePrinting.new.Goals as goal
 
 pub returns-clause-printed : goal.returns-clause-printed

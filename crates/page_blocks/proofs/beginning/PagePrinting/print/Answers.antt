@@ -1,6 +1,6 @@
 use Rattle.std.proofs.Common.{true, ◌≤◌, length, refl, arith}
 use Rattle.markdown_blocks.proofs.taken.TakenLemmas.{slice_after}
-use Rattle.page_blocks.proofs.beginning.BeginningLemmas.{begins-on}
+use Rattle.page_blocks.proofs.BeginningLemmas.{begins-on}
 use Rattle.page_blocks.proofs.beginning.PagePrinting.print.Goals.{else-not-has_ended-via-then-not-has_ended+else-bytes-lt3}
 use Rattle.page_blocks.proofs.beginning.PagePrinting.print.Goals.{else-not-has_ended-via-else-not-has_ended}
 use Rattle.page_blocks.proofs.beginning.PagePrinting.print.Goals as goal

@@ -1,7 +1,7 @@
 use Rattle.std.proofs.Common.{ℕ, ap, ◌∙◌}
 use Rattle.markdown_blocks.specs.lists.Tracked.{Tracked}
-use Rattle.page_blocks.specs.page.Printed.{Printed}
-use Rattle.page_blocks.proofs.page.PageLemmas.{printing-first}
+use Rattle.page_blocks.specs.Printed.{Printed}
+use Rattle.page_blocks.proofs.PageLemmas.{printing-first}
 use Rattle.page_blocks.proofs.page.Printing.begin.Goals as goal
 
 abbrev front : ℕ → Tracked → Printed

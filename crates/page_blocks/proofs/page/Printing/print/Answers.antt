@@ -3,19 +3,19 @@ use Rattle.std.proofs.Common.{refl, sym, ap, ◌∙◌, subst, arith, append_ass
 use Rattle.std.proofs.lemmas.List.{drop_all, length-take-le}
 use Rattle.markdown_scanners_tree.specs.scanners.TextLines.{lines_of}
 use Rattle.page_blocks.specs.declared.page.Printing.{Printing}
-use Rattle.page_blocks.specs.page.Going.{HasPrinted, Prints}
-use Rattle.page_blocks.specs.page.Printed.{PrintsPage, last_lines}
-use Rattle.page_blocks.specs.printer.Printers.{printed_of}
-use Rattle.page_blocks.proofs.page.PageLemmas.{printing-page}
+use Rattle.page_blocks.specs.Going.{HasPrinted, Prints}
+use Rattle.page_blocks.specs.Printed.{PrintsPage, last_lines}
+use Rattle.page_blocks.specs.Printers.{printed_of}
+use Rattle.page_blocks.proofs.PageLemmas.{printing-page}
 use Rattle.markdown_blocks.specs.taken.Whole.{AreWhole}
 use Rattle.markdown_blocks.proofs.whole.WholeLemmas.{front_cut}
 use Rattle.page_blocks.proofs.page.Printing.print.Goals as goal
 
 -- nothing is after the text where the input has ended
-nothing_behind : (text more : List ℕ) (size : ℕ) (has_ended : Bool) → MatchBool has_ended (size ≡ length text) (AreWhole text size)
+nothing_after : (text more : List ℕ) (size : ℕ) (has_ended : Bool) → MatchBool has_ended (size ≡ length text) (AreWhole text size)
     → (IsTrue has_ended → more ≡ []) → IsTrue has_ended → lines_of (drop size text ++ more) ≡ []
-nothing_behind text more size true all none ended = rw (none refl, drop_all size text (omega (arith, all))) refl
-nothing_behind text more size false whole none ended = cc
+nothing_after text more size true all none ended = rw (none refl, drop_all size text (omega (arith, all))) refl
+nothing_after text more size false whole none ended = cc
 
 -- what is printed of the lines at the front is printed of the text
 printed_text : (old new : Printing) (text front : List ℕ) (size count : ℕ) (has_ended : Bool) → MatchBool has_ended (size ≡ length text) (AreWhole text size)
@@ -30,7 +30,7 @@ printed_text old new text front size count has_ended whole fits is printed withi
     ∙ ap (λ f. lines_of f ++ rest) (sym is)) goes in
     subst (λ lines. HasPrinted page written new lines) (ap (λ f. lines_of (drop count f) ++ rest) is
     ∙ sym (front_cut text more size has_ended whole none count few))
-    (printed rest (nothing_behind text more size has_ended whole none) page written first)
+    (printed rest (nothing_after text more size has_ended whole none) page written first)
 
 -- all of the text is at the front where the input has ended
 all_in_front : (X : Type 0) (has_ended : Bool) (size all : ℕ) → MatchBool has_ended (size ≡ all) X → has_ended ≡ true → size ≡ all

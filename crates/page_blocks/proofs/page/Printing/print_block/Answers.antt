@@ -1,8 +1,8 @@
 use Rattle.std.proofs.Common.{[], ◌++◌, length, string_bytes, refl, sym, ap, ◌∙◌, arith, append_assoc}
 use Rattle.markdown_blocks.specs.containers.Containers.{Between}
 use Rattle.markdown_blocks.specs.events.Given.{block_left}
-use Rattle.page_blocks.specs.printer.Printers.{HasPrinted, printed_of}
-use Rattle.page_blocks.proofs.page.PageLemmas.{step_size, printing-next}
+use Rattle.page_blocks.specs.Printers.{HasPrinted, printed_of}
+use Rattle.page_blocks.proofs.PageLemmas.{step_size, printing-next}
 use Rattle.page_blocks.proofs.page.Printing.print_block.Goals as goal
 
 -- the events of the step's block are printed

@@ -1,9 +1,9 @@
 use Rattle.std.proofs.Common.{List, ℕ, [], ◌+◌, ◌-◌, ◌++◌, ◌≡◌, ◌≤◌, IsTrue, length, drop}
 use Rattle.markdown_scanners_tree.specs.scanners.TextLines.{lines_of}
-use Rattle.page_blocks.specs.page.Going.{Prints}
+use Rattle.page_blocks.specs.Going.{Prints}
 use Rattle.page_blocks.proofs.page.Printing.print_lines.Given as goal
 
--- the lines are printed as far as the place
+-- the lines are printed as far as the offset
 abbrev pub invariant-loop-more : goal.invariant-loop-more
 invariant-loop-more l =
     ((more : List (List ℕ)) → (IsTrue l.has_ended → more ≡ [])

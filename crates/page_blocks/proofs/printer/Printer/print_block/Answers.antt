@@ -2,10 +2,10 @@ use Rattle.std.proofs.Common.{ℕ, List, [], ◌∷◌, ◌++◌, ◌≡◌, Opt
 use Rattle.markdown_blocks.specs.events.Events.{Event, seen_event}
 use Rattle.markdown_blocks.specs.events.Shown.{AreShown, IsWrittenIn, Shown, Written}
 use Rattle.markdown_blocks.proofs.ForCallers.{one_written, shown_next}
-use Rattle.page_blocks.specs.declared.words.Form.{Form}
-use Rattle.page_blocks.specs.definition.Definition.{shown_of}
-use Rattle.page_blocks.specs.page.Printed.{Printed, after, after_all, event_lines, lines_of_events}
-use Rattle.page_blocks.specs.printer.Printers.{printed_of}
+use Rattle.page_blocks.specs.declared.arguments.Form.{Form}
+use Rattle.page_blocks.specs.Definition.{shown_of}
+use Rattle.page_blocks.specs.Printed.{Printed, after, after_all, event_lines, lines_of_events}
+use Rattle.page_blocks.specs.Printers.{printed_of}
 use Rattle.page_blocks.proofs.printer.Printer.print_block.Goals as goal
 
 -- the lines of an event, and of those after it

@@ -2,8 +2,8 @@ use Rattle.std.proofs.Common.{List, ◌++◌, ◌≡◌, drop, string_bytes}
 use Rattle.markdown_blocks.specs.events.Events.{Event}
 use Rattle.markdown_blocks.specs.events.Given.{GivesBlock, block_events_left}
 use Rattle.markdown_blocks.specs.events.Shown.{AreShown, Shown}
-use Rattle.page_blocks.specs.page.Printed.{lines_of_events, after_all}
-use Rattle.page_blocks.specs.printer.Printers.{printed_of}
+use Rattle.page_blocks.specs.Printed.{lines_of_events, after_all}
+use Rattle.page_blocks.specs.Printers.{printed_of}
 use Rattle.page_blocks.proofs.printer.Printer.print_block.Given as goal
 
 -- whatever events are left, and what is written in them, with their lines those of all the block's are printed

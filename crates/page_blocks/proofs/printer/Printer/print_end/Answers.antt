@@ -1,6 +1,6 @@
 use Rattle.std.proofs.Common.{◌-◌, ◌≡◌, suc, string_bytes, arith, ◌∙◌}
-use Rattle.page_blocks.specs.printer.Printers.{printed_of}
-use Rattle.page_blocks.proofs.page.PageLemmas.{end_step}
+use Rattle.page_blocks.specs.Printers.{printed_of}
+use Rattle.page_blocks.proofs.PageLemmas.{end_step}
 use Rattle.page_blocks.proofs.printer.Printer.print_end.Goals as goal
 
 pub loop-left-preserved : goal.loop-left-preserved

@@ -1,6 +1,6 @@
 use Rattle.std.proofs.Common.{◌++◌, ◌≡◌, string_bytes}
-use Rattle.page_blocks.specs.page.Printed.{last_lines}
-use Rattle.page_blocks.specs.printer.Printers.{printed_of}
+use Rattle.page_blocks.specs.Printed.{last_lines}
+use Rattle.page_blocks.specs.Printers.{printed_of}
 use Rattle.page_blocks.proofs.printer.Printer.print_end.Given as goal
 
 -- with the last lines where so many containers are open, those where all are open are printed

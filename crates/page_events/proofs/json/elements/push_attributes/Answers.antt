@@ -1,7 +1,7 @@
 use Rattle.std.proofs.Common.{codes}
 use Rattle.markdown_values.specs.strings.Text.{cow_text}
 use Rattle.markdown_values.specs.values.Tags.{attribute_view}
-use Rattle.page_events.specs.json.Json.{attribute_json}
+use Rattle.page_events.specs.Json.{attribute_json}
 use Rattle.page_events.proofs.JsonLemmas.{array_of_seen}
 use Rattle.page_events.proofs.json.elements.push_attributes.Goals as goal
 

@@ -1,6 +1,6 @@
 use Rattle.std.proofs.Common.{◌≡◌, ◌∙◌, ◌++◌, OnOk, List, ℕ, ap, subst, append_assoc, codes, string_bytes}
-use Rattle.page_events.specs.json.Json.{kind_members, member, word_json}
-use Rattle.page_events.specs.printing.Lines.{element_name}
+use Rattle.page_events.specs.Json.{kind_members, member, word_json}
+use Rattle.page_events.specs.Lines.{element_name}
 use Rattle.page_events.proofs.json.elements.push_element.Goals as goal
 
 pub returns : goal.returns

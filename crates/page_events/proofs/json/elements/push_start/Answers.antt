@@ -2,7 +2,7 @@ use Rattle.std.proofs.Common.{◌≡◌, ◌∙◌, ◌++◌, OnOk, List, ℕ, a
 use Rattle.markdown_values.specs.strings.Text.{cow_text}
 use Rattle.markdown_values.specs.values.Tags.{tag_view}
 use Rattle.markdown_events.specs.TagEnds.{tag_end}
-use Rattle.page_events.specs.json.Json.{element_members, start_members}
+use Rattle.page_events.specs.Json.{element_members, start_members}
 use Rattle.page_events.proofs.JsonLemmas.{ends_alike}
 use Rattle.page_events.proofs.json.elements.push_start.Goals as goal
 

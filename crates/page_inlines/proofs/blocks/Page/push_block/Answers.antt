@@ -1,8 +1,8 @@
 use Rattle.std.proofs.Common.{[], ◌∷◌, ◌++◌, string_bytes, refl, subst, append-nil}
 use Rattle.markdown_blocks.specs.events.Events.{seen_event}
-use Rattle.page_inlines.specs.blocks.BlockTexts.{HasPrinted}
-use Rattle.page_inlines.specs.labels.Labels.{setting_of}
-use Rattle.page_inlines.proofs.blocks.TextLemmas.{grown_before}
+use Rattle.page_inlines.specs.BlockTexts.{HasPrinted}
+use Rattle.page_inlines.specs.Labels.{setting_of}
+use Rattle.page_inlines.proofs.TextLemmas.{grown_before}
 use Rattle.page_inlines.proofs.blocks.Page.push_block.Goals as goal
 
 pub loop-event-init : goal.loop-event-init

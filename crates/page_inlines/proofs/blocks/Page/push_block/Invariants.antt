@@ -1,8 +1,8 @@
 use Rattle.std.proofs.Common.{List, ℕ, ◌++◌, string_bytes}
 use Rattle.markdown_blocks.specs.events.Events.{Event}
 use Rattle.markdown_blocks.specs.events.Given.{GivesBlock, block_events_left}
-use Rattle.page_inlines.specs.blocks.BlockTexts.{HasPrinted, IsEventsText}
-use Rattle.page_inlines.specs.labels.Labels.{setting_of}
+use Rattle.page_inlines.specs.BlockTexts.{HasPrinted, IsEventsText}
+use Rattle.page_inlines.specs.Labels.{setting_of}
 use Rattle.page_inlines.proofs.blocks.Page.push_block.Given as goal
 
 -- whatever is printed of the events that are left, with it those of the whole block are printed

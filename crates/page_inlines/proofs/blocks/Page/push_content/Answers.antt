@@ -1,7 +1,7 @@
 use Rattle.std.proofs.Common.{string_bytes, subst}
 use Rattle.std.specs.Str.{IsUtf8}
-use Rattle.page_inlines.specs.labels.Labels.{setting_of}
-use Rattle.page_inlines.proofs.blocks.TextLemmas.{none_printed}
+use Rattle.page_inlines.specs.Labels.{setting_of}
+use Rattle.page_inlines.proofs.TextLemmas.{none_printed}
 use Rattle.page_inlines.proofs.blocks.Page.push_content.Goals as goal
 
 pub returns-in-Err : goal.returns-in-Err

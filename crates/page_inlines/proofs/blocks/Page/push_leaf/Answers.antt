@@ -2,15 +2,15 @@ use Rattle.std.proofs.Common.{◌+◌, ◌-◌, ◌≡◌, true, take, drop, str
 use Rattle.markdown_scanners_tree.specs.scanners.TextLines.{lines_of}
 use Rattle.markdown_blocks.specs.content.Content.{IsContent}
 use Rattle.markdown_blocks.specs.events.Events.{seen_leaf}
-use Rattle.page_inlines.specs.labels.Labels.{setting_of}
-use Rattle.page_inlines.specs.printing.Lines.{has_inlines}
-use Rattle.page_inlines.proofs.blocks.BlockLemmas.{content_places}
-use Rattle.page_inlines.proofs.blocks.TextLemmas.{leaf_printed}
+use Rattle.page_inlines.specs.Labels.{setting_of}
+use Rattle.page_inlines.specs.Lines.{has_inlines}
+use Rattle.page_inlines.proofs.BlockLemmas.{content_offsets}
+use Rattle.page_inlines.proofs.TextLemmas.{leaf_printed}
 use Rattle.page_inlines.proofs.blocks.Page.push_leaf.Goals as goal
 
 pub push_content-requires : goal.push_content-requires
 push_content-requires c =
-    content_places c.args.leaf.kind c.args.containers.now c.args.kept (lines_of c.part_of-lines.result.now) c.in_ok-content.content
+    content_offsets c.args.leaf.kind c.args.containers.now c.args.kept (lines_of c.part_of-lines.result.now) c.in_ok-content.content
     c.in_ok-content.ensures.content
 
 pub returns : goal.returns
