@@ -4,6 +4,6 @@ mod LayoutLemmas
 mod LookLemmas
 mod MarkLemmas
 mod OrderLemmas
-mod RunLemmas
+mod UseLemmas
 mod SettledLemmas
 mod SizeLemmas

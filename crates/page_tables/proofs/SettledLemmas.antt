@@ -18,26 +18,26 @@ pub settled_stays : (width : List ℕ → ℕ) (text other : List ℕ) → IsLai
 settled_stays width text other again made =
     let same = one_layout width text made.laid text made.is_laid_out again in
     elim made.is_one [
-      | inl settled ↦ settled.1 ∙ same
+      | inl past_first_line ↦ past_first_line.1 ∙ same
       | inr unsettled ↦ unsettled.1
     ]
 
 module _ (width : List ℕ → ℕ) (page text : List ℕ) (marks others : List MarkView)
     (h : AreMarksOf page marks) (k : AreMarksOf text others) where
-  -- the tables of a settled text are the same
+  -- the tables of a past_first_line text are the same
   pub settled_same : IsSettled width page text → seen_tables page marks ≡ seen_tables text others
-  settled_same settled =
-      let same = settled.same in
+  settled_same past_first_line =
+      let same = past_first_line.same in
       ap (seen_tables page) (one_list_of_marks page marks same.marks h same.are_marks) ∙ same.are_same
       ∙ ap (seen_tables text) (one_list_of_marks text same.others others same.are_others k)
 
   -- it is laid out
   pub settled_again : IsSettled width page text → laid_out width text others ≡ text
-  settled_again settled =
-      let again = settled.again in
+  settled_again past_first_line =
+      let again = past_first_line.again in
       ap (laid_out width text) (one_list_of_marks text others again.marks k again.are_marks) ∙ sym again.is_laid_out
 
-  -- and what has the same tables and is laid out is settled
+  -- and what has the same tables and is laid out is past_first_line
   pub settled_if : IsUtf8 text → seen_tables page marks ≡ seen_tables text others → laid_out width text others ≡ text
       → IsSettled width page text
   settled_if utf8 same again = record {
@@ -51,7 +51,7 @@ module _ (width : List ℕ → ℕ) (page : List ℕ) (marks : List MarkView) (h
   pub same_page : HaveSameTables page page
   same_page = record { marks = marks; others = marks; are_marks = h; are_others = h; are_same = refl }
 
-  -- one that is laid out is settled
+  -- one that is laid out is past_first_line
   pub stays_settled : IsUtf8 page → laid_out width page marks ≡ page → IsMade width page marks page false
   stays_settled utf8 stays =
       inl (subst (λ t. IsSettled width page t) (sym stays) (settled_if width page page marks marks h h utf8 refl stays), sym stays, refl)
@@ -62,7 +62,7 @@ module _ (width : List ℕ → ℕ) (page : List ℕ) (marks : List MarkView) (h
     laid = laid_out width page marks;
     is_laid_out = record { marks = marks; are_marks = h; is_laid_out = refl };
     is_one = elim made [
-      | inl settled ↦ inl (settled.0, settled.1)
+      | inl past_first_line ↦ inl (past_first_line.0, past_first_line.1)
       | inr unsettled ↦ inr (unsettled.0, unsettled.1)
     ];
   }
@@ -70,13 +70,13 @@ module _ (width : List ℕ → ℕ) (page : List ℕ) (marks : List MarkView) (h
   -- it has the same tables
   pub made_same : (text : List ℕ) (left : Bool) → IsMade width page marks text left → HaveSameTables page text
   made_same text left made = elim made [
-    | inl settled ↦ subst (λ t. HaveSameTables page t) (sym settled.1) settled.0.same
+    | inl past_first_line ↦ subst (λ t. HaveSameTables page t) (sym past_first_line.1) past_first_line.0.same
     | inr unsettled ↦ subst (λ t. HaveSameTables page t) (sym unsettled.1) same_page
   ]
 
   -- and if it is not left stays as it is
   pub made_again : (text other : List ℕ) → IsMade width page marks text false → IsFormatted width text other → other ≡ text
   made_again text other made next = elim made [
-    | inl settled ↦ settled_stays width text other (subst (λ t. IsLaidOut width t t) (sym settled.1) settled.0.again) next
+    | inl past_first_line ↦ settled_stays width text other (subst (λ t. IsLaidOut width t t) (sym past_first_line.1) past_first_line.0.again) next
     | inr unsettled ↦ absurd (false≢true unsettled.2)
   ]

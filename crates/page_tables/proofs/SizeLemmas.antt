@@ -303,7 +303,7 @@ module _ (width : List ℕ → ℕ) (page : List ℕ) where
         marks = marks;
         are_marks = made.is_laid_out.are_marks;
         is_bounded = elim made.is_one [
-          | inl settled ↦ omega (arith, ap length settled.1, ap length made.is_laid_out.is_laid_out, laid)
+          | inl past_first_line ↦ omega (arith, ap length past_first_line.1, ap length made.is_laid_out.is_laid_out, laid)
           | inr unsettled ↦ omega (arith, ap length unsettled.1)
         ];
       }

@@ -4,15 +4,12 @@ use Rattle.std.specs.Str.{bytes_eq}
 use Rattle.program_faults.specs.Steps.{AreReads, CantWrite, HasFailed}
 use Rattle.program_faults.specs.declared.reasons.Reason.{Reason}
 use Rattle.program_faults.specs.declared.reasons.Reason.TheVariants as reason
-use Rattle.page_tables.specs.declared.replacing.Refusal.{Refusal}
-use Rattle.page_tables.specs.declared.replacing.Refusal.TheVariants.{Stands, HasChanged, IsCopied}
+use Rattle.page_programs.specs.Files.{AreKept}
+use Rattle.page_programs.specs.declared.stops.Refusal.{Refusal}
+use Rattle.page_programs.specs.declared.stops.Refusal.TheVariants.{Stands, HasChanged, IsCopied}
 
 module _ {F : Type 0} (holds : F → List ℕ → Option (List ℕ)) where
-  -- each file holds what it held
-  abbrev pub AreKept : F → F → Type 0
-  AreKept old new = (name : List ℕ) → holds new name ≡ holds old name
-
-  -- so does each but the one of this name
+  -- each file but the one of this name holds what it held
   abbrev pub AreOthersKept : List ℕ → F → F → Type 0
   AreOthersKept name old new = (other : List ℕ) → other ≢ name → holds new other ≡ holds old other
 

@@ -3,7 +3,6 @@ pub mod Changes
 pub mod Columns
 pub mod Files
 pub mod Formatted
-pub mod Halts
 pub mod Layout
 pub mod Looks
 pub mod Marks
@@ -13,4 +12,4 @@ pub mod Reports
 pub mod Runs
 pub mod Sizes
 pub mod Widths
-pub mod Words
+pub mod Arguments

@@ -1,26 +1,17 @@
-//! Files that are read and replaced by their names.
+//! Files that are replaced by their names.
 ghost use Rattle.std.specs.Prelude.{◌≡◌, ℕ, List, [], Option, Some, None, Result, IfOk, IfErr, IfSome};
 ghost use Rattle.program_faults.specs.declared.reasons.Reason.{Reason};
-ghost use Rattle.page_tables.specs.Files.{AreKept, AreOthersKept};
+ghost use Rattle.page_programs.specs.Files.{AreKept};
+ghost use Rattle.page_tables.specs.Files.{AreOthersKept};
 
-use program_faults::{Reason, StepReader, StepWriter};
+use page_programs::files::OpensFiles;
+use program_faults::{Reason, StepWriter};
 
-/// What reads the files that the command line names, and writes over them. Two names are those of two
-/// files here: what a name that leads to the same file as another holds is not said.
-pub trait ReplacesFiles {
-    /// An open file.
-    type File: StepReader + Drop;
-
+/// What reads the files that the command line names, and writes over them.
+pub trait ReplacesFiles: OpensFiles {
     /// A new file, whose name nothing else has. It can't be let go: it is removed, or left where it
     /// is.
     type NewFile: StepWriter;
-
-    // What the file of a name holds, where that is known.
-    ghost holds: { Self → List ℕ → Option (List ℕ) };
-
-    // From one state to the other by opening the file of this name, or by not opening it for this
-    // reason.
-    ghost opens: { Self → List ℕ → Result Self.File Reason → Self → Type 0 };
 
     // From one state to the other by a step that is refused for this reason: a file is not made, not
     // opened, not written over, or not brought to the disk.
@@ -32,33 +23,26 @@ pub trait ReplacesFiles {
     // Beside the file of this name is one that holds these bytes, all of it on the disk.
     ghost is_beside: { Self → List ℕ → List ℕ → Type 0 };
 
-    /// Opens the file of this name to be read from its front, or answers why it can't.
-    fn open_named(&mut self, name: &str) -> Result<Self::File, Reason>
-        ensures step { opens self.old name.now result self.new }
-        ensures bytes { IfOk result (λ file.
-            Self.File.remaining file ≡ holds self.old name.now) }
-        ensures kept { AreKept holds self.old self.new };
-
-    /// Opens it to be read from its front, and to be written over.
+    /// Opens the file of this name to be read from its front, and to be written over.
     fn open_over(&mut self, name: &str) -> Result<Self::File, Reason>
         ensures bytes { IfOk result (λ file.
-            Self.File.remaining file ≡ holds self.old name.now) }
+            Self.File.remaining file ≡ Self.holds self.old name.now) }
         ensures refused { IfErr result (λ why. refuses self.old why self.new) }
-        ensures kept { AreKept holds self.old self.new };
+        ensures kept { AreKept Self.holds self.old self.new };
 
     /// Makes a new file beside the one of this name, which its owner alone may read.
     fn create_beside(&mut self, name: &str) -> Result<Self::NewFile, Reason>
-        ensures empty { IfOk result (λ file. IfSome (holds self.old name.now) (λ _.
+        ensures empty { IfOk result (λ file. IfSome (Self.holds self.old name.now) (λ _.
             Self.NewFile.contents file ≡ Some [])) }
         ensures refused { IfErr result (λ why. refuses self.old why self.new) }
-        ensures kept { AreKept holds self.old self.new };
+        ensures kept { AreKept Self.holds self.old self.new };
 
     /// Brings all that was written to the new file to the disk.
     fn sync(&mut self, file: &mut Self::NewFile) -> Result<(), Reason>
         ensures synced { IfOk result (λ _. is_synced file.new) }
         ensures refused { IfErr result (λ why. refuses self.old why self.new) }
         ensures bytes { Self.NewFile.contents file.new ≡ Self.NewFile.contents file.old }
-        ensures kept { AreKept holds self.old self.new };
+        ensures kept { AreKept Self.holds self.old self.new };
 
     /// Writes these bytes over all that the file of this name holds, of which there is a copy, and
     /// brings them to the disk. Where that is refused it isn't known what the file holds then.
@@ -70,22 +54,22 @@ pub trait ReplacesFiles {
         bytes: &[u8],
     ) -> Result<(), Reason>
         requires synced { is_synced copy.now }
-        requires copied { IfSome (holds self.old name.now) (λ before.
+        requires copied { IfSome (Self.holds self.old name.now) (λ before.
             Self.NewFile.contents copy.now ≡ Some before) }
         ensures written { IfOk result (λ _. IfSome (Self.NewFile.contents copy.now) (λ _.
-            holds self.new name.now ≡ Some bytes.now)) }
-        ensures unknown { IfErr result (λ _. holds self.new name.now ≡ None) }
+            Self.holds self.new name.now ≡ Some bytes.now)) }
+        ensures unknown { IfErr result (λ _. Self.holds self.new name.now ≡ None) }
         ensures refused { IfErr result (λ why. refuses self.old why self.new) }
-        ensures others { AreOthersKept holds name.now self.old self.new };
+        ensures others { AreOthersKept Self.holds name.now self.old self.new };
 
     /// Removes a new file.
     fn remove(&mut self, file: Self::NewFile)
-        ensures { AreKept holds self.old self.new };
+        ensures { AreKept Self.holds self.old self.new };
 
     /// Leaves a new file where it is, beside the file of this name.
     fn leave(&mut self, file: Self::NewFile, name: &str)
         requires { is_synced file }
         ensures beside { IfSome (Self.NewFile.contents file) (λ bytes.
             is_beside self.new name.now bytes) }
-        ensures kept { AreKept holds self.old self.new };
+        ensures kept { AreKept Self.holds self.old self.new };
 }

@@ -104,7 +104,7 @@ fn is_settled<W: CellWidths>(
     text: &[u8],
 ) -> Result<bool, AllocError>
     requires { AreMarksOf page.now (map mark_view marks.now) }
-    ensures { IfOk result (λ settled. IsTrue settled
+    ensures { IfOk result (λ past_first_line. IsTrue past_first_line
         ↔ IsSettled (W.width widths.now) page.now text.now) }
 {
     let Some(other) = as_text(text) else {

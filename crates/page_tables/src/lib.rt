@@ -1,12 +1,12 @@
 //! What `fillaqut tables` does with pages of Markdown: their tables are laid out.
 #![tactic(auto)]
 
+mod arguments;
 mod cells;
 pub mod changes;
 pub mod columns;
 pub mod files;
 pub mod formatted;
-mod halts;
 mod handling;
 pub mod help;
 mod layout;
@@ -18,6 +18,5 @@ pub mod replacing;
 mod reports;
 mod same;
 pub mod widths;
-mod words;
 
 pub use markdown_blocks::cells::{Cell, Cells, cells_of as scan_cells};

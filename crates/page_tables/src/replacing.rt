@@ -1,23 +1,14 @@
 //! Replacing what a file holds, while a copy of that is beside it.
 ghost use Rattle.std.specs.Prelude.{◌≡◌, ◌≢◌, ◌⊎◌, Some, None, IfOk, IfErr, IfSome};
-ghost use Rattle.page_tables.specs.Files.{AreKept, AreOthersKept, HeldPage, HoldsNow, IsUnreplaced, WasRefused};
+ghost use Rattle.page_programs.specs.Files.{AreKept};
+ghost use Rattle.page_programs.specs.declared.stops.Refusal.{Refusal};
+ghost use Rattle.page_tables.specs.Files.{AreOthersKept, HeldPage, HoldsNow, IsUnreplaced, WasRefused};
 
 use crate::files::ReplacesFiles;
 use page_programs::reading::read_page;
-use page_programs::stops::Stop;
+use page_programs::stops::{Refusal, Stop};
 use program_faults::{Reason, write_bytes};
 use std::alloc::Global;
-
-/// Why a file is not replaced.
-#[derive(Clone, Copy)]
-pub enum Refusal {
-    /// A step is refused, and it stands as it was.
-    Stands(Reason),
-    /// It has changed since it was read, and stands as it is.
-    HasChanged,
-    /// It can neither be written nor be written back. What it held is in the copy beside it.
-    IsCopied(Reason),
-}
 
 /// Replaces what the file of this name holds, which is this page, by these bytes. They are written over
 /// it, so that all else of it stays. First a copy beside it is on the disk, and the file holds the page
@@ -113,7 +104,7 @@ fn open_same<F: ReplacesFiles>(
         }
         Err(Stop::Read(reason) | Stop::Write(reason)) => Err(reason),
         Err(Stop::Memory) => Err(Reason::Memory),
-        Err(Stop::NotText(_)) => unreachable!(),
+        Err(Stop::NotText(_) | Stop::NotReplaced(_)) => unreachable!(),
     }
 }
 

@@ -1,10 +1,10 @@
 use Rattle.std.proofs.Common.{ap, refl, string_bytes, ◌∙◌}
 use Rattle.page_tables.specs.Looks.{made_text}
-use Rattle.page_tables.specs.Words.{is_check}
+use Rattle.page_tables.specs.Arguments.{is_check}
 use Rattle.page_tables.proofs.handling.use_page.Goals as goal
 
-pub returns-in-Ok-write_bytes : goal.returns-in-Ok-write_bytes
-returns-in-Ok-write_bytes g c = rw c.in-Print.is (
+pub returns-in-Ok-write_bytes-clause-used : goal.returns-in-Ok-write_bytes-clause-used
+returns-in-Ok-write_bytes-clause-used g c = rw c.in-Print.is (
   made_text c.args.page.now c.in-Ok-look_at_page.look.made,
   string_bytes c.in-Ok-look_at_page.look.lines,
   (
@@ -19,8 +19,8 @@ returns-in-Ok-write_bytes g c = rw c.in-Print.is (
   ),
 )
 
-pub returns-in-Ok-write_whole : goal.returns-in-Ok-write_whole
-returns-in-Ok-write_whole g c = rw c.in-Check.is (
+pub returns-in-Ok-write_whole-clause-used : goal.returns-in-Ok-write_whole-clause-used
+returns-in-Ok-write_whole-clause-used g c = rw c.in-Check.is (
   made_text c.args.page.now c.in-Ok-look_at_page.look.made,
   string_bytes c.in-Ok-look_at_page.look.lines,
   (
@@ -35,8 +35,8 @@ returns-in-Ok-write_whole g c = rw c.in-Check.is (
   ),
 )
 
-pub returns-in-Ok-replace_with : goal.returns-in-Ok-replace_with
-returns-in-Ok-replace_with g c = rw c.in-Replace.is (
+pub returns-in-Ok-replace_with-clause-used : goal.returns-in-Ok-replace_with-clause-used
+returns-in-Ok-replace_with-clause-used g c = rw c.in-Replace.is (
   made_text c.args.page.now c.in-Ok-look_at_page.look.made,
   string_bytes c.in-Ok-look_at_page.look.lines,
   (
@@ -51,8 +51,8 @@ returns-in-Ok-replace_with g c = rw c.in-Replace.is (
   ),
 )
 
-pub returns-in-Print : goal.returns-in-Print
-returns-in-Print g c = rw c.in-Print.is (
+pub returns-in-Print-clause-used : goal.returns-in-Print-clause-used
+returns-in-Print-clause-used g c = rw c.in-Print.is (
   made_text c.args.page.now c.in-Ok-look_at_page.look.made,
   string_bytes c.in-Ok-look_at_page.look.lines,
   (
@@ -63,12 +63,11 @@ returns-in-Print g c = rw c.in-Print.is (
     },
     rw (c.text.ensures, c.as_bytes.ensures.value) at c.write_bytes.ensures.front,
     refl,
-    c.in-Err.ensures.refused,
   ),
 )
 
-pub returns-in-Check : goal.returns-in-Check
-returns-in-Check g c = rw c.in-Check.is (
+pub returns-in-Check-clause-used : goal.returns-in-Check-clause-used
+returns-in-Check-clause-used g c = rw c.in-Check.is (
   made_text c.args.page.now c.in-Ok-look_at_page.look.made,
   string_bytes c.in-Ok-look_at_page.look.lines,
   (
@@ -79,12 +78,11 @@ returns-in-Check g c = rw c.in-Check.is (
     },
     rw c.as_str-in-Check.ensures.value at c.write_whole.ensures.front,
     refl,
-    c.in-Err-write_whole.ensures.refused,
   ),
 )
 
-pub returns : goal.returns
-returns g c = (
+pub returns-clause-used : goal.returns-clause-used
+returns-clause-used g c = (
   made_text c.args.page.now c.in-Ok-look_at_page.look.made,
   string_bytes c.in-Ok-look_at_page.look.lines,
   (

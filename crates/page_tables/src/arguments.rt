@@ -1,8 +1,8 @@
-//! What the words of the command line ask to do with pages.
+//! What the arguments of the command line ask to do with pages.
 ghost use Rattle.std.specs.Prelude.{◌≡◌};
-ghost use Rattle.page_tables.specs.Words.{is_check, task_for, task_of};
+ghost use Rattle.page_tables.specs.Arguments.{is_check, task_for, task_of};
 
-use page_programs::words::has_option;
+use page_programs::arguments::has_option;
 
 /// What is done with each page.
 #[derive(Clone, Copy)]
@@ -15,14 +15,14 @@ pub enum Task {
     Replace,
 }
 
-/// What the words ask for.
-pub(crate) fn task_of(words: &[&str]) -> Task
-    ensures { result ≡ task_of words.now }
+/// What the arguments ask for.
+pub(crate) fn task_of(arguments: &[&str]) -> Task
+    ensures { result ≡ task_of arguments.now }
 {
-    if has_option(words, "--check") {
+    if has_option(arguments, "--check") {
         return Task::Check;
     }
-    if has_option(words, "--write") {
+    if has_option(arguments, "--write") {
         return Task::Replace;
     }
     Task::Print
