@@ -1,5 +1,4 @@
 mod AnchorLemmas
-mod CheckingLemmas
 mod DefinitionLemmas
 mod LabelSetLemmas
 mod LawLemmas

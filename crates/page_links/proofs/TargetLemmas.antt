@@ -8,7 +8,7 @@ use Rattle.page_links.specs.checks.Checks.{AreTargetReports, IsFileReport, IsPag
 use Rattle.page_links.specs.checks.Checks.{fragment_report, is_front, leads_away, reported}
 use Rattle.page_links.specs.checks.private.Pages.{AreKept}
 use Rattle.page_links.specs.declared.checks.FileState.{FileState}
-use Rattle.page_links.specs.declared.reports.Fault.TheVariants.{NoAnchor}
+use Rattle.page_links.specs.declared.reports.Finding.TheVariants.{NoAnchor}
 use Rattle.page_links.specs.links.Links.{Seen}
 use Rattle.page_links.specs.reports.Reports.{Reported}
 use Rattle.page_links.specs.targets.Targets.{fragment_of, fragment_text, opened_path, path_of}

@@ -1,5 +1,4 @@
 pub mod anchors
-pub mod checking
 pub mod checks
 pub mod definitions
 pub mod headings
@@ -12,4 +11,4 @@ pub mod page
 pub mod printing
 pub mod reports
 pub mod targets
-pub mod words
+pub mod arguments

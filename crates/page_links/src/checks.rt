@@ -3,7 +3,7 @@ ghost use Rattle.std.specs.Prelude.{◌≡◌, ◌++◌, ℕ, List, IfErr, IfOk,
 ghost use Rattle.std.specs.Option.{is_some};
 ghost use Rattle.page_links.specs.checks.Checks.{AreTargetReports, IsFileReport, IsPageReport, IsTargetReport};
 ghost use Rattle.page_links.specs.checks.Checks.{file_report, fragment_report, given, has_path, is_front};
-ghost use Rattle.page_links.specs.checks.Checks.{is_known, leads_away, reported, unread_fault};
+ghost use Rattle.page_links.specs.checks.Checks.{is_known, leads_away, reported, unread_finding};
 ghost use Rattle.page_links.specs.checks.private.Pages.{AreAllKept};
 ghost use Rattle.page_links.specs.declared.checks.FileState.{FileState};
 ghost use Rattle.page_links.specs.links.Links.{seen_link};
@@ -15,7 +15,7 @@ use crate::anchors::Anchors;
 use crate::labels::is_footnote;
 use crate::links::PageLink;
 use crate::printing::LinkForm;
-use crate::reports::{Fault, Report};
+use crate::reports::{Finding, Report};
 use crate::targets::{fragment_of, fragment_text, is_elsewhere, is_page, opened_path, path_of};
 use markdown_values::values::{Extensions, LinkType};
 use program_faults::Reason;
@@ -222,23 +222,23 @@ fn push_unread_report(
     reason: Reason,
 ) -> Result<(), AllocError>
     ensures { OnOk result (map seen_report reports.new.items
-        ≡ map seen_report reports.old.items ++ reported (unread_fault reason) (seen_link link.now)) }
+        ≡ map seen_report reports.old.items ++ reported (unread_finding reason) (seen_link link.now)) }
 {
     if reason == Reason::Memory {
         return Err(AllocError);
     }
-    push_report(alloc, reports, link, unread_fault(reason))
+    push_report(alloc, reports, link, unread_finding(reason))
 }
 
 // Why a page can't be read, by the reason: where no file can have its path, it is not there.
-fn unread_fault(reason: Reason) -> Fault
-    ensures { result ≡ unread_fault reason }
+fn unread_finding(reason: Reason) -> Finding
+    ensures { result ≡ unread_finding reason }
 {
     match reason {
         Reason::NotFound | Reason::NotFolder | Reason::Links | Reason::LongName | Reason::Invalid =>
-            Fault::NoFile,
-        Reason::Denied => Fault::Denied,
-        _ => Fault::Unread,
+            Finding::NoFile,
+        Reason::Denied => Finding::Denied,
+        _ => Finding::Unread,
     }
 }
 
@@ -254,8 +254,8 @@ fn push_state_report(
 {
     match state {
         FileState::There => Ok(()),
-        FileState::Missing => push_report(alloc, reports, link, Fault::NoFile),
-        FileState::Denied => push_report(alloc, reports, link, Fault::Denied),
+        FileState::Missing => push_report(alloc, reports, link, Finding::NoFile),
+        FileState::Denied => push_report(alloc, reports, link, Finding::Denied),
     }
 }
 
@@ -277,7 +277,7 @@ fn push_fragment_report(
     if is_known(anchors, text.as_str()) {
         return Ok(());
     }
-    push_report(alloc, reports, link, Fault::NoAnchor)
+    push_report(alloc, reports, link, Finding::NoAnchor)
 }
 
 // Whether a link has a fragment.
@@ -325,15 +325,15 @@ fn push_report(
     alloc: Global,
     reports: &mut Vec<Report>,
     link: &PageLink,
-    fault: Fault,
+    finding: Finding,
 ) -> Result<(), AllocError>
     ensures { OnOk result (map seen_report reports.new.items
-        ≡ map seen_report reports.old.items ++ reported fault (seen_link link.now)) }
+        ≡ map seen_report reports.old.items ++ reported finding (seen_link link.now)) }
 {
     let text = String::from_str(alloc, link.destination.as_str())?;
     reports.push(Report {
         offset: link.range.start,
-        fault,
+        finding,
         text,
     })?;
     Ok(())

@@ -2,13 +2,13 @@
 ghost use Rattle.std.specs.Prelude.{◌≡◌, ◌++◌, [], ◌∷◌, List, ℕ, drop, map, IfOk, OnOk};
 ghost use Rattle.markdown_values.specs.strings.Text.{cow_text};
 ghost use Rattle.std.specs.Option.{option_map, option_to_list};
-ghost use Rattle.markdown_blocks.specs.containers.Containers.{settled};
+ghost use Rattle.markdown_blocks.specs.containers.Containers.{past_first_line};
 ghost use Rattle.markdown_blocks.specs.events.Events.{Event, seen_event, seen_leaf};
 ghost use Rattle.page_links.specs.definitions.Definitions.{AreDefinedIn, AreDefinitionsIn, Defined, HasDefinition};
 ghost use Rattle.page_links.specs.definitions.Definitions.{IsDefinedBy, IsNamedAt, after_end, is_definition, seen_definition};
 
 use markdown_blocks::blocks::BlockKind;
-use markdown_blocks::containers::{Container, settled};
+use markdown_blocks::containers::{Container, past_first_line};
 use markdown_blocks::definitions::add_content;
 use markdown_blocks::events::{BlockEvent, Blocks, Leaf};
 use markdown_blocks::link_definitions::read_label;
@@ -77,9 +77,9 @@ fn pass_event(
 
 // Begins a container.
 fn begin_container(outer: &mut Vec<Container>, container: Container) -> Result<(), AllocError>
-    ensures { OnOk result (outer.new.items ≡ outer.old.items ++ settled container ∷ []) }
+    ensures { OnOk result (outer.new.items ≡ outer.old.items ++ past_first_line container ∷ []) }
 {
-    outer.push(settled(container))?;
+    outer.push(past_first_line(container))?;
     Ok(())
 }
 
@@ -147,7 +147,7 @@ fn definition_in(
     let mut content = Vec::new(alloc);
     let lines = bytes_from(page, leaf.start);
     add_content(&mut content, lines, leaf.block(), outer, leaf.text)?;
-    named_at(alloc, leaf.place, &content)
+    named_at(alloc, leaf.offset, &content)
 }
 
 // The definition at this offset, of which this is the content.

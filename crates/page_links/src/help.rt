@@ -7,7 +7,7 @@ usage: fillaqut links [--json] [--check] [--root DIR] [-e NAME].. [--gfm] [--] [
 ";
 
 /// What `--version` prints.
-pub const VERSION: &str = "fillaqut 0.1.0\n";
+pub const VERSION: &str = "fillaqut 0.2.0\n";
 
 /// What `--help` prints.
 pub const HELP: &str = "\

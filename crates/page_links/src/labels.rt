@@ -12,7 +12,7 @@ ghost use Rattle.page_links.specs.reports.Reports.{seen_report};
 use crate::definitions::{PageDefinition, definitions_of_page};
 use crate::label_set::LabelSet;
 use crate::links::{PageLink, push_link};
-use crate::reports::{Fault, Report};
+use crate::reports::{Finding, Report};
 use markdown_events::definitions::{Definitions, Target};
 use markdown_events::event_reader::EventReader;
 use markdown_values::strings::CowStr;
@@ -143,7 +143,7 @@ fn push_not_defined(
     if defined.contains(text)? {
         return Ok(());
     }
-    push_report(alloc, reports, link.range.start, Fault::NotDefined, text)
+    push_report(alloc, reports, link.range.start, Finding::NotDefined, text)
 }
 
 // Adds a report.
@@ -151,16 +151,16 @@ fn push_report(
     alloc: Global,
     reports: &mut Vec<Report>,
     offset: usize,
-    fault: Fault,
+    finding: Finding,
     text: &str,
 ) -> Result<(), AllocError>
     ensures { OnOk result (map seen_report reports.new.items ≡ map seen_report reports.old.items
-        ++ record { offset = offset; fault = fault; text = text.now } ∷ []) }
+        ++ record { offset = offset; finding = finding; text = text.now } ∷ []) }
 {
     let text = String::from_str(alloc, text)?;
     reports.push(Report {
         offset,
-        fault,
+        finding,
         text,
     })?;
     Ok(())
@@ -225,14 +225,14 @@ fn push_of_definition(
             alloc,
             reports,
             definition.offset,
-            Fault::DefinedBefore,
+            Finding::DefinedBefore,
             text,
         );
     }
     if used.contains(text)? {
         return Ok(());
     }
-    push_report(alloc, reports, definition.offset, Fault::NotUsed, text)
+    push_report(alloc, reports, definition.offset, Finding::NotUsed, text)
 }
 
 // Whether a definition of this label defines no link: it is a comment, or a footnote.

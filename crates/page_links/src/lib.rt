@@ -2,7 +2,7 @@
 #![tactic(auto)]
 
 pub mod anchors;
-mod checking;
+mod arguments;
 pub mod checks;
 pub mod definitions;
 mod headings;
@@ -17,4 +17,3 @@ mod printing;
 pub mod program;
 pub mod reports;
 mod targets;
-mod words;

@@ -1,142 +1,103 @@
-//! What the program does with its words, its input and its output.
-ghost use Rattle.std.specs.Prelude.{◌≡◌, ◌≢◌, ◌⊎◌, true, false, codes};
-ghost use Rattle.page_programs.specs.Answers.{Answers, fillaqut_texts};
-ghost use Rattle.page_programs.specs.Came.{status_of};
-ghost use Rattle.page_programs.specs.Runs.{PrintsAll};
-ghost use Rattle.page_programs.specs.Texts.{IsRefused, is_unwritten};
-ghost use Rattle.page_programs.specs.Words.{pages_of, request_of};
-ghost use Rattle.page_programs.specs.Worlds.{world};
-ghost use Rattle.page_programs.specs.declared.came.Came.{Came};
-ghost use Rattle.page_programs.specs.declared.words.Request.TheVariants.{Pages};
-ghost use Rattle.page_links.specs.checking.Checking.{ChecksAll};
-ghost use Rattle.page_links.specs.page.Printed.{IsChecked, IsPrintedTo, name_in};
+//! What the program does with its arguments, its input and its output.
+ghost use Rattle.std.specs.Prelude.{false};
+ghost use Rattle.page_programs.specs.Answers.{texts_of};
 ghost use Rattle.page_programs.specs.Extensions.{extensions_of};
-ghost use Rattle.page_links.specs.words.Words.{form_of, is_check, own_options, root_of};
+ghost use Rattle.page_programs.specs.Runs.{IsRun};
+ghost use Rattle.page_programs.specs.Wholes.{PrintsWhole};
+ghost use Rattle.page_links.specs.arguments.Arguments.{form_of, is_check, own_options, root_of};
+ghost use Rattle.page_links.specs.page.Printed.{IsPrinted};
 
+use crate::arguments::{OPTIONS, form_of, is_check, root_of};
 use crate::checks::{Checks, FindsFiles};
 use crate::help::{HELP, USAGE, VERSION};
-use crate::page::{LinkForm, list_of_page, name_in};
-use crate::words::{OPTIONS, form_of, is_check, root_of};
-use markdown_values::values::Extensions;
+use crate::page::{check_of_page, list_of_page, name_in};
 use page_programs::extensions::extensions_of;
 use page_programs::files::OpensFiles;
-use page_programs::pages::PrintsPages;
-use page_programs::program;
-use page_programs::says::Says;
-use page_programs::stops::Stop;
-use page_programs::texts::read_text;
-use page_programs::writing::write_text;
+use page_programs::program::{Command, run_command};
+use page_programs::streams::Streams;
+use page_programs::whole::{PrintsWholePages, Whole};
 use program_faults::{StepReader, StepWriter};
 use std::alloc::{AllocError, Global};
 
-/// Runs the program on its words, without its name, and answers its status.
+/// Runs the program on its arguments, without its name, and answers its status.
 ///
 /// 0: done. 1: `--check`, and something is printed. 2: an option that is not known, and nothing is
 /// read. 3: a page that can't be opened or read, or is refused, or memory that is refused, after which
 /// it goes on with the next page; or output that can't be written, where it stops. Each page is read
 /// whole before its lines are written.
-pub fn run_program<L: FindsFiles, R: StepReader, F: OpensFiles, W: StepWriter, V: StepWriter>(
+pub fn run_program<L, R, F, W, V>(
     alloc: Global,
-    words: &[&str],
     finder: &L,
-    input: &mut R,
-    files: &mut F,
-    output: &mut W,
-    faults: &mut V,
+    arguments: &[&str],
+    streams: &mut Streams<R, F, W, V>,
 ) -> u8
-    ensures status { (result ≡ 0) ⊎ ((result ≡ 1) ⊎ ((result ≡ 2) ⊎ (result ≡ 3))) }
-
-    // An option that is not known, the help and the version.
-    ensures answered { Answers W.contents W.writes V.writes
-        (fillaqut_texts USAGE.now HELP.now VERSION.now) own_options words.now result
-        (world input.old files.old output.old faults.old)
-        (world input.new files.new output.new faults.new) }
-
-    // Pages: all of their links and images, and no others, and what is reported of their labels; or
-    // the faults are given why a page is not printed.
-    ensures printed { result ≢ 2 → request_of words.now ≡ Pages → is_check words.now ≡ false →
-        (came : Came) × (result ≡ status_of came)
-        × PrintsAll (name_in (form_of words.now))
-        (IsPrintedTo (form_of words.now) (extensions_of words.now))
-        is_unwritten (IsRefused false)
-        R.remaining R.reads F.opens F.File.remaining F.File.reads
-        W.contents W.writes V.writes (codes "fillaqut") (pages_of words.now)
-        (world input.old files.old output.old faults.old)
-        (world input.new files.new output.new faults.new) came }
-
-    // Pages that are checked: all that is reported of them; the status says whether anything is.
-    ensures checked { result ≢ 2 → request_of words.now ≡ Pages → is_check words.now ≡ true →
-        (came : Came) × (result ≡ status_of came)
-        × ChecksAll (IsChecked (L.reads finder.now) (extensions_of words.now)
-        (L.finds finder.now) (root_of words.now) (form_of words.now))
-        R.remaining R.reads F.opens F.File.remaining F.File.reads
-        W.contents W.writes V.writes (pages_of words.now)
-        (world input.old files.old output.old faults.old)
-        (world input.new files.new output.new faults.new) came }
-    ensures only_checked { result ≡ 1 →
-        (request_of words.now ≡ Pages) × (is_check words.now ≡ true) }
-
-    // At status 0 and 1 nothing is written to the faults.
-    ensures done { (result ≡ 0) ⊎ (result ≡ 1) → faults.new ≡ faults.old }
+where
+    L: FindsFiles,
+    R: StepReader,
+    F: OpensFiles,
+    F::File: StepReader,
+    W: StepWriter,
+    V: StepWriter,
+    ensures { IsRun (PrintsWhole false (IsPrinted (is_check arguments.now) (L.reads finder.now)
+        (extensions_of arguments.now) (L.finds finder.now) (root_of arguments.now)
+        (form_of arguments.now)) (is_check arguments.now) W.contents)
+        R.remaining R.reads F.opens F.holds F.File.remaining F.File.reads W.writes V.writes W.contents
+        (texts_of USAGE.now HELP.now VERSION.now) own_options (is_check arguments.now) false
+        arguments.now result streams.old streams.new }
 {
-    let says = Says {
-        name: "fillaqut",
+    let says = Command {
         usage: USAGE,
         help: HELP,
         version: VERSION,
+        options: OPTIONS,
     };
-    let form = form_of(words);
-    let setting = extensions_of(words);
-    if is_check(words) {
-        let checks = Checks {
-            finder,
-            root: root_of(words),
-            form,
-            setting,
-        };
-        return program::run_pages(
-            alloc, &says, OPTIONS, &checks, words, input, files, output, faults,
-        );
-    }
-    let links = Links { form, setting };
-    program::run_program(
-        alloc, &says, OPTIONS, &links, words, input, files, output, faults,
-    )
+    let links = Whole {
+        printer: Links {
+            checks: Checks {
+                finder,
+                root: root_of(arguments),
+                form: form_of(arguments),
+                setting: extensions_of(arguments),
+            },
+            is_check: is_check(arguments),
+        },
+    };
+    run_command(alloc, says, &links, arguments, streams)
 }
 
-// What prints the links of pages in this form, which are read in this way.
+// What prints the links of pages, or what is found where they are checked.
 #[derive(Drop)]
-struct Links {
-    form: LinkForm,
-    setting: Extensions,
+struct Links<'l, L> {
+    checks: Checks<'l, L>,
+    is_check: bool,
 }
 
-impl PrintsPages for Links {
+impl<L: FindsFiles> PrintsWholePages for Links<'_, L> {
     ghost use Rattle.std.specs.Prelude.{false};
-    ghost use Rattle.page_programs.specs.Texts.{IsRefused, is_unwritten};
-    ghost use Rattle.page_links.specs.page.Printed.{IsPrintedTo, name_in};
+    ghost use Rattle.page_links.specs.checks.Checks.{given};
+    ghost use Rattle.page_links.specs.page.Printed.{IsPrinted};
 
-    ghost titles = { λ it _. name_in it.form };
+    ghost mends = { λ _. false };
 
-    ghost prints = { λ it. IsPrintedTo it.form it.setting };
+    ghost checks = { λ it. it.is_check };
 
-    ghost begins = { λ _. is_unwritten };
+    ghost is_printed = { λ it. IsPrinted it.is_check (L.reads it.checks.finder.now)
+        it.checks.setting (L.finds it.checks.finder.now) (given it.checks.root) it.checks.form };
 
-    ghost refuses = { λ _. IsRefused false };
-
-    fn make_title(&self, alloc: Global, _pages: usize, name: &str) -> Result<String, AllocError> {
-        name_in(alloc, self.form, name)
+    fn mends_pages(&self) -> bool {
+        false
     }
 
-    fn print_page<R: StepReader, W: StepWriter>(
-        &self,
-        alloc: Global,
-        title: &str,
-        input: &mut R,
-        output: &mut W,
-    ) -> Result<(), Stop> {
-        let page = read_text(alloc, input)?;
-        let text = list_of_page(alloc, title, page.as_str(), self.setting, self.form)?;
-        write_text(output, text.as_str())
+    fn is_check(&self) -> bool {
+        self.is_check
+    }
+
+    fn text_of_page(&self, alloc: Global, name: &str, page: &str) -> Result<String, AllocError> {
+        if self.is_check {
+            return check_of_page(alloc, &self.checks, name, page);
+        }
+        let (form, setting) = (self.checks.form, self.checks.setting);
+        let called = name_in(alloc, form, name)?;
+        list_of_page(alloc, called.as_str(), page, setting, form)
     }
 }

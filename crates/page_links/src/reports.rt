@@ -2,7 +2,7 @@
 
 /// What is wrong.
 #[derive(Clone, Copy, Debug)]
-pub enum Fault {
+pub enum Finding {
     /// A label is used that the page doesn't define.
     NotDefined,
     /// A label is defined that no link of the page uses.
@@ -25,7 +25,7 @@ pub struct Report {
     /// How many bytes of the page stand before what is wrong.
     pub offset: usize,
     /// What is wrong.
-    pub fault: Fault,
+    pub finding: Finding,
     /// The label that is wrong, or the destination.
     pub text: String,
 }

@@ -8,8 +8,8 @@ use Rattle.std.specs.Str.Lossy.{utf8_lossy}
 use Rattle.markdown_values.specs.declared.values.extensions.Extensions.{Extensions}
 use Rattle.markdown_values.specs.declared.values.LinkType.{LinkType}
 use Rattle.markdown_values.specs.declared.values.LinkType.TheVariants as Kind
-use Rattle.page_links.specs.declared.reports.Fault.{Fault}
-use Rattle.page_links.specs.declared.reports.Fault.TheVariants.{NoFile, Denied, Unread, NoAnchor}
+use Rattle.page_links.specs.declared.reports.Finding.{Finding}
+use Rattle.page_links.specs.declared.reports.Finding.TheVariants.{NoFile, Denied, Unread, NoAnchor}
 use Rattle.page_links.specs.declared.checks.FileState.{FileState}
 use Rattle.page_links.specs.declared.checks.FileState.TheVariants as File
 use Rattle.page_links.specs.anchors.Anchors.{AreAnchorsOf, is_among}
@@ -28,8 +28,8 @@ has_path (Kind.WikiLink has_pipe) = false
 has_path kind = true
 
 -- a report of where a link leads
-abbrev pub reported : Fault → Seen → List Reported
-reported fault it = record { offset = it.range.start; fault = fault; text = it.destination } ∷ []
+abbrev pub reported : Finding → Seen → List Reported
+reported finding it = record { offset = it.range.start; finding = finding; text = it.destination } ∷ []
 
 -- a link leads elsewhere where this folder is the root: it has no path, or not one that is looked for, or it is a footnote
 abbrev pub leads_away : Option (List ℕ) → Seen → Bool
@@ -55,14 +55,14 @@ file_report it File.Missing = reported NoFile it
 file_report it File.Denied = reported Denied it
 
 -- why a page can't be read: where no file can have its path, it is not there
-abbrev pub unread_fault : Reason → Fault
-unread_fault Why.NotFound = NoFile
-unread_fault Why.NotFolder = NoFile
-unread_fault Why.Links = NoFile
-unread_fault Why.LongName = NoFile
-unread_fault Why.Invalid = NoFile
-unread_fault Why.Denied = Denied
-unread_fault why = Unread
+abbrev pub unread_finding : Reason → Finding
+unread_finding Why.NotFound = NoFile
+unread_finding Why.NotFolder = NoFile
+unread_finding Why.Links = NoFile
+unread_finding Why.LongName = NoFile
+unread_finding Why.Invalid = NoFile
+unread_finding Why.Denied = Denied
+unread_finding why = Unread
 
 -- the folder that is the root, if one is
 abbrev pub given : Option (Bor (List ℕ)) → Option (List ℕ)
@@ -77,7 +77,7 @@ module _ (reads : List ℕ → Result (List ℕ) Reason → Type 0) (setting : E
   -- What is reported of a link to the page of this path: whether that has the anchor; or why it can't be read.
   pub data IsPageReport (path : List ℕ) (it : Seen) : List Reported → Type 0 where
     is_read : (anchors : List (List ℕ)) → AreAnchorsAt path anchors → IsPageReport path it (fragment_report anchors it (fragment_of it.destination))
-    is_unread : (why : Reason) → reads path (Err why) → IsPageReport path it (reported (unread_fault why) it)
+    is_unread : (why : Reason) → reads path (Err why) → IsPageReport path it (reported (unread_finding why) it)
 
   -- and what may be found of files, of which this folder is the root
   module _ (finds : List ℕ → FileState → Type 0) (root : Option (List ℕ)) where

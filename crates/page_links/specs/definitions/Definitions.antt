@@ -3,7 +3,7 @@ use Rattle.std.specs.Prelude.{ℕ, Bool, true, false, MatchBool, ◌≡◌, ◌�
 use Rattle.markdown_scanners_tree.specs.NoSkips.{SkipsNothing}
 use Rattle.markdown_scanners_tree.specs.linklabel.Label.{Label, HasNoLabelInBytes, IsLabelInBytes}
 use Rattle.markdown_scanners_tree.specs.scanners.TextLines.{lines_of}
-use Rattle.markdown_blocks.specs.containers.Containers.{settled}
+use Rattle.markdown_blocks.specs.containers.Containers.{past_first_line}
 use Rattle.markdown_blocks.specs.declared.blocks.BlockKind.{BlockKind}
 use Rattle.markdown_blocks.specs.declared.blocks.BlockKind.TheVariants.{Definition}
 use Rattle.markdown_blocks.specs.declared.containers.Container.{Container}
@@ -42,7 +42,7 @@ is_definition kind = false
 abbrev pub HasDefinition : List ℕ → List Container → LeafBlock → List Defined → Type 0
 HasDefinition page outer block defined =
     (line : List ℕ) (later : List (List ℕ)) → AreLinesOf page block (line ∷ later)
-    → IsNamedAt block.place (content_in block.kind outer block.text later) defined
+    → IsNamedAt block.offset (content_in block.kind outer block.text later) defined
 
 -- that, if it is a definition; and else nothing
 abbrev pub IsDefinedBy : List ℕ → List Container → LeafBlock → List Defined → Type 0
@@ -55,7 +55,7 @@ after_end outer = take (length outer - 1) outer
 -- What leaf blocks define, in the order of these events, before which these containers are open.
 abbrev pub AreDefinedIn : List ℕ → List Container → List Event → List Defined → Type 0
 AreDefinedIn page outer [] defined = defined ≡ []
-AreDefinedIn page outer (starts container offset ∷ later) defined = AreDefinedIn page (outer ++ settled container ∷ []) later defined
+AreDefinedIn page outer (starts container offset ∷ later) defined = AreDefinedIn page (outer ++ past_first_line container ∷ []) later defined
 AreDefinedIn page outer (ends ∷ later) defined = AreDefinedIn page (after_end outer) later defined
 AreDefinedIn page outer (leaf block ∷ later) defined =
     (here : List Defined) × (rest : List Defined) × IsDefinedBy page outer block here × AreDefinedIn page outer later rest

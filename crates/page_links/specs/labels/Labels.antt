@@ -11,7 +11,7 @@ use Rattle.markdown_events.specs.Targets.{Targets}
 use Rattle.markdown_events.specs.InlineEvents.{RangedEvent}
 use Rattle.markdown_values.specs.declared.values.extensions.Extensions.{Extensions}
 use Rattle.markdown_events.specs.page.PageEvents.{ArePageEventsWith}
-use Rattle.page_links.specs.declared.reports.Fault.TheVariants.{NotDefined, NotUsed, DefinedBefore}
+use Rattle.page_links.specs.declared.reports.Finding.TheVariants.{NotDefined, NotUsed, DefinedBefore}
 use Rattle.page_links.specs.definitions.Definitions.{AreDefinitionsIn, Defined}
 use Rattle.page_links.specs.links.Links.{Seen, link_of}
 use Rattle.page_links.specs.reports.Reports.{Reported}
@@ -66,7 +66,7 @@ needs_definition it = is_full_or_collapsed it.link_type && not (is_footnote it.l
 abbrev pub not_defined : List (List ℕ) → Seen → List Reported
 not_defined labels it =
     if needs_definition it && not (is_among labels it.label)
-    then record { offset = it.range.start; fault = NotDefined; text = it.label } ∷ [] else []
+    then record { offset = it.range.start; finding = NotDefined; text = it.label } ∷ [] else []
 
 -- ---- labels that are defined twice, or not used
 
@@ -78,9 +78,9 @@ is_apart label = is_comment label || is_footnote label
 abbrev pub of_definition : List (List ℕ) → List (List ℕ) → Defined → List Reported
 of_definition used before it =
     if is_apart it.label then []
-    else if is_among before it.label then record { offset = it.offset; fault = DefinedBefore; text = it.label } ∷ []
+    else if is_among before it.label then record { offset = it.offset; finding = DefinedBefore; text = it.label } ∷ []
     else if is_among used it.label then []
-    else record { offset = it.offset; fault = NotUsed; text = it.label } ∷ []
+    else record { offset = it.offset; finding = NotUsed; text = it.label } ∷ []
 
 -- the same of each, after definitions of these labels
 abbrev pub of_definitions : List (List ℕ) → List (List ℕ) → List Defined → List Reported

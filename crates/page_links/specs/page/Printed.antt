@@ -1,6 +1,5 @@
 -- What the program prints of a page: a line for each of its links and images, and of what is reported of its labels, in words or as JSON.
-use Rattle.std.specs.Prelude.{ℕ, ◌≡◌, List, ◌++◌, Option, Result}
-use Rattle.std.specs.Io.KnownBytes.{Appends}
+use Rattle.std.specs.Prelude.{ℕ, Bool, true, false, ◌≡◌, List, ◌++◌, Option, Result}
 use Rattle.std.specs.List.{flat_map}
 use Rattle.std.specs.Str.{IsUtf8}
 use Rattle.markdown_values.specs.declared.values.extensions.Extensions.{Extensions}
@@ -79,14 +78,8 @@ module _ (reads : List ℕ → Result (List ℕ) Reason → Type 0) (setting : E
     pub are_reports : AreReports name page reports
     pub is_list : text ≡ reports_of form (name_in form name) page reports
 
--- each line begins with the name of the page that is checked, and nothing else is printed before it
-abbrev pub by_name : List ℕ → List ℕ
-by_name name = name
-
--- known bytes grow by what is printed of the page that is named so
-abbrev pub IsPrintedTo : LinkForm → Extensions → List ℕ → List ℕ → Option (List ℕ) → Option (List ℕ) → Type 0
-IsPrintedTo form setting name page old new = (text : List ℕ) × IsList form setting name page text × Appends old new text
-
--- known bytes grow by what is printed of the page of this name where it is checked: a text of which this holds
-abbrev pub IsCheckedTo : (List ℕ → List ℕ → List ℕ → Type 0) → List ℕ → List ℕ → Option (List ℕ) → Option (List ℕ) → Type 0
-IsCheckedTo checks name page old new = (text : List ℕ) × checks name page text × Appends old new text
+-- what is printed of the page of this name: its list; or where it is checked what is reported of it
+abbrev pub IsPrinted : Bool → (List ℕ → Result (List ℕ) Reason → Type 0) → Extensions → (List ℕ → FileState → Type 0) → Option (List ℕ)
+    → LinkForm → List ℕ → List ℕ → List ℕ → Type 0
+IsPrinted false reads setting finds root form name page text = IsList form setting (name_in form name) page text
+IsPrinted true reads setting finds root form name page text = IsChecked reads setting finds root form name page text

@@ -2,8 +2,8 @@
 use Rattle.std.specs.Prelude.{ℕ, Bool, true, false, List, [], ◌∷◌, ◌++◌, codes}
 use Rattle.std.specs.Fmt.{decimal}
 use Rattle.markdown_scanners_tree.specs.Ascii.{line_feed}
-use Rattle.page_events.specs.json.Json.{link_members, member, text_json, word_json}
-use Rattle.page_events.specs.printing.Lines.{link_text}
+use Rattle.page_events.specs.Json.{link_members, member, text_json, word_json}
+use Rattle.page_events.specs.Lines.{link_text}
 use Rattle.page_positions.specs.declared.Position.{Position}
 use Rattle.page_links.specs.declared.printing.LinkForm.{LinkForm}
 use Rattle.page_links.specs.declared.printing.LinkForm.TheVariants.{Words, Json}

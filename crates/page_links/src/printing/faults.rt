@@ -1,11 +1,11 @@
 //! The lines of faults in words.
 ghost use Rattle.std.specs.Prelude.{◌≡◌, ◌++◌, OnOk, string_bytes};
-ghost use Rattle.page_events.specs.printing.Lines.{quoted};
-ghost use Rattle.page_links.specs.printing.Faults.{fault_line, fault_words};
+ghost use Rattle.page_events.specs.Lines.{quoted};
+ghost use Rattle.page_links.specs.printing.Faults.{fault_line, finding_words};
 ghost use Rattle.page_links.specs.reports.Reports.{seen_report};
 
 use crate::printing::words::push_position;
-use crate::reports::{Fault, Report};
+use crate::reports::{Finding, Report};
 use page_blocks::info::push_bytes;
 use page_positions::Position;
 use std::alloc::AllocError;
@@ -21,7 +21,7 @@ pub(crate) fn push_fault_line(
         ≡ string_bytes text.old ++ fault_line name.now position (seen_report report.now)) }
 {
     push_position(text, name, position)?;
-    text.push_str(fault_words(report.fault))?;
+    text.push_str(finding_words(report.finding))?;
     push_quoted(text, report.text.as_str())?;
     text.push_str("\n")
 }
@@ -36,16 +36,16 @@ fn push_quoted(text: &mut String, words: &str) -> Result<(), AllocError>
 }
 
 /// What a fault is called.
-pub(crate) fn fault_words(fault: Fault) -> &'static str
-    ensures { result.now ≡ fault_words fault }
+pub(crate) fn finding_words(finding: Finding) -> &'static str
+    ensures { result.now ≡ finding_words finding }
 {
-    match fault {
-        Fault::NotDefined => "label not defined",
-        Fault::NotUsed => "label not used",
-        Fault::DefinedBefore => "label defined before",
-        Fault::NoFile => "no such file",
-        Fault::Denied => "permission denied",
-        Fault::Unread => "can't be read",
-        Fault::NoAnchor => "no such heading",
+    match finding {
+        Finding::NotDefined => "label not defined",
+        Finding::NotUsed => "label not used",
+        Finding::DefinedBefore => "label defined before",
+        Finding::NoFile => "no such file",
+        Finding::Denied => "permission denied",
+        Finding::Unread => "can't be read",
+        Finding::NoAnchor => "no such heading",
     }
 }

@@ -1,15 +1,15 @@
 //! Links and faults as JSON objects.
 ghost use Rattle.std.specs.Prelude.{◌≡◌, ◌++◌, OnOk, codes, string_bytes};
-ghost use Rattle.page_events.specs.json.Json.{member, text_member, word_json};
+ghost use Rattle.page_events.specs.Json.{member, text_member, word_json};
 ghost use Rattle.page_links.specs.links.Links.{seen_link};
 ghost use Rattle.page_links.specs.printing.Lines.{element_member, file_member, link_json, position_members, range_members, shown_as};
-ghost use Rattle.page_links.specs.printing.Faults.{fault_json, fault_words};
+ghost use Rattle.page_links.specs.printing.Faults.{fault_json, finding_words};
 ghost use Rattle.page_links.specs.reports.Reports.{seen_report};
 
 use crate::links::PageLink;
-use crate::printing::faults::fault_words;
+use crate::printing::faults::finding_words;
 use crate::printing::words::shown_as;
-use crate::reports::{Fault, Report};
+use crate::reports::{Finding, Report};
 use page_blocks::info::push_json_text;
 use page_events::json::elements::push_link_members;
 use page_events::json::values::push_word;
@@ -96,17 +96,17 @@ pub(crate) fn push_fault_json(
 {
     push_file(alloc, text, name)?;
     push_position(text, position)?;
-    push_fault_word(text, report.fault)?;
+    push_finding_word(text, report.finding)?;
     push_text(alloc, text, report.text.as_str())?;
     text.push_str("}\n")
 }
 
 // Adds what a fault is called.
-fn push_fault_word(text: &mut String, fault: Fault) -> Result<(), AllocError>
+fn push_finding_word(text: &mut String, finding: Finding) -> Result<(), AllocError>
     ensures { OnOk result (string_bytes text.new
-        ≡ string_bytes text.old ++ member (codes "fault") (word_json (fault_words fault))) }
+        ≡ string_bytes text.old ++ member (codes "fault") (word_json (finding_words finding))) }
 {
-    push_word(text, "fault", fault_words(fault))
+    push_word(text, "fault", finding_words(finding))
 }
 
 // Adds the text that a fault is about.

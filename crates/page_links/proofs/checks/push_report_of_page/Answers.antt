@@ -1,6 +1,6 @@
 use Rattle.std.proofs.Common.{sym}
 use Rattle.std.proofs.lemmas.Result.{on_ok_weaker}
-use Rattle.page_links.specs.checks.Checks.{fragment_report, is_unread, reported, unread_fault}
+use Rattle.page_links.specs.checks.Checks.{fragment_report, is_unread, reported, unread_finding}
 use Rattle.page_links.specs.links.Links.{seen_link}
 use Rattle.page_links.specs.targets.Targets.{fragment_of}
 use Rattle.page_links.proofs.PageLemmas.{one_more_kept}
@@ -24,7 +24,7 @@ pub returns-in-Err-clause-reports : goal.returns-in-Err-clause-reports
 returns-in-Err-clause-reports g c =
     on_ok_weaker c.push_unread_report.result
     (λ more. (
-      reported (unread_fault c.in-Err.reason) (seen_link c.args.link.now),
+      reported (unread_finding c.in-Err.reason) (seen_link c.args.link.now),
       is_unread c.in-Err.reason c.in-Err.ensures.unread,
       more,
     )) c.push_unread_report.ensures

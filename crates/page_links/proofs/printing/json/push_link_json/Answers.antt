@@ -1,5 +1,5 @@
 use Rattle.std.proofs.Common.{ℕ, List, ◌≡◌, ◌++◌, ◌∙◌, ap, append_assoc, codes, string_bytes}
-use Rattle.page_events.specs.json.Json.{link_members}
+use Rattle.page_events.specs.Json.{link_members}
 use Rattle.page_links.specs.links.Links.{seen_link}
 use Rattle.page_links.specs.printing.Lines.{element_member, file_member, position_members, range_members}
 use Rattle.page_links.proofs.TextLemmas.{longer}
