@@ -219,10 +219,10 @@ pub extern "C" fn ours_while(text: &[u8], at: &[usize], rounds: usize) -> u64 {
 pub extern "C" fn ours_rev_while(text: &[u8], at: &[usize], rounds: usize) -> u64 {
     let mut sum: u64 = 0;
     for _ in 0..rounds {
-        for place in at {
-            if *place <= text.len() {
+        for offset in at {
+            if *offset <= text.len() {
                 let word = |c: u8| -> bool { c != b' ' };
-                sum = sum.wrapping_add(scan_rev_while(&text[..*place], word) as u64);
+                sum = sum.wrapping_add(scan_rev_while(&text[..*offset], word) as u64);
             }
         }
     }

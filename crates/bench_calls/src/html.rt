@@ -43,7 +43,7 @@ pub extern "C" fn ours_tag_lines(alloc: Global, text: &[u8], at: &[usize], round
     each_rest(text, at, rounds, &call)
 }
 
-// The guarded scans after all openers outside earlier finds. The places are those just after `<!`
+// The guarded scans after all openers outside earlier finds. The offsets are those just after `<!`
 // and `<?`.
 #[unsafe(no_mangle)]
 pub extern "C" fn ours_inline_html(text: &[u8], at: &[usize], rounds: usize) -> u64 {
@@ -51,13 +51,13 @@ pub extern "C" fn ours_inline_html(text: &[u8], at: &[usize], rounds: usize) -> 
     for _ in 0..rounds {
         let mut guard = HtmlScanGuard::new();
         let mut end = 0;
-        for place in at {
-            let place = *place;
-            if place >= end && place > 0 && place <= text.len() {
-                let found = if text[place - 1] == b'!' {
-                    scan_inline_html_comment(text, place, &mut guard)
+        for offset in at {
+            let offset = *offset;
+            if offset >= end && offset > 0 && offset <= text.len() {
+                let found = if text[offset - 1] == b'!' {
+                    scan_inline_html_comment(text, offset, &mut guard)
                 } else {
-                    scan_inline_html_processing(text, place, &mut guard)
+                    scan_inline_html_processing(text, offset, &mut guard)
                 };
                 if let Some(next) = found {
                     end = next;
@@ -75,8 +75,8 @@ pub extern "C" fn ours_inline_html_run(text: &[u8], at: &[usize], rounds: usize)
     let mut sum: u64 = 0;
     for _ in 0..rounds {
         let mut run = InlineHtmlRun::new(text);
-        for place in at {
-            if let Ok(found) = run.step(*place) {
+        for offset in at {
+            if let Ok(found) = run.step(*offset) {
                 sum = sum.wrapping_add(count(found));
             }
         }

@@ -1,6 +1,6 @@
 //! Entities, unescaping, link destinations, autolinks and wikilinks.
 
-use crate::loops::{bit, count, each_place, each_rest, each_stretch, two};
+use crate::loops::{bit, count, each_offset, each_rest, each_stretch, two};
 use html_entities::HtmlEntities;
 use markdown_scanners_tree::scanners::*;
 use markdown_values::strings::CowStr;
@@ -100,11 +100,11 @@ pub extern "C" fn ours_unescape_html(
     each_stretch(text, at, rounds, &call)
 }
 
-fn destination(text: &str, place: usize, parentheses: usize) -> u64 {
-    if !text.is_char_boundary(place) {
+fn destination(text: &str, offset: usize, parentheses: usize) -> u64 {
+    if !text.is_char_boundary(offset) {
         return 0;
     }
-    match scan_link_dest(text, place, parentheses) {
+    match scan_link_dest(text, offset, parentheses) {
         Some((n, destination)) => two(n, destination.len() as u64),
         None => 0,
     }
@@ -112,41 +112,41 @@ fn destination(text: &str, place: usize, parentheses: usize) -> u64 {
 
 #[unsafe(no_mangle)]
 pub extern "C" fn ours_link_dest(text: &[u8], at: &[usize], rounds: usize) -> u64 {
-    let call = |text: &str, place: usize| -> u64 { destination(text, place, 32) };
-    each_place(text, at, rounds, &call)
+    let call = |text: &str, offset: usize| -> u64 { destination(text, offset, 32) };
+    each_offset(text, at, rounds, &call)
 }
 
 // With no limit on parentheses.
 #[unsafe(no_mangle)]
 pub extern "C" fn ours_link_dest_deep(text: &[u8], at: &[usize], rounds: usize) -> u64 {
-    let call = |text: &str, place: usize| -> u64 { destination(text, place, usize::MAX) };
-    each_place(text, at, rounds, &call)
+    let call = |text: &str, offset: usize| -> u64 { destination(text, offset, usize::MAX) };
+    each_offset(text, at, rounds, &call)
 }
 
 #[unsafe(no_mangle)]
 pub extern "C" fn ours_autolink(text: &[u8], at: &[usize], rounds: usize) -> u64 {
-    let call = |text: &str, place: usize| -> u64 {
-        if !text.is_char_boundary(place) {
+    let call = |text: &str, offset: usize| -> u64 {
+        if !text.is_char_boundary(offset) {
             return 0;
         }
-        match scan_autolink(text, place) {
+        match scan_autolink(text, offset) {
             Some((n, uri, _)) => two(n, uri.as_str().len() as u64),
             None => 0,
         }
     };
-    each_place(text, at, rounds, &call)
+    each_offset(text, at, rounds, &call)
 }
 
 #[unsafe(no_mangle)]
 pub extern "C" fn ours_wikilink(text: &[u8], at: &[usize], rounds: usize) -> u64 {
-    let call = |text: &str, place: usize| -> u64 {
-        if !text.is_char_boundary(place) {
+    let call = |text: &str, offset: usize| -> u64 {
+        if !text.is_char_boundary(offset) {
             return 0;
         }
-        match scan_wikilink_pipe(text, place, 80) {
+        match scan_wikilink_pipe(text, offset, 80) {
             Some((n, label)) => two(n, label.len() as u64),
             None => 0,
         }
     };
-    each_place(text, at, rounds, &call)
+    each_offset(text, at, rounds, &call)
 }

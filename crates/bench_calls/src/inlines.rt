@@ -39,7 +39,7 @@ fn counted(inlines: &[Inline]) -> u64 {
     two(inlines.len(), leaves as u64)
 }
 
-// The sum of what a finder finds in each stretch of a text between two of the places; 0 for bytes
+// The sum of what a finder finds in each stretch of a text between two of the offsets; 0 for bytes
 // that are no UTF-8.
 fn found<L: Labels>(alloc: Global, text: &[u8], at: &[usize], rounds: usize, labels: &L) -> u64 {
     let Ok(text) = str::from_utf8(text) else {
@@ -49,8 +49,8 @@ fn found<L: Labels>(alloc: Global, text: &[u8], at: &[usize], rounds: usize, lab
     let mut sum: u64 = 0;
     for _ in 0..rounds {
         let mut from = 0;
-        for place in at {
-            let to = *place;
+        for offset in at {
+            let to = *offset;
             if from <= to && text.is_char_boundary(from) && text.is_char_boundary(to) {
                 sum = sum.wrapping_add(next(alloc, &mut finder, &text[from..to], labels));
             }

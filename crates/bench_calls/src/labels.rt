@@ -1,20 +1,20 @@
 //! Link labels.
 ghost use Rattle.std.specs.Prelude.{◌≡◌, Some};
 
-use crate::loops::{bit, each_place, each_stretch, two};
+use crate::loops::{bit, each_offset, each_stretch, two};
 use markdown_scanners_tree::linklabel::{LinkLabel, scan_link_label_rest};
 use markdown_values::strings::CowStr;
 use std::alloc::{AllocError, Global};
 use std::hash::{DefaultHasher, Hash, Hasher};
 
-fn label_answer(alloc: Global, text: &str, place: usize, is_in_table: bool) -> u64 {
-    if !text.is_char_boundary(place) {
+fn label_answer(alloc: Global, text: &str, offset: usize, is_in_table: bool) -> u64 {
+    if !text.is_char_boundary(offset) {
         return 0;
     }
     let handler = |_rest: &[u8]| -> Option<usize>
         ensures { result ≡ Some 0 }
     { Some(0) };
-    match scan_link_label_rest(alloc, &text[place..], &handler, is_in_table) {
+    match scan_link_label_rest(alloc, &text[offset..], &handler, is_in_table) {
         Ok(Some((n, label))) => two(n, label.as_str().len() as u64)
             .wrapping_mul(2)
             .wrapping_add(bit(matches!(&label, CowStr::Borrowed(_)))),
@@ -24,14 +24,14 @@ fn label_answer(alloc: Global, text: &str, place: usize, is_in_table: bool) -> u
 
 #[unsafe(no_mangle)]
 pub extern "C" fn ours_label(alloc: Global, text: &[u8], at: &[usize], rounds: usize) -> u64 {
-    let call = |text: &str, place: usize| -> u64 { label_answer(alloc, text, place, false) };
-    each_place(text, at, rounds, &call)
+    let call = |text: &str, offset: usize| -> u64 { label_answer(alloc, text, offset, false) };
+    each_offset(text, at, rounds, &call)
 }
 
 #[unsafe(no_mangle)]
 pub extern "C" fn ours_label_table(alloc: Global, text: &[u8], at: &[usize], rounds: usize) -> u64 {
-    let call = |text: &str, place: usize| -> u64 { label_answer(alloc, text, place, true) };
-    each_place(text, at, rounds, &call)
+    let call = |text: &str, offset: usize| -> u64 { label_answer(alloc, text, offset, true) };
+    each_offset(text, at, rounds, &call)
 }
 
 // Not inlined, so that the whole label is made.
@@ -53,12 +53,12 @@ fn hash_of(label: &LinkLabel) -> u64 {
     state.finish()
 }
 
-// A label for each stretch of the text between two of the places.
+// A label for each stretch of the text between two of the offsets.
 fn built<'a>(alloc: Global, text: &'a str, at: &[usize]) -> Result<Vec<LinkLabel<'a>>, AllocError> {
     let mut labels = Vec::new(alloc);
     let mut from = 0;
-    for place in at {
-        let to = *place;
+    for offset in at {
+        let to = *offset;
         if from <= to && text.is_char_boundary(from) && text.is_char_boundary(to) {
             labels.push(LinkLabel::new(alloc, CowStr::from(&text[from..to]))?)?;
         }

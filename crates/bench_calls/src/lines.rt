@@ -4,7 +4,7 @@ ghost use Rattle.std.specs.Prelude.{◌≡◌};
 use crate::loops::{bit, each_rest, two};
 use markdown_scanners_tree::line::LineStart;
 
-fn place_of(line: &LineStart) -> u64 {
+fn offset_of(line: &LineStart) -> u64 {
     two(line.bytes_scanned(), line.remaining_space() as u64)
 }
 
@@ -14,7 +14,7 @@ pub extern "C" fn ours_line_quote(text: &[u8], at: &[usize], rounds: usize) -> u
         let mut line = LineStart::new(b);
         line.scan_space_upto(3);
         let quote = line.scan_blockquote_marker();
-        place_of(&line).wrapping_mul(2).wrapping_add(bit(quote))
+        offset_of(&line).wrapping_mul(2).wrapping_add(bit(quote))
     };
     each_rest(text, at, rounds, &call)
 }
@@ -35,7 +35,7 @@ pub extern "C" fn ours_line_list(text: &[u8], at: &[usize], rounds: usize) -> u6
     let call = |b: &[u8]| -> u64 {
         let mut line = LineStart::new(b);
         let answer = list_answer(&mut line);
-        place_of(&line).wrapping_mul(3).wrapping_add(answer)
+        offset_of(&line).wrapping_mul(3).wrapping_add(answer)
     };
     each_rest(text, at, rounds, &call)
 }
@@ -48,7 +48,7 @@ pub extern "C" fn ours_line_task(text: &[u8], at: &[usize], rounds: usize) -> u6
             Some(checked) => bit(checked).wrapping_add(1),
             None => 0,
         };
-        place_of(&line).wrapping_mul(3).wrapping_add(answer)
+        offset_of(&line).wrapping_mul(3).wrapping_add(answer)
     };
     each_rest(text, at, rounds, &call)
 }
@@ -61,7 +61,7 @@ pub extern "C" fn ours_line_definition(text: &[u8], at: &[usize], rounds: usize)
             Some(n) => n as u64,
             None => 0,
         };
-        place_of(&line).wrapping_mul(3).wrapping_add(answer)
+        offset_of(&line).wrapping_mul(3).wrapping_add(answer)
     };
     each_rest(text, at, rounds, &call)
 }
@@ -74,7 +74,7 @@ pub extern "C" fn ours_line_tag(text: &[u8], at: &[usize], rounds: usize) -> u64
             Some(kind) => u64::from(kind.number()),
             None => 0,
         };
-        place_of(&line).wrapping_mul(3).wrapping_add(answer)
+        offset_of(&line).wrapping_mul(3).wrapping_add(answer)
     };
     each_rest(text, at, rounds, &call)
 }
@@ -89,7 +89,7 @@ pub extern "C" fn ours_line_space(text: &[u8], at: &[usize], rounds: usize) -> u
                 break;
             }
         }
-        place_of(&line)
+        offset_of(&line)
     };
     each_rest(text, at, rounds, &call)
 }
@@ -99,7 +99,7 @@ pub extern "C" fn ours_line_upto(text: &[u8], at: &[usize], rounds: usize) -> u6
     let call = |b: &[u8]| -> u64 {
         let mut line = LineStart::new(b);
         let n = line.scan_space_upto(1000000000);
-        place_of(&line).wrapping_add(n as u64)
+        offset_of(&line).wrapping_add(n as u64)
     };
     each_rest(text, at, rounds, &call)
 }
@@ -110,7 +110,7 @@ pub extern "C" fn ours_line_all(text: &[u8], at: &[usize], rounds: usize) -> u64
         let mut line = LineStart::new(b);
         line.scan_all_space();
         let eol = line.is_at_eol();
-        place_of(&line).wrapping_mul(2).wrapping_add(bit(eol))
+        offset_of(&line).wrapping_mul(2).wrapping_add(bit(eol))
     };
     each_rest(text, at, rounds, &call)
 }
@@ -139,7 +139,7 @@ pub extern "C" fn ours_line_containers(text: &[u8], at: &[usize], rounds: usize)
         }
         line.scan_all_space();
         let eol = line.is_at_eol();
-        sum.wrapping_add(place_of(&line)).wrapping_add(bit(eol))
+        sum.wrapping_add(offset_of(&line)).wrapping_add(bit(eol))
     };
     each_rest(text, at, rounds, &call)
 }

@@ -1,7 +1,7 @@
-//! The loops over places, and what the sums are made of.
+//! The loops over offsets, and what the sums are made of.
 ghost use Rattle.std.specs.Prelude.{◌≡◌};
 
-/// The sum of a call's answers for what follows each place, so many rounds.
+/// The sum of a call's answers for what follows each offset, so many rounds.
 pub(crate) fn each_rest<F: Fn(&[u8]) -> u64>(
     text: &[u8],
     at: &[usize],
@@ -12,17 +12,17 @@ pub(crate) fn each_rest<F: Fn(&[u8]) -> u64>(
 {
     let mut sum: u64 = 0;
     for _ in 0..rounds {
-        for place in at {
-            if *place <= text.len() {
-                sum = sum.wrapping_add(call(&text[*place..]));
+        for offset in at {
+            if *offset <= text.len() {
+                sum = sum.wrapping_add(call(&text[*offset..]));
             }
         }
     }
     sum
 }
 
-/// The sum of a call's answers for a text and each place in it; 0 for bytes that are no UTF-8.
-pub(crate) fn each_place<F: Fn(&str, usize) -> u64>(
+/// The sum of a call's answers for a text and each offset in it; 0 for bytes that are no UTF-8.
+pub(crate) fn each_offset<F: Fn(&str, usize) -> u64>(
     text: &[u8],
     at: &[usize],
     rounds: usize,
@@ -35,14 +35,14 @@ pub(crate) fn each_place<F: Fn(&str, usize) -> u64>(
     };
     let mut sum: u64 = 0;
     for _ in 0..rounds {
-        for place in at {
-            sum = sum.wrapping_add(call(text, *place));
+        for offset in at {
+            sum = sum.wrapping_add(call(text, *offset));
         }
     }
     sum
 }
 
-/// The sum of a call's answers for each stretch of a text between two of the places; 0 for bytes
+/// The sum of a call's answers for each stretch of a text between two of the offsets; 0 for bytes
 /// that are no UTF-8.
 pub(crate) fn each_stretch<F: Fn(&str) -> u64>(
     text: &[u8],
@@ -58,8 +58,8 @@ pub(crate) fn each_stretch<F: Fn(&str) -> u64>(
     let mut sum: u64 = 0;
     for _ in 0..rounds {
         let mut from = 0;
-        for place in at {
-            let to = *place;
+        for offset in at {
+            let to = *offset;
             if from <= to && text.is_char_boundary(from) && text.is_char_boundary(to) {
                 sum = sum.wrapping_add(call(&text[from..to]));
             }

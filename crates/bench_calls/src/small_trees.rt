@@ -92,7 +92,7 @@ fn cut(alloc: Global) -> Result<u64, AllocError> {
     Ok(focus(&tree))
 }
 
-// The sum of the answers, once for each place.
+// The sum of the answers, once for each offset.
 fn each_time<F: Fn() -> Result<u64, AllocError>>(at: &[usize], rounds: usize, call: &F) -> u64
     requires { F.IsAlwaysCallable call.now }
 {

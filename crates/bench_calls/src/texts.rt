@@ -27,7 +27,7 @@ fn made<'a>(alloc: Global, text: &'a str, kind: usize) -> Result<CowStr<'a>, All
     CowStr::from_string(alloc, String::from_str(alloc, text)?)
 }
 
-// A text for each stretch between two of the places.
+// A text for each stretch between two of the offsets.
 fn built<'a>(
     alloc: Global,
     text: &'a str,
@@ -36,8 +36,8 @@ fn built<'a>(
 ) -> Result<Vec<CowStr<'a>>, AllocError> {
     let mut texts = Vec::new(alloc);
     let mut from = 0;
-    for place in at {
-        let to = *place;
+    for offset in at {
+        let to = *offset;
         if from <= to && text.is_char_boundary(from) && text.is_char_boundary(to) {
             texts.push(made(alloc, &text[from..to], kind)?)?;
         }
@@ -95,12 +95,12 @@ pub extern "C" fn ours_clone_boxed(alloc: Global, text: &[u8], at: &[usize], rou
     cloned(alloc, text, at, rounds, 2)
 }
 
-// Each stretch of the text between two of the places, with nothing lent.
+// Each stretch of the text between two of the offsets, with nothing lent.
 fn kept(alloc: Global, text: &str, at: &[usize]) -> Result<u64, AllocError> {
     let mut texts = Vec::with_capacity(alloc, at.len())?;
     let mut from = 0;
-    for place in at {
-        let to = *place;
+    for offset in at {
+        let to = *offset;
         if from <= to && text.is_char_boundary(from) && text.is_char_boundary(to) {
             texts.push(CowStr::from(&text[from..to]).into_static(alloc)?)?;
         }

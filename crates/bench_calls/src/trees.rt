@@ -78,7 +78,7 @@ fn walked(tree: &mut Tree<Item>, nodes: usize) -> u64 {
     sum
 }
 
-// The first place is how many nodes.
+// The first offset is how many nodes.
 #[unsafe(no_mangle)]
 pub extern "C" fn ours_tree_flat(alloc: Global, _text: &[u8], at: &[usize], rounds: usize) -> u64 {
     let mut sum: u64 = 0;

@@ -1,7 +1,7 @@
 //! What the program says of itself.
 
 /// Its name and version.
-pub(crate) const VERSION: &str = "fillaqut 0.1.0\n";
+pub(crate) const VERSION: &str = "fillaqut 0.2.0\n";
 
 /// How it is called.
 pub(crate) const USAGE: &str = "\

@@ -9,14 +9,13 @@ mod replaced_files;
 use commands::{Command, command_named};
 use help::{HELP, USAGE, VERSION};
 use page_files::PageFiles;
-use page_programs::stops::report_stop;
+use page_programs::program::print_text;
+use page_programs::streams::{Outputs, Streams};
 use page_programs::values::join_values;
-use page_programs::writing::write_text;
 use program_faults::{StepWriter, complain};
-use replaced_files::ReplacedFiles;
 use std::alloc::{AllocError, Global};
 use std::env;
-use std::io::{self, ErrorKind};
+use std::io::{self, ErrorKind, Stderr, Stdin, Stdout};
 use std::process::ExitCode;
 
 const OUT_OF_MEMORY: &str = "fillaqut: out of memory\n";
@@ -26,7 +25,7 @@ const UNKNOWN: u8 = 2;
 
 const NOT_DONE: u8 = 3;
 
-// What is said where the words can't be had.
+// What is said where the arguments can't be had.
 fn words_fault(error: io::Error) -> &'static str {
     match error.kind() {
         ErrorKind::OutOfMemory => OUT_OF_MEMORY,
@@ -40,7 +39,7 @@ fn stop<V: StepWriter>(faults: &mut V, why: &str) -> u8 {
     NOT_DONE
 }
 
-// The words.
+// The arguments.
 fn words_of<'a>(alloc: Global, texts: &'a [String]) -> Result<Vec<&'a str>, AllocError> {
     texts
         .iter()
@@ -48,62 +47,42 @@ fn words_of<'a>(alloc: Global, texts: &'a [String]) -> Result<Vec<&'a str>, Allo
         .collect::<Vec<&str>>(alloc)
 }
 
-// Runs a command on the words after it.
-fn run_command<V: StepWriter>(
+// The streams of the program.
+type Host<'a> = Streams<Stdin, PageFiles<'a>, Stdout, Stderr>;
+
+// Runs a command on the arguments after it.
+fn run_named(
     rt: &HostRuntime,
     command: Command,
     texts: &[String],
-    faults: &mut V,
+    streams: &mut Host<'_>,
 ) -> Result<u8, AllocError> {
     let alloc = rt.alloc();
     let texts = join_values(alloc, texts)?;
-    let words = words_of(alloc, &texts)?;
-    let (mut input, mut output) = (rt.stdin(), rt.stdout());
-    let (input, output) = (&mut input, &mut output);
-    let files = &mut PageFiles(rt);
+    let arguments = words_of(alloc, &texts)?;
     Ok(match command {
-        Command::Html => {
-            page_html::program::run_program(alloc, &words, input, files, output, faults)
-        }
+        Command::Html => page_html::program::run_program(alloc, &arguments, streams),
         Command::Events(form) => {
-            page_events::program::run_program(alloc, form, &words, input, files, output, faults)
+            page_events::program::run_program(alloc, form, &arguments, streams)
         }
-        Command::Blocks => {
-            page_blocks::program::run_program(alloc, &words, input, files, output, faults)
-        }
-        Command::Inlines => {
-            page_inlines::program::run_program(alloc, &words, input, files, output, faults)
-        }
+        Command::Blocks => page_blocks::program::run_program(alloc, &arguments, streams),
+        Command::Inlines => page_inlines::program::run_program(alloc, &arguments, streams),
         Command::Links => {
-            let finder = &PageFiles(rt);
-            page_links::program::run_program(alloc, &words, finder, input, files, output, faults)
+            page_links::program::run_program(alloc, &PageFiles(rt), &arguments, streams)
         }
-        _ => {
-            let files = &mut ReplacedFiles(rt);
-            page_tables::program::run_program(alloc, &words, input, files, output, faults)
-        }
+        Command::Tables => page_tables::program::run_program(alloc, &arguments, streams),
     })
 }
 
-// Prints a text that is no page's.
-fn print_text<V: StepWriter>(rt: &HostRuntime, text: &str, faults: &mut V) -> u8 {
-    match write_text(&mut rt.stdout(), text) {
-        Ok(()) => 0,
-        Err(stop) => {
-            report_stop("fillaqut", faults, "", stop);
-            NOT_DONE
-        }
-    }
-}
-
 // What is answered to a first word that is no command.
-fn answer<V: StepWriter>(rt: &HostRuntime, word: &str, faults: &mut V) -> u8 {
+fn answer(word: &str, streams: &mut Host<'_>) -> u8 {
     if word == "-h" || word == "--help" {
-        return print_text(rt, HELP, faults);
+        return print_text(&mut streams.outputs, HELP);
     }
     if word == "--version" {
-        return print_text(rt, VERSION, faults);
+        return print_text(&mut streams.outputs, VERSION);
     }
+    let faults = &mut streams.outputs.faults;
     complain(faults, "fillaqut: unknown command ");
     complain(faults, word);
     complain(faults, "\n");
@@ -111,29 +90,38 @@ fn answer<V: StepWriter>(rt: &HostRuntime, word: &str, faults: &mut V) -> u8 {
     UNKNOWN
 }
 
-// Does what the words ask for, and answers the status.
-fn run<V: StepWriter>(rt: &HostRuntime, texts: &[String], faults: &mut V) -> u8 {
+// Does what the arguments ask for, and answers the status.
+fn run(rt: &HostRuntime, texts: &[String], streams: &mut Host<'_>) -> u8 {
     let Some((first, rest)) = texts.split_first() else {
-        complain(faults, USAGE);
+        complain(&mut streams.outputs.faults, USAGE);
         return UNKNOWN;
     };
     let Some(command) = command_named(first.as_str()) else {
-        return answer(rt, first.as_str(), faults);
+        return answer(first.as_str(), streams);
     };
-    match run_command(rt, command, rest, faults) {
+    match run_named(rt, command, rest, streams) {
         Ok(status) => status,
-        Err(_) => stop(faults, OUT_OF_MEMORY),
+        Err(_) => stop(&mut streams.outputs.faults, OUT_OF_MEMORY),
     }
 }
 
 fn main(rt: HostRuntime) -> ExitCode {
-    let mut faults = rt.stderr();
+    let mut streams = Streams {
+        input: rt.stdin(),
+        outputs: Outputs {
+            files: PageFiles(&rt),
+            output: rt.stdout(),
+            faults: rt.stderr(),
+        },
+    };
     let arguments = match env::args(&rt) {
         Ok(arguments) => arguments,
-        Err(error) => return ExitCode::from(stop(&mut faults, words_fault(error))),
+        Err(error) => {
+            return ExitCode::from(stop(&mut streams.outputs.faults, words_fault(error)));
+        }
     };
     let Ok(texts) = arguments.skip(1).collect::<Vec<String>>(rt.alloc()) else {
-        return ExitCode::from(stop(&mut faults, OUT_OF_MEMORY));
+        return ExitCode::from(stop(&mut streams.outputs.faults, OUT_OF_MEMORY));
     };
-    ExitCode::from(run(&rt, &texts, &mut faults))
+    ExitCode::from(run(&rt, &texts, &mut streams))
 }

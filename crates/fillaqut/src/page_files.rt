@@ -2,7 +2,7 @@
 
 use page_links::checks::{FileState, FindsFiles};
 use page_programs::files::OpensFiles;
-use program_faults::{Reason, reason_of};
+use program_faults::{Reason, reason_of_error};
 use std::alloc::AllocError;
 use std::fs::{self, File};
 use std::io::ErrorKind;
@@ -12,16 +12,18 @@ use std::io::ErrorKind;
 pub struct PageFiles<'a>(pub &'a HostRuntime);
 
 impl OpensFiles for PageFiles<'_> {
-    ghost use Rattle.std.specs.Prelude.{⊤};
+    ghost use Rattle.std.specs.Prelude.{⊤, None};
 
     type File = File;
+
+    ghost holds = { λ _ _. None };
 
     ghost opens = { λ _ _ _ _. ⊤ };
 
     fn open_named(&mut self, name: &str) -> Result<File, Reason> {
         match File::open(self.0, name) {
             Ok(file) => Ok(file),
-            Err(error) => Err(reason_of(error.kind())),
+            Err(error) => Err(reason_of_error(&error)),
         }
     }
 }
@@ -51,7 +53,7 @@ impl FindsFiles for PageFiles<'_> {
     fn read_file(&self, path: &str) -> Result<Vec<u8>, Reason> {
         match fs::read(self.0, path) {
             Ok(bytes) => Ok(bytes),
-            Err(error) => Err(reason_of(error.kind())),
+            Err(error) => Err(reason_of_error(&error)),
         }
     }
 }

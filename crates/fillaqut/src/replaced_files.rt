@@ -1,7 +1,8 @@
 //! The files that tables are laid out in.
 
+use crate::page_files::PageFiles;
 use page_tables::files::ReplacesFiles;
-use program_faults::{Reason, reason_of};
+use program_faults::{Reason, reason_of_error};
 use std::fs::{self, File, OpenOptions};
 use std::io::{self, ErrorKind, Write};
 use std::os::unix::fs::{FileExt, OpenOptionsExt};
@@ -11,10 +12,6 @@ const NAMES: u8 = 100;
 
 // A new file may be read by its owner alone, whoever may read the one that it is beside.
 const OWNER_ALONE: u32 = 0o600;
-
-/// The files of the system. No clause says what they hold.
-#[derive(Drop)]
-pub struct ReplacedFiles<'a>(pub &'a HostRuntime);
 
 /// A new file, the folder that it is in, and its path.
 pub struct NewFile {
@@ -33,26 +30,16 @@ impl Write for NewFile {
     }
 }
 
-impl ReplacesFiles for ReplacedFiles<'_> {
-    ghost use Rattle.std.specs.Prelude.{⊤, None};
-
-    type File = File;
+impl ReplacesFiles for PageFiles<'_> {
+    ghost use Rattle.std.specs.Prelude.{⊤};
 
     type NewFile = NewFile;
-
-    ghost holds = { λ _ _. None };
-
-    ghost opens = { λ _ _ _ _. ⊤ };
 
     ghost refuses = { λ _ _ _. ⊤ };
 
     ghost is_synced = { λ _. ⊤ };
 
     ghost is_beside = { λ _ _ _. ⊤ };
-
-    fn open_named(&mut self, name: &str) -> Result<File, Reason> {
-        reasoned(File::open(self.0, name))
-    }
 
     fn open_over(&mut self, name: &str) -> Result<File, Reason> {
         reasoned(open_over(self.0, name))
@@ -91,7 +78,7 @@ impl ReplacesFiles for ReplacedFiles<'_> {
 fn reasoned<T>(answer: io::Result<T>) -> Result<T, Reason> {
     match answer {
         Ok(found) => Ok(found),
-        Err(error) => Err(reason_of(error.kind())),
+        Err(error) => Err(reason_of_error(&error)),
     }
 }
 

@@ -5,20 +5,20 @@ use Rattle.markdown_scanners_tree.specs.line.Outcome.{after_quote, item_outcome,
 
 -- the start of a line
 abbrev pub start_of : List ℕ → LineState
-start_of line = record { bytes = line; place = 0; pending = 0; phase = 0 }
+start_of line = record { bytes = line; offset = 0; pending = 0; phase = 0 }
 
--- the place after at most three spaces and the marker of a block quote
-unfoldable pub behind_quote : LineState → LineState
-behind_quote start = after_quote (after_space 3 start)
+-- the offset after at most three spaces and the marker of a block quote
+unfoldable pub past_quote : LineState → LineState
+past_quote start = after_quote (after_space 3 start)
 
 -- the list item after at most three spaces: its bullet or delimiter, its start number and the indent of its text
-unfoldable pub item_behind : LineState → Option (ℕ × ℕ × ℕ)
-item_behind start = (item_outcome 0 (after_space 3 start)).answer
+unfoldable pub item_after : LineState → Option (ℕ × ℕ × ℕ)
+item_after start = (item_outcome 0 (after_space 3 start)).answer
 
--- the place after at most three spaces and the marker of a list item
-unfoldable pub behind_item : LineState → LineState
-behind_item start = (item_outcome 0 (after_space 3 start)).state
+-- the offset after at most three spaces and the marker of a list item
+unfoldable pub after_item : LineState → LineState
+after_item start = (item_outcome 0 (after_space 3 start)).state
 
 -- whether the box of a task list item, after at most three spaces, is ticked
-unfoldable pub box_behind : LineState → Option Bool
-box_behind start = (task_outcome start).answer
+unfoldable pub box_after : LineState → Option Bool
+box_after start = (task_outcome start).answer

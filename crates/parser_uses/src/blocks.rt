@@ -21,13 +21,13 @@ pub fn is_break(line: &[u8]) -> bool
     scan_hrule(line).is_ok()
 }
 
-/// Where the text does not begin with a thematic break: a place before which none begins, so that a parser need not
+/// Where the text does not begin with a thematic break: an offset before which none begins, so that a parser need not
 /// look there again.
 #[tactic(auto, using(markdown_scanners_tree::proofs::ForCallers::thematic_breaks))]
 pub fn break_free(text: &[u8]) -> Option<usize>
-    ensures free { IfSome result (λ place. (k : ℕ) → k < place
+    ensures free { IfSome result (λ offset. (k : ℕ) → k < offset
         → ¬ IsThematicBreak (drop k text.now)) }
-    ensures far { IfSome result (λ place. place ≡ break_length text.now) }
+    ensures far { IfSome result (λ offset. offset ≡ break_length text.now) }
     ensures none { IfNone result (IsThematicBreak text.now) }
 {
     scan_hrule(text).err()
@@ -104,15 +104,15 @@ pub fn column_count(alloc: Global, line: &[u8]) -> Result<Option<usize>, AllocEr
     }
 }
 
-// The place of the first line from the front that closes a block of fenced code.
-fn closing_place(text: &[u8], fence: u8, count: usize) -> usize
+// The offset of the first line from the front that closes a block of fenced code.
+fn closing_offset(text: &[u8], fence: u8, count: usize) -> usize
     ensures within { result ≤ length text.now }
     ensures closed { (n : ℕ) × IsClosingCodeFence (drop result text.now) fence count n }
 {
-    for place in 0..text.len() {
-        let begins_line = place == 0 || text[place - 1] == b'\n';
-        if begins_line && scan_closing_code_fence(&text[place..], fence, count).is_some() {
-            return place;
+    for offset in 0..text.len() {
+        let begins_line = offset == 0 || text[offset - 1] == b'\n';
+        if begins_line && scan_closing_code_fence(&text[offset..], fence, count).is_some() {
+            return offset;
         }
     }
     text.len()
@@ -128,7 +128,7 @@ pub fn fenced_code(text: &[u8]) -> Option<(&[u8], &[u8], &[u8])>
 {
     let (count, fence) = scan_code_fence(text)?;
     let (opening, after) = text.split_at(scan_nextline(text));
-    let (code, closing) = after.split_at(closing_place(after, fence, count));
+    let (code, closing) = after.split_at(closing_offset(after, fence, count));
     Some((opening, code, closing))
 }
 

@@ -1,4 +1,4 @@
-//! The text of a page's blocks, with the place of each byte.
+//! The text of a page's blocks, with the offset of each byte.
 use markdown_blocks::blocks::BlockKind;
 use markdown_blocks::containers::Container;
 use markdown_blocks::content::{Content, content_of};
@@ -49,7 +49,7 @@ fn content_in<'a>(
     content_of(alloc, lines, leaf.kind, containers, kept)
 }
 
-/// The bytes of the text of all blocks of a page, each with its place in the page.
+/// The bytes of the text of all blocks of a page, each with its offset in the page.
 pub fn placed_text(alloc: Global, page: &[u8]) -> Result<Vec<(u8, usize)>, AllocError> {
     let mut placed = Vec::new(alloc);
     let mut blocks = Blocks::new(alloc, page);
@@ -75,7 +75,7 @@ fn add_placed(
     before: usize,
 ) -> Result<(), AllocError> {
     for (offset, byte) in content.text().iter().enumerate() {
-        placed.push((*byte, before.saturating_add(content.place(offset))))?;
+        placed.push((*byte, before.saturating_add(content.source_offset(offset))))?;
     }
     Ok(())
 }

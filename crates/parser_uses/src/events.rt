@@ -31,11 +31,11 @@ pub fn shown_events_ext(
 // Adds the words of an event.
 fn show(text: &mut String, event: BlockEvent) -> Result<(), AllocError> {
     match event {
-        BlockEvent::Start(Container::Quote, place) => write!(text, "quote {place}"),
-        BlockEvent::Start(Container::Footnote, place) => write!(text, "footnote {place}"),
-        BlockEvent::Start(Container::Item(_), place) => write!(text, "item {place}"),
-        BlockEvent::Start(Container::TermDefinition(_), place) => {
-            write!(text, "term_definition {place}")
+        BlockEvent::Start(Container::Quote, offset) => write!(text, "quote {offset}"),
+        BlockEvent::Start(Container::Footnote, offset) => write!(text, "footnote {offset}"),
+        BlockEvent::Start(Container::Item(_), offset) => write!(text, "item {offset}"),
+        BlockEvent::Start(Container::TermDefinition(_), offset) => {
+            write!(text, "term_definition {offset}")
         }
         BlockEvent::Block(leaf) => {
             let first = leaf.line as u128 + 1;

@@ -23,9 +23,9 @@ pub fn footnote_labels<'a>(alloc: Global, page: &'a [u8]) -> Result<Vec<&'a [u8]
 
 // The label of the footnote definition that begins, if one does.
 fn label_of<'a>(page: &'a [u8], event: BlockEvent) -> Option<&'a [u8]> {
-    let BlockEvent::Start(Container::Footnote, place) = event else {
+    let BlockEvent::Start(Container::Footnote, offset) = event else {
         return None;
     };
-    let (_, text) = page.split_at(place.min(page.len()));
+    let (_, text) = page.split_at(offset.min(page.len()));
     footnote_label(text)
 }

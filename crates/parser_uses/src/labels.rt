@@ -60,14 +60,14 @@ pub fn label_in_quote<'t>(
 ) -> Result<Option<(LinkLabel<'t>, &'t str)>, AllocError>
     ensures reads_back { IfOk result (λ found. IfSome found (λ r.
         ends_in_backslash r.0 ≡ false → ReadsBack r.0)) }
-    ensures behind { IfOk result (λ found. IfSome found (λ r. (taken : ℕ)
+    ensures after { IfOk result (λ found. IfSome found (λ r. (taken : ℕ)
         × (r.1.now ≡ drop taken text.entry.now))) }
 {
-    let behind_marker = |rest: &[u8]| scan_blockquote_start(rest);
-    let Some((taken, label)) = scan_link_label_rest(alloc, text, &behind_marker, false)? else {
+    let after_marker = |rest: &[u8]| scan_blockquote_start(rest);
+    let Some((taken, label)) = scan_link_label_rest(alloc, text, &after_marker, false)? else {
         return Ok(None);
     };
-    let (_, behind) = text.split_at(taken);
+    let (_, after) = text.split_at(taken);
     let label = LinkLabel::new(alloc, label)?;
-    Ok(Some((label, behind)))
+    Ok(Some((label, after)))
 }

@@ -3,16 +3,16 @@ ghost use Rattle.std.specs.Prelude.{◌≡◌, ◌++◌, ◌<◌, ◌≤◌, len
 ghost use Rattle.std.specs.List.{concat, filter_map};
 ghost use Rattle.markdown_scanners_tree.specs.Columns.{expanded};
 ghost use Rattle.markdown_scanners_tree.specs.line.ItemRules.{is_item_alone, item_at_start};
-ghost use Rattle.parser_uses.specs.Markers.{start_of, behind_quote, behind_item, item_behind, box_behind};
+ghost use Rattle.parser_uses.specs.Markers.{start_of, past_quote, after_item, item_after, box_after};
 
 use markdown_scanners_tree::line::LineStart;
 use markdown_scanners_tree::scanners::{scan_line, scan_listitem};
 use std::alloc::{AllocError, Global};
 
 // Goes past the marker of a block quote, after at most three spaces.
-#[tactic(auto, unfolding(crate::specs::Markers::behind_quote))]
+#[tactic(auto, unfolding(crate::specs::Markers::past_quote))]
 fn pass_quote(start: &mut LineStart)
-    ensures state { start.new ≡ behind_quote start.old }
+    ensures state { start.new ≡ past_quote start.old }
     ensures bytes { start.new.bytes ≡ start.old.bytes }
 {
     start.scan_space_upto(3);
@@ -20,9 +20,9 @@ fn pass_quote(start: &mut LineStart)
 }
 
 // Goes past the marker of a list item, after at most three spaces.
-#[tactic(auto, unfolding(crate::specs::Markers::behind_item))]
+#[tactic(auto, unfolding(crate::specs::Markers::after_item))]
 fn pass_item(start: &mut LineStart)
-    ensures state { start.new ≡ behind_item start.old }
+    ensures state { start.new ≡ after_item start.old }
     ensures bytes { start.new.bytes ≡ start.old.bytes }
 {
     start.scan_space_upto(3);
@@ -32,7 +32,7 @@ fn pass_item(start: &mut LineStart)
 /// The markers of its block quote and its list item, and what stands after them in a line.
 pub fn split_markers(line: &[u8]) -> (&[u8], &[u8])
     ensures parts { line.now ≡ result.0.now ++ result.1.now }
-    ensures markers { length result.0.now ≡ (behind_item (behind_quote (start_of line.now))).place }
+    ensures markers { length result.0.now ≡ (after_item (past_quote (start_of line.now))).offset }
 {
     let mut start = LineStart::new(line);
     pass_quote(&mut start);
@@ -40,10 +40,10 @@ pub fn split_markers(line: &[u8]) -> (&[u8], &[u8])
     line.split_at(start.bytes_scanned())
 }
 
-// The list item that begins at the place, after at most three spaces.
-#[tactic(auto, unfolding(crate::specs::Markers::item_behind))]
+// The list item that begins at the offset, after at most three spaces.
+#[tactic(auto, unfolding(crate::specs::Markers::item_after))]
 fn item_at(start: &mut LineStart) -> Option<(u8, u64, usize)>
-    ensures { result ≡ item_behind start.old }
+    ensures { result ≡ item_after start.old }
 {
     start.scan_space_upto(3);
     start.scan_list_marker_with_indent(0)
@@ -51,7 +51,7 @@ fn item_at(start: &mut LineStart) -> Option<(u8, u64, usize)>
 
 /// The list item that a line begins: its bullet or delimiter, the number that it starts at, and the indent of its text.
 pub fn item_of(line: &[u8]) -> Option<(u8, u64, usize)>
-    ensures { result ≡ item_behind (start_of line.now) }
+    ensures { result ≡ item_after (start_of line.now) }
 {
     item_at(&mut LineStart::new(line))
 }
@@ -59,7 +59,7 @@ pub fn item_of(line: &[u8]) -> Option<(u8, u64, usize)>
 /// The items that lines begin, in order.
 pub fn items_of(alloc: Global, lines: &[&[u8]]) -> Result<Vec<(u8, u64, usize)>, AllocError>
     ensures { IfOk result (λ items. items.items
-        ≡ filter_map (λ line. item_behind (start_of line.now)) lines.now) }
+        ≡ filter_map (λ line. item_after (start_of line.now)) lines.now) }
 {
     lines.iter().filter_map(|line| item_of(line)).collect(alloc)
 }
@@ -107,7 +107,7 @@ pub fn list_items(alloc: Global, text: &[u8]) -> Result<Vec<&[u8]>, AllocError>
 
 /// How many items lines begin.
 pub fn item_count(lines: &[&[u8]]) -> usize
-    ensures { result ≡ count_by (λ line. is_some (item_behind (start_of line.now))) lines.now }
+    ensures { result ≡ count_by (λ line. is_some (item_after (start_of line.now))) lines.now }
 {
     lines.iter().filter(|line| item_of(line).is_some()).count()
 }
@@ -128,17 +128,17 @@ pub fn begun_item(line: &[u8]) -> Option<(u8, u64, usize)>
     LineStart::new(line).scan_list_marker_with_indent(0)
 }
 
-// The box that stands at the place, and whether it is ticked.
-#[tactic(auto, unfolding(crate::specs::Markers::box_behind))]
+// The box that stands at the offset, and whether it is ticked.
+#[tactic(auto, unfolding(crate::specs::Markers::box_after))]
 fn box_at(start: &mut LineStart) -> Option<bool>
-    ensures { result ≡ box_behind start.old }
+    ensures { result ≡ box_after start.old }
 {
     start.scan_task_list_marker()
 }
 
 /// Whether the box before an item's text is ticked; None where there is no box.
 pub fn is_ticked(item: &[u8]) -> Option<bool>
-    ensures { result ≡ box_behind (start_of item.now) }
+    ensures { result ≡ box_after (start_of item.now) }
 {
     box_at(&mut LineStart::new(item))
 }

@@ -23,7 +23,7 @@ pub const FEW_ENTITIES: EntityTable = EntityTable {
     rows: &[(b"amp", "&"), (b"quot", "\"")],
 };
 
-/// The link destination from `start` on: how many bytes it takes, and how it is written. `start` is a place between two
+/// The link destination from `start` on: how many bytes it takes, and how it is written. `start` is an offset between two
 /// characters.
 pub fn raw_destination(text: &str, start: usize) -> Option<(usize, &str)>
     requires { 0 < start → IsCharBoundary text.now start }

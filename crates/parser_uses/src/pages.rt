@@ -17,15 +17,15 @@ pub fn link_lines<'a>(
 ) -> Result<Vec<(usize, CowStr<'a>)>, AllocError> {
     let mut links = Vec::new(alloc);
     let mut line: usize = 0;
-    let mut place = 0;
+    let mut offset = 0;
     for item in Parser::new(alloc, page)?.into_offset_iter() {
         let (event, range) = item?;
         let Some(destination) = destination_of(event) else {
             continue;
         };
-        let passed = page.as_bytes().get(place..range.start).unwrap_or(&[]);
+        let passed = page.as_bytes().get(offset..range.start).unwrap_or(&[]);
         line = line.saturating_add(lines_ended(passed));
-        place = range.start;
+        offset = range.start;
         links.push((line, destination))?;
     }
     Ok(links)

@@ -26,8 +26,8 @@ fn with_tables() -> Extensions {
     }
 }
 
-/// The bytes of the cells of a page's tables, each with its place in the page. A row ends with a
-/// line feed and a cell with a tab, both at the place of the row.
+/// The bytes of the cells of a page's tables, each with its offset in the page. A row ends with a
+/// line feed and a cell with a tab, both at the offset of the row.
 pub fn placed_cells(alloc: Global, page: &[u8]) -> Result<Vec<(u8, usize)>, AllocError> {
     let mut placed = Vec::new(alloc);
     let mut blocks = Blocks::new_ext(alloc, page, with_tables());
@@ -78,15 +78,15 @@ fn add_row(
     row: Row,
     before: usize,
 ) -> Result<(), AllocError> {
-    let place = before.saturating_add(row.place);
+    let source = before.saturating_add(row.offset);
     for cell in cells_of(row.text) {
         let content = cell_content(alloc, row.text, cell)?;
         for (offset, byte) in content.text().iter().enumerate() {
-            placed.push((*byte, place.saturating_add(content.place(offset))))?;
+            placed.push((*byte, source.saturating_add(content.source_offset(offset))))?;
         }
-        placed.push((b'\t', place))?;
+        placed.push((b'\t', source))?;
     }
-    placed.push((b'\n', place))?;
+    placed.push((b'\n', source))?;
     Ok(())
 }
 

@@ -14,7 +14,7 @@ use markdown_inlines::cut::cut_inlines;
 use markdown_inlines::delimiter_runs::DelimiterRun;
 use markdown_inlines::emphasis::{Delimiters, Emphasis, find_emphasis};
 use markdown_inlines::guarded_code_spans::CodeSpans;
-use markdown_inlines::links::{Labels, Link, LinkTarget};
+use markdown_inlines::links::{Labels, Link, LinkTarget, Links};
 use markdown_inlines::pieces::{Piece, PieceKind};
 use markdown_values::values::Extensions;
 use std::alloc::AllocError;
@@ -48,7 +48,7 @@ const WIKILINKS: Extensions = Extensions {
     wikilinks: true,
 };
 
-// A text with several strings of backticks, and what stands at its places: the content of the code
+// A text with several strings of backticks, and what stands at its offsets: the content of the code
 // span there, and how many bytes it has.
 const STRINGS: &str = "a `b` ``c` ```d``` `e``f`";
 
@@ -65,16 +65,16 @@ const SPANS_AT: &[(usize, Option<(&str, usize)>)] = &[
     (25, None),
 ];
 
-// The code span that begins at a place of the strings has this content and so many bytes.
+// The code span that begins at an offset of the strings has this content and so many bytes.
 fn assert_span(
     rt: &impl Abort,
-    place: usize,
+    offset: usize,
     span: Option<CodeSpan>,
     expected: Option<(&str, usize)>,
 ) {
     match span {
         Some(span) => {
-            let content = found(rt, STRINGS.get(place..)).get(span.content);
+            let content = found(rt, STRINGS.get(offset..)).get(span.content);
             assert_same(rt, Some((found(rt, content), span.len)), expected);
         }
         None => assert_same(rt, None, expected),
@@ -84,9 +84,9 @@ fn assert_span(
 #[test]
 fn code_stands_at_many_places_of_a_text(rt: HostRuntime) -> Result<(), Fail> {
     let spans = CodeSpans::new(rt.alloc(), STRINGS.as_bytes())?;
-    for (place, expected) in SPANS_AT {
-        if *place <= STRINGS.len() {
-            assert_span(&rt, *place, spans.scan(*place), *expected);
+    for (offset, expected) in SPANS_AT {
+        if *offset <= STRINGS.len() {
+            assert_span(&rt, *offset, spans.scan(*offset), *expected);
         }
     }
     Ok(())
@@ -99,7 +99,7 @@ fn code_has_spaces_for_line_endings(rt: HostRuntime) {
     assert_text(&rt, code_text(rt.alloc(), "\n\r\n"), "  ");
 }
 
-// A piece from one place up to another.
+// A piece from one offset up to another.
 const fn piece(kind: PieceKind, start: usize, end: usize) -> Piece {
     Piece { kind, start, end }
 }
@@ -155,6 +155,14 @@ fn pieces_are_joined_to_their_text(rt: HostRuntime) {
     assert_same(&rt, cut.links.len(), 0);
 }
 
+// Of the brackets each begins this link, or none.
+fn assert_links(rt: &impl Abort, links: &Links, expected: &[Option<Link>]) {
+    assert_same(rt, links.len(), expected.len());
+    for (number, link) in expected.iter().enumerate() {
+        assert_same(rt, links.get(number), link.as_ref());
+    }
+}
+
 #[test]
 fn openers_have_their_links(rt: HostRuntime) {
     let text = "[ [a](b 'c')![d][g\n h][c][][c] [e]";
@@ -178,7 +186,7 @@ fn openers_have_their_links(rt: HostRuntime) {
         link(false, 27..30, 28..29, LinkTarget::Shortcut),
         None,
     ];
-    assert_same(&rt, cut.links.as_slice(), expected.as_slice());
+    assert_links(&rt, &cut.links, &expected);
     let closer = Some(piece(PieceKind::Closer, 4, 12));
     assert_same(&rt, cut.pieces.get(4).copied(), closer);
 }
@@ -235,7 +243,7 @@ fn heads_of_wikilinks_are_openers(rt: HostRuntime) {
         link(false, 0..7, 4..5, LinkTarget::Wiki(2..3)),
         link(true, 7..13, 11..11, LinkTarget::Wiki(10..11)),
     ];
-    assert_same(&rt, cut.links.as_slice(), &links);
+    assert_links(&rt, &cut.links, &links);
 }
 
 // `*a*`, by its delimiters.

@@ -166,7 +166,7 @@ fn other_blocks_have_no_text(rt: HostRuntime) {
     );
 }
 
-// A page, and each byte of its text with its place.
+// A page, and each byte of its text with its offset.
 const PLACES: &[(&[u8], &[(u8, usize)])] = &[
     (b"\nab \n", &[(b'a', 1), (b'b', 2)]),
     (b"  a\n b\n", &[(b'a', 2), (b'\n', 3), (b'b', 5)]),

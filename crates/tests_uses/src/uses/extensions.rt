@@ -48,7 +48,7 @@ const TASKS: &[(&str, &[TaskRow])] = &[
 ];
 
 fn task_row(task: &Task) -> TaskRow {
-    (task.is_checked, task.place, task.len)
+    (task.is_checked, task.offset, task.len)
 }
 
 #[test]
@@ -112,7 +112,7 @@ const ALERTS: &[(&str, &[AlertRow])] = &[
 ];
 
 fn alert_row(alert: &Alert) -> AlertRow {
-    (alert.kind, alert.place, alert.len, alert.is_alone)
+    (alert.kind, alert.offset, alert.len, alert.is_alone)
 }
 
 #[test]

@@ -46,9 +46,9 @@ fn the_first_definition_counts(rt: HostRuntime) {
 type InQuote<'t> = Result<Option<(LinkLabel<'t>, &'t str)>, AllocError>;
 
 // They are these.
-fn assert_label(rt: &impl Abort, label: InQuote<'_>, text: &str, behind: &str) {
+fn assert_label(rt: &impl Abort, label: InQuote<'_>, text: &str, after: &str) {
     let (label, rest) = found(rt, made(rt, label));
-    assert_same(rt, (label.as_str(), rest), (text, behind));
+    assert_same(rt, (label.as_str(), rest), (text, after));
 }
 
 #[test]

@@ -81,7 +81,7 @@ fn other_rows_have_their_cells(rt: HostRuntime) {
     assert_cells(&rt, rt.alloc(), OTHERS);
 }
 
-// A page, and each byte of its cells with its place.
+// A page, and each byte of its cells with its offset.
 const PLACES: &[(&[u8], &[(u8, usize)])] = &[
     (b"\n| a |\n|---|\n", &[(b'a', 3), (b'\t', 1), (b'\n', 1)]),
     (
