@@ -223,9 +223,9 @@ static void check_inlines(const struct buffers *found) {
 }
 
 static const struct function functions[] = {
-    {"mds_html_unsafe", 0, false, call_html_unsafe, check_html},
-    {"mds_html", 0, false, call_html, check_safe_html},
-    {"mds_html_with", 0, false, call_html_with, check_safe_html},
+    {"mds_html_unsafe", 0, true, call_html_unsafe, check_html},
+    {"mds_html", 0, true, call_html, check_safe_html},
+    {"mds_html_with", 0, true, call_html_with, check_safe_html},
     {"mds_events", sizeof(struct mds_event), false, call_events, check_events},
     {"mds_scan_blocks", sizeof(struct mds_block), true, call_blocks, check_blocks},
     {"mds_scan_lists", sizeof(struct mds_list), true, call_lists, check_lists},

@@ -14,7 +14,7 @@
  * is 0, and nowhere else. What is given is read during the call alone, and nothing is written but in a buffer, a line
  * start, a guard, or what mds_block_line is given to write in.
  * What is named `bytes` may be any bytes; what is named `text`, `one` or `other` must be UTF-8. Each call looks through
- * all of it, and refuses it where it is not.
+ * all of it, and refuses it where it is not. What is named `page` may be any bytes too, and is read as text.
  *
  * Duties. No buffer may overlap another buffer or anything else that the call is given. A length or capacity is that of
  * memory which is there, and its size in bytes is at most PTRDIFF_MAX. An array is aligned for its type. A pointer to one
@@ -71,9 +71,9 @@
 extern "C" {
 #endif
 
-/* The version of this header, 0.1.0. */
+/* The version of this header, 0.2.0. */
 #define MDS_VERSION_MAJOR 0
-#define MDS_VERSION_MINOR 1
+#define MDS_VERSION_MINOR 2
 #define MDS_VERSION_PATCH 0
 
 /* The same as one number, 0xMMmmpp; so that a later version has a larger one. */
@@ -349,10 +349,6 @@ uint32_t mds_line_all_space(const void *bytes, size_t length, struct mds_line_st
  *     mds_line_is_at_end("\r", 1, &start) == MDS_OK
  */
 uint32_t mds_line_is_at_end(const void *bytes, size_t length, const struct mds_line_start *start);
-
-/* Their names in 0.1, for one version more. */
-#define mds_line_upto mds_line_space_up_to
-#define mds_line_eol mds_line_is_at_end
 
 /* Passes a block quote marker, `>` and at most one column of space; pending columns are looked past, and one of them
  * is that space. So take up to four columns first, by mds_line_space_up_to: where there are four, no block quote begins
@@ -705,7 +701,8 @@ struct mds_text mds_block_content(
 struct mds_open_blocks {
     size_t depth;        /* how many containers are open: so many at the front of the caller's array */
     uint32_t extensions; /* bits of enum mds_extension, the same for a whole page */
-    uint32_t state;      /* 1 where a term stands before the next block, which a definition may follow, and else 0 */
+    uint32_t state;      /* what stands before the next block: 1 for a term, which a definition may follow, and 2 for a paragraph,
+                          * which a table may end; both for a paragraph that is a term */
 };
 
 /* The containers of a block, where the status is MDS_OK or MDS_TOO_SHORT. */
@@ -732,7 +729,7 @@ struct mds_line_block {
  * definitions is one block: they stand at the front of its content, where mds_scan_reference_definition reads them.
  *
  * MDS_TOO_SHORT where the array has no room for `depth` containers. MDS_BAD_KIND where a bit of `open->extensions` is not known,
- * MDS_BAD_STATE where `open->depth` is above `capacity`, `open->state` above 1, or what is open there is no container. Memory is
+ * MDS_BAD_STATE where `open->depth` is above `capacity`, `open->state` above 3, or what is open there is no container. Memory is
  * asked for, for the containers and while the block is read: MDS_NO_MEMORY. (3, 4, 5)
  *
  *     struct mds_block containers[2], block;
@@ -866,21 +863,25 @@ struct mds_inlines mds_scan_inlines(
  * written where it is relative or has one of the schemes http, https, mailto and tel, without regard to case, and else an empty one; and
  * links say `rel="nofollow noopener"`. All else is written as in the examples of CommonMark and of GitHub Flavored Markdown.
  *
- * `taken` is the length of the text. How long its HTML is at most is not known: an address is written as often as its definition is
- * referred to. Twice the text and 64 bytes are enough for most; where the status is MDS_TOO_SHORT, the same call with a buffer of
- * `length` bytes makes all of it anew, and is MDS_OK (examples/html.c).
+ * A page that is not UTF-8 is read with U+FFFD in the place of each part that is wrong, as the decoder of the Encoding standard reads it: the
+ * longest part that begins a character, or else one byte. mds_html_with refuses it where that is asked for.
  *
- * MDS_BAD_KIND where a bit of `extensions` is not known, or HTML is not built of it yet, and else MDS_NOT_UTF8. Memory is asked for, for
- * the blocks of the page, the inlines of one block after another, and the HTML: MDS_NO_MEMORY. (3 to 6)
+ * `taken` is the length of the page. Its HTML has at most 657 bytes for each byte of the page, and 3,100,000. Twice the page and 64 bytes
+ * are enough for most; where the status is MDS_TOO_SHORT, the same call with a buffer of `length` bytes makes all of it anew, and is
+ * MDS_OK (examples/html.c).
+ *
+ * MDS_BAD_KIND where a bit of `extensions` is not known, or HTML is not built of it yet. Memory is asked for, for the blocks of the page,
+ * the inlines of one block after another, the HTML, and the page where it is not UTF-8: MDS_NO_MEMORY. (3 to 6)
  *
  *     uint8_t html[72];
  *     mds_html("[a](javascript:b)", 17, 0, html, 72).length == 48
  *     memcmp(html, "<p><a href=\"\" rel=\"nofollow noopener\">a</a></p>\n", 48) == 0
  *     mds_html("<b>", 3, 0, html, 72).length == 10 && memcmp(html, "&lt;b&gt;\n", 10) == 0
+ *     mds_html("a\xe2\x82", 3, 0, html, 72).length == 12 && memcmp(html, "<p>a\xef\xbf\xbd</p>\n", 12) == 0
  *     mds_html("|a|\n|-|", 7, MDS_TABLES, NULL, 0).status == MDS_TOO_SHORT
  *     mds_html("a", 1, MDS_FOOTNOTES, html, 72).status == MDS_BAD_KIND
  */
-struct mds_text mds_html(const void *text, size_t length, uint32_t extensions, uint8_t *buffer, size_t capacity);
+struct mds_text mds_html(const void *page, size_t length, uint32_t extensions, uint8_t *buffer, size_t capacity);
 
 /* What is written of the HTML that stands in a page, in blocks of its own and in texts. (4.6, 6.6) */
 enum mds_raw_html {
@@ -904,13 +905,15 @@ struct mds_html_setting {
     uint32_t rel;             /* of enum mds_rel */
     uint32_t images_as_links; /* 1 where an image is written as a link to it, whose text is its description, and in a link as that text
                                * alone; else 0 */
-    uint32_t reserved[9];     /* 0 */
+    uint32_t strict;          /* 1 where a page that is not UTF-8 is refused; else 0 */
+    uint32_t reserved[8];     /* 0 */
 };
 
 /* The same by a setting, to which the pointer is not null. The HTML is safe with each: raw HTML is never kept.
  *
- * MDS_BAD_KIND as of mds_html, and where a number of the setting has no meaning, or one of `reserved` is not 0; and else MDS_NOT_UTF8
- * where the text or a scheme is not UTF-8. Memory is asked for as by mds_html, and for the list of schemes: MDS_NO_MEMORY.
+ * MDS_BAD_KIND as of mds_html, and where a number of the setting has no meaning, or one of `reserved` is not 0. Else MDS_NOT_UTF8 where
+ * the setting is strict and the page is not UTF-8, and `taken` is the offset of the first byte of it that is wrong; or where a scheme is
+ * not UTF-8, and `taken` is MDS_NONE. Memory is asked for as by mds_html, and for the list of schemes: MDS_NO_MEMORY.
  *
  *     uint8_t html[72];
  *     struct mds_view schemes[] = {{"ftp", 3}};
@@ -922,21 +925,24 @@ struct mds_html_setting {
  *     mds_html_with("a<b>", 4, 0, &setting, html, 72).length == 9 && memcmp(html, "<p>a</p>\n", 9) == 0
  *     mds_html_with("![a](b)", 7, 0, &setting, html, 72).length == 49
  *     memcmp(html, "<p><a href=\"b\" rel=\"nofollow noopener\">a</a></p>\n", 49) == 0
+ *     setting = (struct mds_html_setting){.strict = 1};
+ *     struct mds_text found = mds_html_with("a\xe2\x82", 3, 0, &setting, html, 72);
+ *     found.status == MDS_NOT_UTF8 && found.taken == 1
  *     setting.reserved[0] = 1;
  *     mds_html_with("a", 1, 0, &setting, html, 72).status == MDS_BAD_KIND
  */
 struct mds_text mds_html_with(
-    const void *text, size_t length, uint32_t extensions, const struct mds_html_setting *setting, uint8_t *buffer, size_t capacity);
+    const void *page, size_t length, uint32_t extensions, const struct mds_html_setting *setting, uint8_t *buffer, size_t capacity);
 
 /* The HTML of a page as the examples write it: raw HTML stands in it as it is, and links lead anywhere. It is for text of one's own, and
- * mds_html for text by others. MDS_BAD_KIND, MDS_NOT_UTF8 and MDS_NO_MEMORY as of mds_html.
+ * mds_html for text by others. A page that is not UTF-8, MDS_BAD_KIND and MDS_NO_MEMORY are as of mds_html.
  *
  *     uint8_t html[18];
  *     struct mds_text found = mds_html_unsafe("*a*", 3, 0, html, 18);
  *     found.status == MDS_OK && found.taken == 3 && found.length == 18 && memcmp(html, "<p><em>a</em></p>\n", 18) == 0
  *     mds_html_unsafe("<b>", 3, 0, html, 18).length == 4 && memcmp(html, "<b>\n", 4) == 0
  */
-struct mds_text mds_html_unsafe(const void *text, size_t length, uint32_t extensions, uint8_t *buffer, size_t capacity);
+struct mds_text mds_html_unsafe(const void *page, size_t length, uint32_t extensions, uint8_t *buffer, size_t capacity);
 
 /* ---- The events of a page ---- */
 
@@ -1016,7 +1022,7 @@ struct mds_event {
 struct mds_events {
     uint32_t status;
     size_t count;  /* how many they are, where the status is MDS_OK or MDS_TOO_SHORT */
-    size_t length; /* how many bytes their texts have then */
+    size_t length; /* how many bytes their texts have then; where it is MDS_NOT_UTF8, the offset of the first byte that is wrong */
 };
 
 /* All events of a page, in order, and their texts, one after another: where each element begins and ends, and what stands in it. Each
@@ -1029,8 +1035,9 @@ struct mds_events {
  * bytes of the text, and as many bytes as the text has, and 64 of each, are enough for most pages. fillaqut_parser.h has a handle that
  * keeps both buffers.
  *
- * MDS_BAD_KIND and MDS_NOT_UTF8 as of mds_html. Memory is asked for as by mds_html, with the events and their texts in place of the
- * HTML: MDS_NO_MEMORY. Then the buffers are as they were too, and the same call may be made again. (3 to 6)
+ * MDS_BAD_KIND as of mds_html. A page that is not UTF-8 is refused, MDS_NOT_UTF8, and `length` is the offset of its first byte that is wrong:
+ * the ranges of a text that is read in its place would not be those of the page. Memory is asked for as by mds_html, with the events and
+ * their texts in place of the HTML: MDS_NO_MEMORY. Then the buffers are as they were too, and the same call may be made again. (3 to 6)
  *
  *     struct mds_event events[5];
  *     uint8_t texts[5];

@@ -271,7 +271,7 @@ static struct mds_line_block line_in(
     return mds_block_line(given(BYTES, text, length), length, true, containers, capacity, open, block);
 }
 
-/* What is refused in this state, and that all is left as it was then; after a paragraph a term stands where it is asked for. */
+/* What is refused in this state, and that all is left as it was then; a paragraph is a term where these are asked for. */
 static void refused_in(int line, uint32_t state, uint32_t kind, size_t depth, uint32_t asked, size_t capacity, uint32_t status) {
     struct mds_open_blocks open = {depth, asked, state};
     struct mds_block block = {.kind = 99};
@@ -281,13 +281,13 @@ static void refused_in(int line, uint32_t state, uint32_t kind, size_t depth, ui
     same(line, "block", block.kind, status == MDS_OK ? MDS_BLOCK_PARAGRAPH : 99);
     same(line, "depth", found.depth, status == MDS_OK || status == MDS_TOO_SHORT ? 2 : 0);
     same(line, "open", open.depth, status == MDS_OK ? 2 : depth), same(line, "extensions", open.extensions, asked);
-    same(line, "state", open.state, status == MDS_OK ? (asked & MDS_DEFINITION_LISTS) != 0 : state);
+    same(line, "state", open.state, status == MDS_OK ? ((asked & MDS_DEFINITION_LISTS) != 0) + 2 : state);
     for (size_t i = 0; i < capacity; i++)
         same(line, "a container", containers[i].kind, status == MDS_OK && i < 2 ? MDS_BLOCK_QUOTE : kind);
 }
 
 static void refused_line(int line, uint32_t kind, size_t depth, uint32_t asked, size_t capacity, uint32_t status) {
-    for (uint32_t state = 0; state < 2; state++)
+    for (uint32_t state = 0; state < 4; state++)
         refused_in(line, state, kind, depth, asked, capacity, status);
 }
 
@@ -300,7 +300,7 @@ static void refused_lines(void) {
         refused_line(__LINE__, kind, 3, 0, 3, kind == 1 || kind == 2 || kind == 13 || kind == 14 ? MDS_OK : MDS_BAD_STATE);
     for (uint32_t asked = 0; asked <= EVERY_EXTENSION; asked++)
         if (!(asked & ~(uint32_t)EVERY_EXTENSION))
-            refused_line(__LINE__, MDS_BLOCK_QUOTE, 1, asked, 2, MDS_OK), refused_in(__LINE__, 2, MDS_BLOCK_QUOTE, 1, asked, 2, MDS_BAD_STATE);
+            refused_line(__LINE__, MDS_BLOCK_QUOTE, 1, asked, 2, MDS_OK), refused_in(__LINE__, 4, MDS_BLOCK_QUOTE, 1, asked, 2, MDS_BAD_STATE);
     refused_line(__LINE__, MDS_BLOCK_END, SIZE_MAX, 0, 2, MDS_BAD_STATE);
     for (uint32_t bit = 1; bit > 0; bit *= 2)
         if (!(bit & EVERY_EXTENSION))
@@ -340,12 +340,22 @@ static void open_items(void) {
     SAME(mds_block_line(NULL, 0, true, NULL, 0, &open, &block).status, MDS_NOTHING);
 }
 
+/* A table that ends a paragraph: its header row is a lazy line. */
+static void open_tables(void) {
+    struct mds_open_blocks open = {0, MDS_TABLES, 0};
+    struct mds_block block, quote;
+    SAME(mds_block_line(OF("> a\nb|c\n> -|-\n"), false, &quote, 1, &open, &block).status, MDS_OK);
+    SAME(open.depth, 1), SAME(block.kind, MDS_BLOCK_PARAGRAPH), SAME(block.lines, 1), SAME(open.state, 2);
+    SAME(mds_block_line(OF("b|c\n> -|-\n"), true, &quote, 1, &open, &block).kept, 1);
+    SAME(open.depth, 1), SAME(block.kind, MDS_BLOCK_TABLE), SAME(block.lines, 2), SAME(open.state, 0);
+}
+
 /* A term, a blank line, and two definitions of the term, of which the first begins with a blank line. */
 static void open_terms(void) {
     struct mds_open_blocks open = {0, MDS_DEFINITION_LISTS, 0};
     struct mds_block block, definition;
     SAME(mds_block_line(OF("a\n\n:\n"), false, &definition, 1, &open, &block).status, MDS_OK);
-    SAME(open.depth, 0), SAME(block.kind, MDS_BLOCK_PARAGRAPH), SAME(open.state, 1);
+    SAME(open.depth, 0), SAME(block.kind, MDS_BLOCK_PARAGRAPH), SAME(open.state, 3);
     SAME(mds_block_line(OF("\n:\n"), false, &definition, 1, &open, &block).status, MDS_OK);
     SAME(open.depth, 0), SAME(block.kind, MDS_BLOCK_BLANK), SAME(open.state, 1);
     SAME(mds_block_line(OF(":\n  b\n"), false, &definition, 1, &open, &block).status, MDS_OK);
@@ -353,7 +363,7 @@ static void open_terms(void) {
     SAME(definition.kind, MDS_BLOCK_TERM_DEFINITION), SAME(definition.count, 1), SAME(definition.width, 1), SAME(definition.place, 0);
     SAME(mds_block_line(OF("  b\n : c"), false, &definition, 1, &open, &block).status, MDS_NOTHING);
     SAME(mds_block_line(OF("  b\n: c\n"), false, &definition, 1, &open, &block).kept, 1);
-    SAME(open.depth, 1), SAME(block.kind, MDS_BLOCK_PARAGRAPH), SAME(block.lines, 1), SAME(open.state, 1), SAME(definition.count, 0);
+    SAME(open.depth, 1), SAME(block.kind, MDS_BLOCK_PARAGRAPH), SAME(block.lines, 1), SAME(open.state, 3), SAME(definition.count, 0);
     SAME(mds_block_line(OF(": c\n"), true, &definition, 1, &open, &block).kept, 0);
     SAME(open.depth, 1), SAME(block.kind, MDS_BLOCK_PARAGRAPH), SAME(definition.width, 2);
 }
@@ -434,7 +444,7 @@ int main(void) {
     each_row("pages.tsv", 5, "block_content", check_content);
     for (size_t front = 0; front < 2; front++) {
         at_front = front;
-        places(), refusals(), refused_lines(), open_items(), open_terms();
+        places(), refusals(), refused_lines(), open_items(), open_tables(), open_terms();
     }
     made_pages(), wrong_numbers();
     return report("blocks");

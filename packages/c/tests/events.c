@@ -116,12 +116,13 @@ static void check(const struct row *row) {
     if (found.length) is_written(row->line, extensions, found.count, found.length - 1, false);
 }
 
-static void is_refused(int line, const void *text, size_t length, uint32_t extensions, uint32_t status) {
+/* So many bytes at the front of what is not UTF-8 are. */
+static void is_refused(int line, const void *text, size_t length, uint32_t extensions, uint32_t status, size_t valid) {
     struct mds_event *events = writable(LIST, 8 * sizeof(*events));
     uint8_t *texts = writable(BUFFER, 8);
     struct mds_events found = mds_events(text, length, extensions, events, 8, texts, 8);
     struct mds_parser parser;
-    same(line, "status", found.status, status), same(line, "count", found.count, 0), same(line, "length", found.length, 0);
+    same(line, "status", found.status, status), same(line, "count", found.count, 0), same(line, "length", found.length, valid);
     same(line, "events", is_left(LIST, 0), true), same(line, "texts", is_left(BUFFER, 0), true);
     same(line, "handle", mds_parser_new(&parser, text, length, extensions), status);
     same(line, "count", parser.count, 0), same(line, "memory", !parser.events && !parser.texts, true);
@@ -132,10 +133,10 @@ static void refusals(void) {
     for (uint32_t bit = 1; bit != 0; bit <<= 1) {
         bool is_built = (bit & EVERY_BUILT) != 0;
         SAME(mds_events(OF(""), bit, NULL, 0, NULL, 0).status, is_built ? MDS_OK : MDS_BAD_KIND);
-        is_refused(__LINE__, OF("\xff"), bit, is_built ? MDS_NOT_UTF8 : MDS_BAD_KIND);
-        if (!is_built) is_refused(__LINE__, OF("a"), bit | EVERY_BUILT, MDS_BAD_KIND);
+        is_refused(__LINE__, OF("a\xff"), bit, is_built ? MDS_NOT_UTF8 : MDS_BAD_KIND, is_built ? 1 : 0);
+        if (!is_built) is_refused(__LINE__, OF("a"), bit | EVERY_BUILT, MDS_BAD_KIND, 0);
     }
-    is_refused(__LINE__, OF("a\xc3"), 0, MDS_NOT_UTF8);
+    is_refused(__LINE__, OF("a\xc3"), 0, MDS_NOT_UTF8, 1), is_refused(__LINE__, OF("\xc3\xa9\n\xed\xa0\x80"), 0, MDS_NOT_UTF8, 3);
     SAME(mds_events(NULL, 0, 0, NULL, 0, NULL, 0).status, MDS_OK);
 }
 

@@ -51,6 +51,7 @@ check_installed() {
     LIBDIR=lib/machine packages/c/install "$scratch/machine"
     by_pkg_config "$scratch/machine" lib/machine
     grep -qx 'prefix=/usr' "$scratch/stage/usr/lib/pkgconfig/fillaqut.pc" || stop "DESTDIR stands in what is installed"
+    touch "$scratch/stage/usr/lib/libfillaqut."{"${version%%.*}.dylib",dylib,dll.a} # as for other targets
     DESTDIR=$scratch/stage packages/c/install --remove /usr
     [ -z "$(find "$scratch/stage" ! -type d)" ] && [ -d "$scratch/stage/usr/lib" ] || stop "what is installed is not removed"
     ! (LIBDIR=a/../.. packages/c/install "$prefix" 2>"$scratch/faults") && grep -q LIBDIR "$scratch/faults" || stop "a LIBDIR outside is not refused"
@@ -112,7 +113,8 @@ check_dist() {
     check_packed_python "$at"
     check_packed_rust "$at"
     check_packed_javascript "$at"
-    rm -r "${at:?}"/{LICENSE,VERSION,PROOF,SHA256SUMS,README.md,bin,python,rust,javascript,examples}
+    check_packed_databases "$at"
+    rm -r "${at:?}"/{LICENSE,VERSION,PROOF,SHA256SUMS,README.md,bin,python,rust,javascript,databases,examples}
     has_files "$at"
     passed dist "$runs"
 }
@@ -187,7 +189,9 @@ END
 
 # The crate, and its example, with the archive that is packed.
 check_packed_rust() {
-    command -v cargo >/dev/null || { leave packed_rust cargo; return; }
+    local lacks
+    lacks=$(packages/rust/lacks)
+    [ -z "$lacks" ] || { leave packed_rust "$lacks"; return; }
     (
         cd "$1/rust" || exit
         unset FILLAQUT_LIB_DIR PKG_CONFIG_PATH
@@ -195,4 +199,19 @@ check_packed_rust() {
         prints_outline cargo run -q --offline --example headings ../README.md
     )
     passed packed_rust 1
+}
+
+# The extensions of databases, made as the README says: SQLite's answers, and PostgreSQL's would be installed.
+check_packed_databases() {
+    local query="SELECT markdown_html('*a* <b>')"
+    if ! command -v sqlite3 >/dev/null || ! echo '#include <sqlite3ext.h>' | cc -E - >/dev/null 2>&1 || ! pg_config --pgxs >/dev/null 2>&1; then
+        leave packed_databases "sqlite3, sqlite3ext.h or pg_config (Debian: apt-get install sqlite3 libsqlite3-dev postgresql-server-dev-all)"
+        return
+    fi
+    { make -C "$1/databases/sqlite" && make -C "$1/databases/postgresql" install DESTDIR="$scratch/databases"; } >"$scratch/said" 2>&1 ||
+        { cat "$scratch/said" >&2; stop "the extensions of databases that are packed are not made"; }
+    [ "$(sqlite3 :memory: ".load $1/databases/sqlite/fillaqut" "$query")" = "<p><em>a</em> &lt;b&gt;</p>" ] ||
+        stop "the extension of SQLite that is packed answers something else"
+    [ -n "$(find "$scratch/databases" -name fillaqut.so)" ] || stop "the extension of PostgreSQL that is packed is not installed"
+    passed packed_databases 2
 }

@@ -296,6 +296,11 @@ static struct returned html_with(size_t capacity) {
     return of_text(mds_html_with(OF("<a@b> [c](d:e) <f> ![g](h)"), 0, &setting, writable(BUFFER, capacity), capacity));
 }
 
+/* A page that is not UTF-8, which is copied. */
+static struct returned mended_html(size_t capacity) {
+    return of_text(mds_html(OF("# a\xff\n\n*\xe2\x82*"), 0, writable(BUFFER, capacity), capacity));
+}
+
 /* The events stand in front of their texts. */
 /* Where there is room, for 24 events and 304 bytes of texts. */
 static struct returned of_events(const char *page, size_t length, size_t capacity) {
@@ -416,7 +421,7 @@ static void asking(void) {
     ASKS(line), ASKS(line_of_table), ASKS(deep_line);
     ASKS(content_in_many), ASKS(long_content);
     ASKS(inlines), ASKS(inlines_with_labels), ASKS(inlines_with_many_labels);
-    ASKS(html_unsafe), ASKS(long_html_unsafe), ASKS(html), ASKS(html_with), ASKS(html_with_usual_schemes);
+    ASKS(html_unsafe), ASKS(long_html_unsafe), ASKS(html), ASKS(html_with), ASKS(html_with_usual_schemes), ASKS(mended_html);
     ASKS(events), ASKS(events_of_table), ASKS(long_events);
 }
 

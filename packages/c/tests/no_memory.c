@@ -33,14 +33,14 @@ static void sparing(void) {
     ASKS_NOT(mds_scan_inlines(OF("\xff"), NULL, 0, 0, NULL, 0).status, MDS_NOT_UTF8);
     ASKS_NOT(mds_scan_inlines(OF("a"), NULL, 0, 1, NULL, 0).status, MDS_BAD_KIND);
     ASKS_NOT(mds_scan_inlines(OF("a"), (const struct mds_view[]){{"b", 1}, {"\xff", 1}}, 2, 0, NULL, 0).status, MDS_NOT_UTF8);
-    ASKS_NOT(mds_html_unsafe(OF("\xff"), 0, NULL, 0).status, MDS_NOT_UTF8), ASKS_NOT(mds_html_unsafe(OF("a"), 1, NULL, 0).status, MDS_BAD_KIND);
+    ASKS_NOT(mds_html_unsafe(OF("a"), 1, NULL, 0).status, MDS_BAD_KIND);
     ASKS_NOT(mds_events(OF("\xff"), 0, NULL, 0, NULL, 0).status, MDS_NOT_UTF8);
     ASKS_NOT(mds_events(OF("a"), 1, NULL, 0, NULL, 0).status, MDS_BAD_KIND);
-    ASKS_NOT(mds_html(OF("\xff"), 0, NULL, 0).status, MDS_NOT_UTF8), ASKS_NOT(mds_html(OF("a"), 1, NULL, 0).status, MDS_BAD_KIND);
+    ASKS_NOT(mds_html(OF("a"), 1, NULL, 0).status, MDS_BAD_KIND);
     const struct mds_view schemes[] = {{"b", 1}, {"\xff", 1}};
     const struct mds_html_setting one = {.schemes = schemes, .scheme_count = 1}, both = {.schemes = schemes, .scheme_count = 2};
-    const struct mds_html_setting unknown = {.schemes = schemes, .scheme_count = 1, .rel = 2};
-    ASKS_NOT(mds_html_with(OF("\xff"), 0, &one, NULL, 0).status, MDS_NOT_UTF8), ASKS_NOT(mds_html_with(OF("a"), 0, &both, NULL, 0).status, MDS_NOT_UTF8);
+    const struct mds_html_setting unknown = {.schemes = schemes, .scheme_count = 1, .rel = 2}, strict = {.strict = 1};
+    ASKS_NOT(mds_html_with(OF("\xff"), 0, &strict, NULL, 0).status, MDS_NOT_UTF8), ASKS_NOT(mds_html_with(OF("a"), 0, &both, NULL, 0).status, MDS_NOT_UTF8);
     ASKS_NOT(mds_html_with(OF("a"), 1, &one, NULL, 0).status, MDS_BAD_KIND), ASKS_NOT(mds_html_with(OF("a"), 0, &unknown, NULL, 0).status, MDS_BAD_KIND);
     const struct mds_block leaf = {.kind = MDS_BLOCK_PARAGRAPH, .start = 1, .bytes = 2}, end = {.kind = MDS_BLOCK_END};
     ASKS_NOT(mds_scan_blocks(OF(""), 0, NULL, 0).status, MDS_OK);
