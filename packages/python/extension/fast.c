@@ -25,6 +25,17 @@ static PyObject *fields(PyTypeObject *type, int count, const size_t *numbers) {
     return made;
 }
 
+/* A page of so many bytes is read without the lock of the interpreter: what is given up, or NULL. */
+static size_t long_page = SIZE_MAX;
+
+static PyThreadState *without_lock(size_t length) {
+    return length < long_page ? NULL : PyEval_SaveThread();
+}
+
+static void with_lock(PyThreadState *given_up) {
+    if (given_up) PyEval_RestoreThread(given_up);
+}
+
 /* Room for a text: its own, or memory that is asked for. */
 struct buffer {
     uint8_t *bytes;
@@ -79,25 +90,39 @@ static PyObject *with_text(PyObject *found, struct buffer *buffer, size_t length
     static PyStructSequence_Field fields_##name[] = {                                                                          \
         {#a, NULL}, {#b, NULL}, {#c, NULL}, {#d, NULL}, {#e, NULL}, {#f, NULL}, {#g, NULL}, {#h, NULL}, {NULL, NULL}};         \
     ANSWER(name, type, 8, it.a, it.b, it.c, it.d, it.e, it.f, it.g, it.h)
-#define SCANNER(name, made, expected, ...)                                                                                     \
+/* What calls a function; `page` is the length of the page where it reads a whole one, and else 0. */
+#define SCANNER_OF(page, name, made, expected, ...)                                                                            \
     static __typeof__(mds_##name) *its_##name;                                                                                 \
     static PyObject *call_##name(PyObject *module, PyObject *const *given, Py_ssize_t count) {                                 \
         size_t it[expected];                                                                                                   \
         (void)module;                                                                                                          \
-        return taken(it, expected, given, count) ? made(its_##name(__VA_ARGS__)) : NULL;                                       \
+        if (!taken(it, expected, given, count)) return NULL;                                                                   \
+        PyThreadState *given_up = without_lock(page);                                                                          \
+        __typeof__(its_##name(__VA_ARGS__)) found = its_##name(__VA_ARGS__);                                                   \
+        with_lock(given_up);                                                                                                   \
+        return made(found);                                                                                                    \
     }
-#define WRITER(name, type, made, expected, ...)                                                                                \
+#define WRITER_OF(page, name, type, made, expected, ...)                                                                       \
     static __typeof__(mds_##name) *its_##name;                                                                                 \
+    static struct type write_##name(const size_t *it, struct buffer *buffer) {                                                 \
+        PyThreadState *given_up = without_lock(page);                                                                          \
+        struct type found = its_##name(__VA_ARGS__, buffer->bytes, buffer->size);                                              \
+        with_lock(given_up);                                                                                                   \
+        return found;                                                                                                          \
+    }                                                                                                                          \
     static PyObject *call_##name(PyObject *module, PyObject *const *given, Py_ssize_t count) {                                 \
         size_t it[expected + 1];                                                                                               \
         struct buffer buffer;                                                                                                  \
         (void)module;                                                                                                          \
         if (!taken(it, expected + 1, given, count) || !has_room(&buffer, it[expected])) return NULL;                           \
-        struct type found = its_##name(__VA_ARGS__, buffer.bytes, buffer.size);                                                \
-        while (found.status == MDS_TOO_SHORT && has_other_room(&buffer, found.length))                                         \
-            found = its_##name(__VA_ARGS__, buffer.bytes, buffer.size);                                                        \
+        struct type found = write_##name(it, &buffer);                                                                         \
+        while (found.status == MDS_TOO_SHORT && has_other_room(&buffer, found.length)) found = write_##name(it, &buffer);      \
         return with_text(buffer.bytes ? made(found) : NULL, &buffer, found.status == MDS_OK ? found.length : 0);               \
     }
+#define SCANNER(...) SCANNER_OF(0, __VA_ARGS__)
+#define WRITER(...) WRITER_OF(0, __VA_ARGS__)
+#define PAGE_SCANNER(...) SCANNER_OF(it[1], __VA_ARGS__)
+#define PAGE_WRITER(...) WRITER_OF(it[1], __VA_ARGS__)
 #include "calls.h"
 
 /* The address of the bytes of a buffer, which somebody else holds. */
@@ -115,6 +140,13 @@ static PyObject *address_of_text(PyObject *module, PyObject *text) {
     (void)module;
     const char *found = PyUnicode_AsUTF8AndSize(text, NULL);
     return found ? PyLong_FromVoidPtr((void *)found) : NULL;
+}
+
+/* How many bytes stand there. */
+static PyObject *size_of_text(PyObject *module, PyObject *text) {
+    Py_ssize_t size;
+    (void)module;
+    return PyUnicode_AsUTF8AndSize(text, &size) ? PyLong_FromSsize_t(size) : NULL;
 }
 
 #define STEP 64
@@ -164,6 +196,72 @@ static PyObject *index_of(PyObject *module, PyObject *const *given, Py_ssize_t c
     return PyLong_FromSize_t(index);
 }
 
+/* Puts the kinds and the elements of so many events, which are below 256, and where they start and stop, into columns. */
+static void split(const struct mds_event *events, size_t count, uint8_t *kinds, uint8_t *elements, size_t *starts, size_t *stops) {
+    for (size_t at = 0; at < count; at++) {
+        kinds[at] = (uint8_t)events[at].kind;
+        elements[at] = (uint8_t)events[at].element;
+        starts[at] = events[at].start;
+        stops[at] = events[at].end;
+    }
+}
+
+/* So of the addresses of events and of columns. */
+static PyObject *split_events(PyObject *module, PyObject *const *given, Py_ssize_t count) {
+    size_t it[6];
+    (void)module;
+    if (!taken(it, 6, given, count)) return NULL;
+    PyThreadState *given_up = without_lock(it[1]);
+    split((void *)it[0], it[1], (void *)it[2], (void *)it[3], (void *)it[4], (void *)it[5]);
+    with_lock(given_up);
+    Py_RETURN_NONE;
+}
+
+#define NEAR 8 /* of so many bytes each it is kept how many characters stand before them */
+
+/* How many characters begin there. */
+static size_t characters(const uint8_t *text, size_t from, size_t to) {
+    size_t found = 0;
+    for (size_t at = from; at < to; at++) found += (text[at] & 0xC0) != 0x80;
+    return found;
+}
+
+/* How many of NEAR bytes begin one: all but those whose upper bits are 10. */
+static size_t near_characters(const uint8_t *text) {
+    const uint64_t ones = 0x0101010101010101;
+    uint64_t bytes;
+    memcpy(&bytes, text, NEAR);
+    return NEAR - ((bytes >> 7 & ~(bytes >> 6) & ones) * ones >> 56);
+}
+
+/* Puts how many characters stand before each NEAR-th byte of a text there, where it begins with 0. */
+static void count_near(size_t *before, const uint8_t *text, size_t length) {
+    for (size_t step = 0; step < length / NEAR; step++) before[step + 1] = before[step] + near_characters(text + step * NEAR);
+}
+
+/* Puts in the place of each of so many places of bytes how many characters stand before it, and so many more. */
+static void count_places(size_t *places, size_t count, const size_t *before, const uint8_t *text, size_t more) {
+    for (size_t at = 0; at < count; at++) {
+        size_t step = places[at] / NEAR;
+        places[at] = more + before[step] + characters(text, step * NEAR, places[at]);
+    }
+}
+
+/* So of a text in UTF-8, its address and length, and of places of its bytes, their address and how many they are, and so many more. */
+static PyObject *count_characters(PyObject *module, PyObject *const *given, Py_ssize_t count) {
+    size_t it[5];
+    (void)module;
+    if (!taken(it, 5, given, count)) return NULL;
+    size_t *before = PyMem_Calloc(it[1] / NEAR + 1, sizeof *before);
+    if (!before) return PyErr_NoMemory();
+    PyThreadState *given_up = without_lock(it[1]);
+    count_near(before, (const uint8_t *)it[0], it[1]);
+    count_places((size_t *)it[2], it[3], before, (const uint8_t *)it[0], it[4]);
+    with_lock(given_up);
+    PyMem_Free(before);
+    Py_RETURN_NONE;
+}
+
 /* Whether the dict has an address under the name, which the function takes. */
 static bool is_bound(PyObject *addresses, const char *name, void *function) {
     PyObject *it = PyDict_GetItemString(addresses, name);
@@ -173,9 +271,11 @@ static bool is_bound(PyObject *addresses, const char *name, void *function) {
     return found;
 }
 
-/* Takes the addresses of the library's functions, by their names. */
-static PyObject *bind(PyObject *module, PyObject *addresses) {
+/* Takes the addresses of the library's functions, by their names, and the length of a long page. */
+static PyObject *bind(PyObject *module, PyObject *const *given, Py_ssize_t count) {
     (void)module;
+    if (!taken(&long_page, 1, given + 1, count - 1)) return NULL;
+    PyObject *addresses = given[0];
 #define BIND(name)                                                                                                             \
     if (!is_bound(addresses, #name, &its_##name)) return NULL;
     EACH_FUNCTION(BIND)
@@ -187,8 +287,11 @@ static PyMethodDef METHODS[] = {
     EACH_FUNCTION(METHOD)
     {"address_of", address_of, METH_O, NULL},
     {"address_of_text", address_of_text, METH_O, NULL},
-    {"bind", bind, METH_O, NULL},
+    {"bind", (PyCFunction)(void (*)(void))bind, METH_FASTCALL, NULL},
+    {"count_characters", (PyCFunction)(void (*)(void))count_characters, METH_FASTCALL, NULL},
     {"index_of", (PyCFunction)(void (*)(void))index_of, METH_FASTCALL, NULL},
+    {"size_of_text", size_of_text, METH_O, NULL},
+    {"split_events", (PyCFunction)(void (*)(void))split_events, METH_FASTCALL, NULL},
     {"span", (PyCFunction)(void (*)(void))span, METH_FASTCALL, NULL},
     {NULL, NULL, 0, NULL},
 };

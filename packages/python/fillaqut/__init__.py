@@ -1,9 +1,9 @@
 """A Markdown parser, each of whose functions is proved to meet its contract, after CommonMark 0.31.2: `html` and `events` of a page, its
 blocks and inlines, and the scanners below them.
 
-Each call reads a page, `bytes`, another buffer or a `str`, from the offset `at` on, up to the offset `end`, and copies none of
-it. Scanners return offsets of the same page: a number alone is the offset after what was scanned. None says that nothing of the
-kind stands there; an exception that the call refuses what it is given.
+Each call reads a page, `bytes`, another buffer or a `str`, from the offset `at` on, up to the offset `end`. Scanners return offsets
+of the same page: a number alone is the offset after what was scanned. None says that nothing of the kind stands there; an exception
+that the call refuses what it is given.
 """
 from ._pages import Page
 from .blocks import (
@@ -101,7 +101,8 @@ from .line_scanners import (
     scan_while,
     scan_whitespace_in_line,
 )
-from .page_events import Element, Event, EventKind, LinkKind, Target, events
+from .many import html_many
+from .page_events import Element, Event, EventColumns, EventKind, LinkKind, Target, event_columns, events
 from .page_html import DEFAULT_SCHEMES, RawHtml, html, html_unsafe
 from .pages import Block, BlockKind, BlockQuote, Container, FootnoteDefinition, Item, ListBlock, TermDefinition
 from .pages import scan_blocks, scan_lists
@@ -109,7 +110,7 @@ from .readers import BlockReader, read_blocks
 from .runs import CallKind, LineAnswer, line_rest, run_inline_html, run_line
 from .skips import Skips
 
-__version__ = "0.1.0"
+__version__ = "0.2.0"
 __all__ = [
     "AlertKind",
     "Alignment",
@@ -126,6 +127,7 @@ __all__ = [
     "EmptyError",
     "Entity",
     "Event",
+    "EventColumns",
     "EventKind",
     "Fence",
     "FootnoteDefinition",
@@ -167,8 +169,10 @@ __all__ = [
     "Underline",
     "calc_indent",
     "ends_html_block",
+    "event_columns",
     "events",
     "html",
+    "html_many",
     "html_unsafe",
     "interrupts_paragraph",
     "is_punctuation",

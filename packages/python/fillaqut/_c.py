@@ -2,7 +2,7 @@
 from ctypes import Structure, c_void_p, c_bool, c_size_t, c_uint32, c_uint64, c_uint8
 from typing import Any
 
-VERSION = 0x000100
+VERSION = 0x000200
 NONE = c_size_t(-1).value
 
 OK = 0
@@ -449,6 +449,7 @@ class HtmlSetting(Structure):
     raw_html: int
     rel: int
     images_as_links: int
+    strict: int
     reserved: Any
     _fields_ = [
         ("schemes", c_void_p),
@@ -456,7 +457,8 @@ class HtmlSetting(Structure):
         ("raw_html", c_uint32),
         ("rel", c_uint32),
         ("images_as_links", c_uint32),
-        ("reserved", c_uint32 * 9),
+        ("strict", c_uint32),
+        ("reserved", c_uint32 * 8),
     ]
 
 
@@ -666,3 +668,14 @@ FUNCTIONS: dict[str, tuple[Any, tuple[Any, ...]]] = {
     "labels_match": (c_uint32, (c_void_p, c_size_t, c_void_p, c_size_t)),
     "label_key": (Text, (c_void_p, c_size_t, c_void_p, c_size_t)),
 }
+
+# Those that read a whole page.
+PAGE_FUNCTIONS = (
+    "scan_blocks",
+    "scan_lists",
+    "scan_inlines",
+    "html",
+    "html_with",
+    "html_unsafe",
+    "events",
+)

@@ -1,19 +1,21 @@
-"""Pages, and the places of their bytes. No call copies a page: C reads it where it stands. The bytes of `bytes` and of a `str`
-that is ASCII are those of the object, the UTF-8 of another `str` is what Python itself makes of it once and keeps with it, and
-those of a buffer stand in the buffer, which is held while it is read."""
+"""Pages, and the places of their bytes. C reads a page where it stands, but for a long buffer that could change while it is read
+without the lock of the interpreter, which is copied. The bytes of `bytes` and of a `str` that is ASCII are those of the object, the
+UTF-8 of another `str` is what Python itself makes of it once and keeps with it, and those of a buffer stand in the buffer, which is
+held while it is read."""
 from __future__ import annotations
 
 import ctypes
 from array import array
 from bisect import bisect_right
+from codecs import utf_8_decode
 from functools import lru_cache
 from mmap import mmap
 from operator import index
-from typing import Any, Optional, TypeVar, Union
+from typing import Any, Iterable, Optional, TypeVar, Union
 
-from ._c import NONE
-from ._library import FAST, address_of, address_of_text
-from .errors import LoneSurrogateError
+from ._c import NONE, NOT_UTF8
+from ._library import FAST, UNLOCKED, address_of, address_of_text, size_of_text
+from .errors import LoneSurrogateError, NotUtf8Error, stated
 
 Buffer = Union[bytes, bytearray, memoryview, mmap]
 #: What can be scanned. Other buffers of single bytes are taken too.
@@ -99,15 +101,18 @@ def _index_of(text: str, byte: int) -> int:
     return front + len(text[front : front + STEP].encode()[: byte - first].decode("utf-8", "ignore"))
 
 
-def _named(given: object) -> str:
+def named(given: object) -> str:
+    """What is given, in the words of an error."""
     return "None" if given is None else f"of type {type(given).__name__}"
 
 
 def whole_number(what: str, given: Any) -> int:
+    if isinstance(given, bool):  # which is an int, and most often meant for something else
+        raise TypeError(f"{what} is {given}, and not an int")
     try:
         return index(given)
     except TypeError:
-        raise TypeError(f"{what} is {_named(given)}, and not an int") from None
+        raise TypeError(f"{what} is {named(given)}, and not an int") from None
 
 
 def number(what: str, given: int) -> int:
@@ -148,17 +153,30 @@ def character_number(given: Union[str, int]) -> int:
 def flag(what: str, given: bool) -> bool:
     if given is True or given is False:
         return given
-    raise TypeError(f"{what} is {_named(given)}, and not a bool")
+    raise TypeError(f"{what} is {named(given)}, and not a bool")
 
 
-def _view(data: Any) -> memoryview:
+def several(name: str, given: Iterable[Any], of: str) -> list[Any]:
+    """What is given, in a list."""
+    if type(given) is not tuple and type(given) is not list:
+        check_several(name, given, of)
+    return list(given)
+
+
+def check_several(name: str, given: Iterable[Any], of: str) -> None:
+    """Refuses what can't be gone through, and a text, which is one."""
+    if isinstance(given, (str, bytes, bytearray, memoryview)) or not hasattr(given, "__iter__"):
+        raise TypeError(f"{name} is {named(given)}, and not several {of}")
+
+
+def view_of(data: Any, name: str = "data") -> memoryview:
     """A view that holds the buffer."""
     try:
         view = memoryview(data)
     except TypeError:
-        raise TypeError(f"data is {_named(data)}, and not str, bytes or another buffer") from None
+        raise TypeError(f"{name} is {named(data)}, and not str, bytes or another buffer") from None
     if view.ndim != 1 or view.itemsize != 1 or not view.contiguous:
-        raise TypeError("data is a buffer of something else than single bytes in a row")
+        raise TypeError(f"{name} is a buffer of something else than single bytes in a row")
     return view
 
 
@@ -174,6 +192,14 @@ def _span(text: str, first: int, last: int) -> tuple[int, int, int]:
         raise LoneSurrogateError(why.start) from None
 
 
+def _all_of(text: str) -> tuple[int, int, int]:
+    """The same of the whole str."""
+    try:
+        return address_of_text(text), 0, size_of_text(text)
+    except UnicodeEncodeError as why:
+        raise LoneSurrogateError(why.start) from None
+
+
 def _limits(size: int, at: int, end: Optional[int]) -> tuple[int, int]:
     """The places where reading begins and ends."""
     first = at if type(at) is int else whole_number("at", at)
@@ -185,10 +211,10 @@ def _limits(size: int, at: int, end: Optional[int]) -> tuple[int, int]:
 
 def limits(data: Page, at: int, end: Optional[int]) -> tuple[int, int]:
     """The places of the page where reading begins and ends."""
-    return _limits(len(data if isinstance(data, (str, bytes)) else _view(data)), at, end)
+    return _limits(len(data if isinstance(data, (str, bytes)) else view_of(data)), at, end)
 
 
-def _spot(data: Page, at: int, end: Optional[int]) -> tuple[int, int, int, Any]:
+def _spot(data: Page, at: int, end: Optional[int], name: str) -> tuple[int, int, int, Any]:
     """The address of any page, the byte at the place, how many stand there up to the end, and what is held: the str whose places
     are not those of its UTF-8, the view of a buffer, or None."""
     if isinstance(data, str):
@@ -196,13 +222,15 @@ def _spot(data: Page, at: int, end: Optional[int]) -> tuple[int, int, int, Any]:
         first, last = _limits(len(text), at, end)
         if text is data and text.isascii():
             return address_of_text(text), first, last - first, None
+        if last - first == len(text):  # of all of it no table is made
+            return *_all_of(text), text
         return *_span(text, first, last), text
-    view = _view(data)
+    view = view_of(data, name)
     first, last = _limits(len(view), at, end)
     return address_of(view), first, last - first, view
 
 
-def front(data: Page, at: int, end: Optional[int]) -> tuple[int, int, int]:
+def front(data: Page, at: int, end: Optional[int], name: str = "data") -> tuple[int, int, int]:
     """The address of the place in the page, how many bytes stand there up to the end; and the place, to which lengths that C
     answers are added, and which has to live as long as the address is used."""
     if type(data) is bytes and type(at) is int:
@@ -210,8 +238,17 @@ def front(data: Page, at: int, end: Optional[int]) -> tuple[int, int, int]:
         last = size if end is None else end
         if type(last) is int and 0 <= at <= last <= size:
             return id(data) + _BYTES + at, last - at, at
-    address, first, length, held = _spot(data, at, end)
+    address, first, length, held = _spot(data, at, end, name)
     return address + first, length, _origin(held, first)
+
+
+def unchanged(data: Page, at: int, end: Optional[int]) -> tuple[int, int, Any]:
+    """As `front`, of what nobody changes while C reads it without the lock: a long buffer that isn't one of bytes is copied."""
+    address, length, origin = front(data, at, end)
+    if length < UNLOCKED or not isinstance(origin, _InBuffer) or isinstance(origin.view.obj, bytes):
+        return address, length, origin
+    copied = ctypes.string_at(address, length)
+    return id(copied) + _BYTES, length, _InBuffer(memoryview(copied), origin.byte)
 
 
 def whole(data: Page, at: int, end: Optional[int]) -> tuple[int, int, int, int]:
@@ -222,7 +259,7 @@ def whole(data: Page, at: int, end: Optional[int]) -> tuple[int, int, int, int]:
         last = size if end is None else end
         if type(last) is int and 0 <= at <= last <= size:
             return id(data) + _BYTES, last, at, 0
-    address, first, length, held = _spot(data, at, end)
+    address, first, length, held = _spot(data, at, end, "data")
     return address, first + length, first, _origin(held, 0)
 
 
@@ -239,3 +276,32 @@ def after(at: int, length: int) -> Optional[int]:
 def text_for(data: Page, made: bytes) -> Any:
     """A text that was made of the page, as str where that is one."""
     return made.decode() if isinstance(data, str) else made
+
+
+def stated_of(status: int, data: Page, at: int, end: Optional[int], **others: Page) -> bool:
+    """As `stated`, of a call that reads all of a text, and all of others: where one is not UTF-8 its first wrong byte is named."""
+    if status != NOT_UTF8:
+        return stated(status)
+    for name, text in others.items():
+        if (found := _first_wrong(text, 0, None)) is not None:
+            raise NotUtf8Error(found, name)
+    raise NotUtf8Error(_first_wrong(data, at, end))
+
+
+def check_text(data: Page, at: int, end: Optional[int]) -> None:
+    """Refuses what is not UTF-8, and names its first wrong byte."""
+    if (found := _first_wrong(data, at, end)) is not None:
+        raise NotUtf8Error(found)
+
+
+def _first_wrong(data: Page, at: int, end: Optional[int]) -> Optional[int]:
+    """The place of the first byte that is not UTF-8, or None where all of them are, as of a str."""
+    if isinstance(data, str):
+        return None
+    view = view_of(data)
+    first, last = _limits(len(view), at, end)
+    try:
+        utf_8_decode(view[first:last], "strict", True)
+    except UnicodeDecodeError as why:
+        return first + why.start
+    return None

@@ -4,14 +4,13 @@ from __future__ import annotations
 from typing import Any, Iterable
 
 from . import _c
-from ._pages import Page, front
+from ._pages import Page, front, several, view_of
 
 
 def views_of(name: str, texts: Iterable[Page]) -> tuple[Any, list[Any]]:
-    """The texts as C has them, and what has to live as long as these are used."""
-    if isinstance(texts, (str, bytes, bytearray)):
-        raise TypeError(f"{name} is of type {type(texts).__name__}, and not several {name}")
-    given = list(texts)
+    """The texts as C has them, and what has to live as long as these are used, first the texts. Those that could change are copied."""
+    listed = enumerate(several(name, texts, name))
+    given = [text if isinstance(text, (str, bytes)) else bytes(view_of(text, f"{name}[{at}]")) for at, text in listed]
     found = [front(text, 0, None) for text in given]
     rows: list[Any] = [(address, length) for address, length, _ in found]
     return (_c.View * len(rows))(*rows), [given, found]

@@ -10,12 +10,24 @@ class RefusalError(Exception):
     """A call has refused what it was given."""
 
     status: Optional[int] = None
+    page: Optional[int] = None  #: of `html_many` the index of the page that was refused
+
+    def __str__(self) -> str:
+        said = super().__str__()
+        return said if self.page is None else f"page {self.page}: {said}"
 
 
 class NotUtf8Error(RefusalError, ValueError):
-    """The text is not UTF-8."""
+    """The text is not UTF-8; `index` is the offset of its first byte that is wrong, or None of `scan_delimiter_run`, which reads a few."""
 
     status = _c.NOT_UTF8
+
+    def __init__(self, index: Optional[int] = None, name: str = "the text") -> None:
+        super().__init__(f"{name} is not UTF-8" + ("" if index is None else f": the byte at index {index} is wrong"))
+        self.index, self.name = index, name
+
+    def __reduce__(self) -> tuple[Any, ...]:
+        return type(self), (self.index, self.name), self.__dict__
 
 
 class LoneSurrogateError(RefusalError, ValueError):
@@ -25,8 +37,8 @@ class LoneSurrogateError(RefusalError, ValueError):
         super().__init__(f"the str has half of a surrogate pair at index {index}")
         self.index = index
 
-    def __reduce__(self) -> tuple[type[LoneSurrogateError], tuple[int]]:
-        return LoneSurrogateError, (self.index,)
+    def __reduce__(self) -> tuple[Any, ...]:
+        return type(self), (self.index,), self.__dict__
 
 
 class BadSkipsError(RefusalError, ValueError):
@@ -84,7 +96,6 @@ Stopped, NoOpener, NotRising, InsideFind = StoppedError, NoOpenerError, NotRisin
 SpacePending = SpacePendingError
 
 _REFUSALS: dict[int, type[RefusalError]] = {
-    _c.NOT_UTF8: NotUtf8Error,
     _c.BAD_SKIPS: BadSkipsError,
     _c.TOO_LARGE: TooLargeError,
     _c.EMPTY: EmptyError,
@@ -99,6 +110,8 @@ def refusal(status: int) -> Exception:
     """What is raised for a status that is neither an answer nor nothing."""
     if status == _c.NO_MEMORY:
         return MemoryError("memory was refused")
+    if status == _c.NOT_UTF8:
+        return NotUtf8Error()
     if status not in _REFUSALS:
         return RefusalError(f"status {status}")
     kind = _REFUSALS[status]

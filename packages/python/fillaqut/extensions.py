@@ -4,6 +4,7 @@ from __future__ import annotations
 from typing import Iterable
 
 from ._extensions import BITS, NOT_BUILT
+from ._pages import several
 
 
 def bits_of(extensions: Iterable[str]) -> int:
@@ -22,15 +23,13 @@ def built_bits_of(extensions: Iterable[str]) -> int:
 
 
 def _names_of(extensions: Iterable[str]) -> list[str]:
-    if isinstance(extensions, (str, bytes, bytearray)):
-        raise TypeError(f"extensions is of type {type(extensions).__name__}, and not several names")
-    return list(extensions)
+    return several("extensions", extensions, "names")
 
 
 def _bits(names: list[str]) -> int:
     found = 0
     for name in names:
-        if name not in BITS:
+        if not isinstance(name, str) or name not in BITS:
             raise ValueError(f"there is no extension {name!r}, but {', '.join(BITS)}")
         found |= BITS[name]
     return found

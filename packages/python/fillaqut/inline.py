@@ -7,7 +7,7 @@ from typing import Any, Callable, Generic, NamedTuple, Optional, Union, overload
 
 from . import _c
 from ._library import ROOM, function, writer
-from ._pages import Buffer, Made, Page, after, character_number, flag, front, limits, number, place_in, text_for, whole
+from ._pages import Buffer, Made, Page, after, character_number, flag, front, limits, number, place_in, stated_of, text_for, whole
 from .errors import stated
 from .skips import Skips, table
 
@@ -311,7 +311,7 @@ def unescape(data: Page, at: int = 0, end: Optional[int] = None, *, in_table: bo
     """
     address, length, _held = front(data, at, end)
     found, text = _unescape(address, length, flag("in_table", in_table), length + length // 5)
-    stated(found.status)
+    stated_of(found.status, data, at, end)
     return text_for(data, text)
 
 
@@ -354,9 +354,9 @@ def labels_match(one: Page, other: Page) -> bool:
     >>> labels_match("ẞ", b"SS")
     True
     """
-    address, length, _one = front(one, 0, None)
-    second, count, _other = front(other, 0, None)
-    return stated(_labels_match(address, length, second, count))
+    address, length, _one = front(one, 0, None, "one")
+    second, count, _other = front(other, 0, None, "other")
+    return stated_of(_labels_match(address, length, second, count), one, 0, None, one=one, other=other)
 
 
 @overload
@@ -369,7 +369,7 @@ def label_key(label: Page) -> Any:
     >>> label_key("Straße"), label_key("Straße".encode())
     ('strasse', b'strasse')
     """
-    address, length, _held = front(label, 0, None)
+    address, length, _held = front(label, 0, None, "label")
     found, text = _label_key(address, length, 3 * length)
-    stated(found.status)
+    stated_of(found.status, label, 0, None)
     return text_for(label, text)

@@ -7,10 +7,9 @@ from typing import Any, Callable, Iterable, Iterator, NamedTuple, Optional
 
 from . import _c
 from ._library import function
-from ._pages import Page, front
+from ._pages import Page, stated_of, unchanged
 from ._views import views_of
 from .blocks import Span
-from .errors import stated
 from .extensions import bits_of
 
 _scan_inlines: Callable[..., _c.Inlines] = function("scan_inlines")
@@ -98,7 +97,7 @@ def scan_inlines(
     Span(start=2, stop=3)
     """
     bits = bits_of(extensions)
-    address, length, origin = front(data, at, end)
+    address, length, origin = unchanged(data, at, end)
     views, held = views_of("labels", labels)
     count = length // 16 + 8
     while True:
@@ -107,8 +106,9 @@ def scan_inlines(
         if found.status != _c.TOO_SHORT:
             break
         count = found.count
+    named = {f"labels[{at}]": label for at, label in enumerate(held[0])} if found.status == _c.NOT_UTF8 else {}
     del held  # until here the labels have stayed where they are
-    stated(found.status)
+    stated_of(found.status, data, at, end, **named)
     return (_inline(origin, row) for row in map(inlines.__getitem__, range(found.count)))
 
 

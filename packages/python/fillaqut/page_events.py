@@ -2,19 +2,22 @@
 from __future__ import annotations
 
 import struct
+from array import array
 from ctypes import string_at
 from enum import IntEnum
+from functools import cached_property
 from typing import Any, Callable, Generic, Iterable, Iterator, NamedTuple, Optional, overload
 
 from . import _c
-from ._library import address_of, function
-from ._pages import Buffer, InText, Made, Page, front
+from ._library import FAST, address_of, function, unwritten
+from ._pages import Buffer, InText, Made, Page, limits, stated_of, unchanged
 from .blocks import Alignment
-from .errors import stated
 from .extensions import built_bits_of
 
 _events: Callable[..., _c.Events] = function("events")
 _RECORD = struct.Struct("<3I4x9Q")  # struct mds_event
+_KIND, _ELEMENT = 0, 4  # the bytes of a record that are these, whose numbers are below 256
+_START, _STOP, _WORDS = 3, 4, _RECORD.size // 8  # the words that are these, and how many a record has
 
 
 class EventKind(IntEnum):
@@ -88,6 +91,7 @@ class Event(NamedTuple, Generic[Made]):
     alignments: tuple[Alignment, ...]  #: of a table that begins, one for each column
     target: Optional[Target[Made]]  #: of a link or an image that begins
     checked: bool  #: of a task, whether its box is checked
+    is_ordered: bool  #: of a list that begins or ends, whether it is an ordered one
 
 
 _KINDS = {int(kind): kind for kind in EventKind}
@@ -95,6 +99,82 @@ _ELEMENTS = {int(element): element for element in Element}
 _LINK_KINDS = {int(kind): kind for kind in LinkKind}
 _ALIGNMENTS = tuple(Alignment)
 _WITH_TEXT = frozenset({_c.EVENT_TEXT, _c.EVENT_CODE, _c.EVENT_HTML, _c.EVENT_INLINE_HTML})
+
+
+class EventColumns(Generic[Made]):
+    """The events of a page in columns, to go through many of them in less time; and each one of them, `columns[index]`, as `events`
+    has it."""
+
+    kinds: bytes  #: of each event its `EventKind`
+    elements: bytes  #: the `Element` that begins or ends, else 0
+    starts: array[int]  #: the place in the page where its source begins
+    stops: array[int]  #: the place after it
+
+    def __init__(self, records: memoryview, texts: memoryview, is_str: bool) -> None:
+        self._records, self._texts, self._is_str = records, texts, is_str
+        self.kinds, self.elements, self.starts, self.stops = _split(records)
+
+    def __len__(self) -> int:
+        return len(self.kinds)
+
+    def __iter__(self) -> Iterator[Event[Made]]:
+        return map(self._event, _RECORD.iter_unpack(self._records), self.starts, self.stops)
+
+    def __getitem__(self, index: int) -> Event[Made]:
+        at = range(len(self))[index]
+        return self._event(_RECORD.unpack_from(self._records, at * _RECORD.size), self.starts[at], self.stops[at])
+
+    @cached_property
+    def _event(self) -> Callable[[tuple[int, ...], int, int], Event[Made]]:
+        """What makes an event of its record and its place."""
+        return _event_of(_sliced(self._texts.tobytes(), self._is_str))
+
+    def _count_characters(self, source: tuple[int, int], first: int) -> None:
+        """Puts the places of characters in the place of those of bytes of this source, the address and the length of its UTF-8, and as
+        many more as the first place says."""
+        if FAST:
+            for column in (self.starts, self.stops):
+                FAST.count_characters(*source, *column.buffer_info(), first)
+        else:
+            counted = _characters(string_at(*source), sorted({*self.starts, *self.stops}), first)
+            self.starts, self.stops = [array("Q", map(counted.__getitem__, column)) for column in (self.starts, self.stops)]
+
+
+@overload
+def event_columns(data: str, at: int = 0, end: Optional[int] = None, *, extensions: Iterable[str] = ()) -> EventColumns[str]: ...
+@overload
+def event_columns(data: Buffer, at: int = 0, end: Optional[int] = None, *, extensions: Iterable[str] = ()) -> EventColumns[bytes]: ...
+def event_columns(data: Page, at: int = 0, end: Optional[int] = None, *, extensions: Iterable[str] = ()) -> EventColumns[Any]:
+    r"""The events of a page, as `events` has them, in columns of numbers: the kinds of all, their elements, and where they start and
+    stop. (3 to 6)
+
+    >>> columns = event_columns("# A\n\n*b*")
+    >>> columns.kinds.count(EventKind.TEXT), columns.elements.count(Element.HEADING)
+    (2, 2)
+    >>> [(start, stop) for kind, start, stop in zip(columns.kinds, columns.starts, columns.stops) if kind == EventKind.TEXT]
+    [(2, 3), (6, 7)]
+    >>> len(columns), columns[1].text
+    (8, 'A')
+    """
+    bits = built_bits_of(extensions)
+    address, length, origin = unchanged(data, at, end)
+    count, size = length // 8 + 64, length + 64
+    while True:
+        records, texts = unwritten(count * _RECORD.size), unwritten(size)
+        found = _events(address, length, bits, address_of(records), count, address_of(texts), size)
+        if found.status != _c.TOO_SHORT:
+            break
+        count, size = found.count, found.length + 1  # an empty buffer may have no address
+    stated_of(found.status, data, at, end)
+    made: EventColumns[Any] = EventColumns(
+        memoryview(records)[: found.count * _RECORD.size], memoryview(texts)[: found.length], isinstance(data, str)
+    )
+    first = limits(data, at, end)[0]
+    if isinstance(origin, InText):
+        made._count_characters((address, length), first)
+    elif first:
+        made.starts, made.stops = [array("Q", map(first.__add__, column)) for column in (made.starts, made.stops)]
+    return made
 
 
 @overload
@@ -115,19 +195,7 @@ def events(data: Page, at: int = 0, end: Optional[int] = None, *, extensions: It
     >>> [event.level for event in events("## a\nb") if event.element == Element.HEADING]
     [2, 2]
     """
-    bits = built_bits_of(extensions)
-    address, length, origin = front(data, at, end)
-    count, size = length // 8 + 64, length + 64
-    while True:
-        records, texts = memoryview(bytearray(count * _RECORD.size)), memoryview(bytearray(size))
-        found = _events(address, length, bits, address_of(records), count, address_of(texts), size)
-        if found.status != _c.TOO_SHORT:
-            break
-        count, size = found.count, found.length + 1  # an empty buffer may have no address
-    stated(found.status)
-    rows = list(_RECORD.iter_unpack(records[: found.count * _RECORD.size]))
-    words = _sliced(texts[: found.length].tobytes(), isinstance(data, str))
-    return map(_event_of(_places(rows, origin, address, length), words), rows)
+    return iter(event_columns(data, at, end, extensions=extensions))
 
 
 def _sliced(texts: bytes, is_str: bool) -> Callable[[int, int], Any]:
@@ -138,30 +206,39 @@ def _sliced(texts: bytes, is_str: bool) -> Callable[[int, int], Any]:
     return lambda start, length: whole[start : start + length]
 
 
-def _places(rows: list[tuple[int, ...]], origin: Any, address: int, length: int) -> Callable[[int], int]:
-    """What answers the place in the page of a byte at which a range begins or ends."""
-    if not isinstance(origin, InText):
-        first: int = origin + 0
-        return lambda byte: first + byte
-    source = string_at(address, length)
-    place, last = origin + 0, 0
+def _split(records: memoryview) -> tuple[bytes, bytes, array[int], array[int]]:
+    """The columns of records: kinds, elements, starts and stops, in bytes."""
+    count = len(records) // _RECORD.size
+    if FAST:
+        kinds, elements, starts, stops = unwritten(count), unwritten(count), array("Q", [0]) * count, array("Q", [0]) * count
+        columns = address_of(kinds), address_of(elements), starts.buffer_info()[0], stops.buffer_info()[0]
+        FAST.split_events(address_of(records), count, *columns)
+        return kinds, elements, starts, stops
+    kinds, elements = [records[byte :: _RECORD.size].tobytes() for byte in (_KIND, _ELEMENT)]
+    starts, stops = [array("Q", records.cast("Q")[word::_WORDS].tobytes()) for word in (_START, _STOP)]
+    return kinds, elements, starts, stops
+
+
+def _characters(source: bytes, places: list[int], first: int) -> dict[int, int]:
+    """How many characters stand before each of these places, which rise, and so many more."""
+    before, last = first, 0
     found: dict[int, int] = {}
-    for byte in sorted({bound for row in rows for bound in row[4:6]}):
-        place, last = place + len(source[last:byte].decode()), byte
-        found[byte] = place
-    return found.__getitem__
+    for place in places:
+        before, last = before + len(source[last:place].decode()), place
+        found[place] = before
+    return found
 
 
-def _event_of(place: Callable[[int], int], words: Callable[[int, int], Any]) -> Callable[[tuple[int, ...]], Event[Any]]:
-    """What makes an event of its record."""
+def _event_of(words: Callable[[int, int], Any]) -> Callable[[tuple[int, ...], int, int], Event[Any]]:
+    """What makes an event of its record and its place."""
 
-    def made(row: tuple[int, ...]) -> Event[Any]:
-        kind, element, detail, number, start, stop = row[:6]
+    def made(row: tuple[int, ...], start: int, stop: int) -> Event[Any]:
+        kind, element, detail, number = row[:4]
         text = words(row[6], row[7]) if kind in _WITH_TEXT else None
         if kind != _c.EVENT_START:
             level = detail if element == _c.ELEMENT_HEADING else 0
-            is_checked = kind == _c.EVENT_TASK and detail == 1
-            return Event(_KINDS[kind], place(start), place(stop), _ELEMENTS.get(element), text, level, None, (), None, is_checked)
+            is_checked, is_ordered = kind == _c.EVENT_TASK and detail == 1, element == _c.ELEMENT_LIST and detail == 1
+            return Event(_KINDS[kind], start, stop, _ELEMENTS.get(element), text, level, None, (), None, is_checked, is_ordered)
         level, first, target = 0, None, None
         alignments: tuple[Alignment, ...] = ()
         if element == _c.ELEMENT_HEADING:
@@ -174,7 +251,7 @@ def _event_of(place: Callable[[int], int], words: Callable[[int, int], Any]) -> 
             alignments = tuple(_ALIGNMENTS[value] for value in _numbers(words(row[6], row[7])))
         elif element in (_c.ELEMENT_LINK, _c.ELEMENT_IMAGE):
             target = Target(_LINK_KINDS[detail], words(row[6], row[7]), words(row[8], row[9]), words(row[10], row[11]))
-        return Event(_KINDS[kind], place(start), place(stop), _ELEMENTS[element], text, level, first, alignments, target, False)
+        return Event(_KINDS[kind], start, stop, _ELEMENTS[element], text, level, first, alignments, target, False, first is not None)
 
     return made
 

@@ -7,7 +7,7 @@ from typing import Any, Callable, Generic, Iterable, Iterator, NamedTuple, Optio
 
 from . import _c
 from ._library import function, writer
-from ._pages import Buffer, Made, Page, front, text_for
+from ._pages import Buffer, Made, Page, front, text_for, unchanged
 from .errors import stated
 from .extensions import bits_of
 from .inline import HtmlBlockKind
@@ -141,7 +141,7 @@ def scan_blocks(data: Page, at: int = 0, end: Optional[int] = None, *, extension
     (['TABLE'], ['PARAGRAPH'])
     """
     bits = bits_of(extensions)
-    address, length, origin = front(data, at, end)
+    address, length, origin = unchanged(data, at, end)
     blocks, count = _written(_scan_blocks, _c.Block, address, length, bits)
     return _leaves((data, at, end), origin, blocks, count)
 
@@ -218,7 +218,7 @@ def scan_lists(data: Page, at: int = 0, end: Optional[int] = None, *, extensions
     [ListBlock(delimiter=41, start=2, is_loose=True, depth=0, line=0, lines=4)]
     """
     bits = bits_of(extensions)
-    address, length, _held = front(data, at, end)
+    address, length, _held = unchanged(data, at, end)
     lists, count = _written(_scan_lists, _c.List, address, length, bits)
     return map(_list, lists[:count])
 

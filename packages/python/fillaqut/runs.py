@@ -7,7 +7,7 @@ from typing import Any, Callable, Iterable, Optional, TypeVar, Union
 
 from . import _c
 from ._library import function, writer
-from ._pages import Made, Page, after, number, place_in, text_for, whole
+from ._pages import Made, Page, after, number, place_in, several, text_for, whole
 from .errors import StoppedError, TooLargeError, refusal, stated
 from .line_start import LineStart, ListMarker
 
@@ -56,7 +56,7 @@ def run_line(start: LineStart[Made], calls: Iterable[tuple[int, int]]) -> tuple[
     >>> run_line(start, [(CallKind.QUOTE, 0), (CallKind.UPTO, 1)]), start.place, start.pending
     ((True, 1), 2, 1)
     """
-    kinds: list[Any] = [(CallKind(kind), number("a number of a call", value)) for kind, value in calls]
+    kinds: list[Any] = [(CallKind(kind), number("a number of a call", value)) for kind, value in several("calls", calls, "calls")]
     given, answers = (_c.LineCall * len(kinds))(*kinds), (_c.LineAnswer * len(kinds))()
     found = _run_line(*_checked(start)._given, addressof(given), len(kinds), addressof(answers), len(kinds))
     run = tuple(_answer(kind, answer) for (kind, _), answer in zip(kinds, answers[: found.count]))
@@ -87,7 +87,7 @@ def run_inline_html(data: Page, places: Iterable[int], end: Optional[int] = None
     (4, None, 18)
     """
     address, length, _, origin = whole(data, 0, end)
-    listed = [min(place_in(data, number("a place", place)), _c.NONE) for place in places]
+    listed = [min(place_in(data, number("a place", place)), _c.NONE) for place in several("places", places, "places")]
     given, ends = (c_size_t * len(listed))(*listed), (c_size_t * len(listed))()
     found = _run_inline_html(address, length, addressof(given), len(listed), addressof(ends), len(listed))
     return _ended(found.status, tuple(after(origin, offset) for offset in ends[: found.count]))

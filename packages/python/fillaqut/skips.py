@@ -6,7 +6,7 @@ from typing import Any, Callable, Iterable, Optional
 
 from . import _c
 from ._library import function
-from ._pages import NUMBERS, Page, number, place_in, whole
+from ._pages import NUMBERS, Page, number, place_in, several, whole
 from .errors import stated
 
 _check_skips: Callable[..., int] = function("check_skips")
@@ -27,7 +27,8 @@ class Skips:
 
     def __init__(self, data: Page, rows: Iterable[tuple[int, int]] = ()) -> None:
         address, length, _, held = whole(data, 0, None)
-        listed: list[Any] = [_bytes_of(data, number("a place", place), number("a length", length)) for place, length in rows]
+        given = several("rows", rows, "rows")
+        listed: list[Any] = [_bytes_of(data, number("a place", place), number("a length", length)) for place, length in given]
         self.data, self._table = data, (_c.Skip * len(listed))(*listed)
         stated(_check_skips(address, length, addressof(self._table), len(listed)))
         del held  # until here the page has stayed where it is

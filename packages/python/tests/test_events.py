@@ -4,6 +4,7 @@ import re
 import sys
 import unittest
 from html import escape
+from itertools import accumulate
 from pathlib import Path
 from urllib.parse import quote
 
@@ -163,6 +164,48 @@ class Events(unittest.TestCase):
         self.assertEqual((link.target.destination, link.target.title, link.stop), ("ü".encode(), "ä".encode(), 13))
         self.assertEqual([event.text for event in mds.events("a\0") if event.text is not None], ["a\0"])
 
+    def test_ends_of_lists_and_headings(self):
+        """Both events of a heading say its level, and both of a list whether it is ordered."""
+        found = list(mds.events("## a\n\n3. b\n   - c\n"))
+        self.assertEqual([event.level for event in found if event.element == Element.HEADING], [2, 2])
+        self.assertEqual([event.is_ordered for event in found if event.element == Element.LIST], [True, False, False, True])
+        self.assertEqual([event.number for event in found if event.element == Element.LIST], [3, None, None, None])
+
+    def test_columns(self):
+        """They have what `events` has, of each row: of bytes, of a str, and of one that is not ASCII and begins at a place."""
+        rows = tables.pages("events")
+        for row in rows:
+            text = row.text.decode()
+            for data, at, end in ((row.text, 0, None), (text, 0, None), (b"*" + row.text, 1, None), (f"é*{text}*🍔", 2, 2 + len(text))):
+                expected = list(mds.events(data, at, end, extensions=row.words))
+                found = mds.event_columns(data, at, end, extensions=row.words)
+                self.assertEqual(list(found), expected, row.where)
+                self.assertEqual([found[index] for index in range(len(found))], expected, row.where)
+                self.assertEqual(found.kinds, bytes(event.kind for event in expected))
+                self.assertEqual(found.elements, bytes(event.element or 0 for event in expected))
+                self.assertEqual(list(zip(found.starts, found.stops)), [(event.start, event.stop) for event in expected])
+        self.assertGreater(len(rows), 10)
+
+    def test_places_of_columns(self):
+        """Those of characters of one byte, two, three and four, counted by Python."""
+        lines = [f"{'a' * (at % 5)}{'é' * (at % 3)}{'€' * (at % 7)}🍔" for at in range(200)]
+        page = "\n\n".join(lines)
+        stops = list(accumulate(len(line) + 2 for line in lines))
+        for first in ("", "ü\n\n"):
+            found = mds.event_columns(first + page, len(first))
+            kept = [at for at, kind in enumerate(found.kinds) if kind == EventKind.TEXT]
+            self.assertEqual([found.stops[at] for at in kept], [len(first) + stop - 2 for stop in stops])
+            self.assertEqual([(first + page)[found.starts[at] : found.stops[at]] for at in kept], lines)
+
+    def test_indexes_of_columns(self):
+        found = mds.event_columns("# a")
+        self.assertEqual((len(found), found[-1], found[-3]), (3, found[2], found[0]))
+        for index in (3, -4):
+            self.assertRaises(IndexError, found.__getitem__, index)
+        self.assertRaises(TypeError, found.__getitem__, "a")
+        empty = mds.event_columns("")
+        self.assertEqual((len(empty), list(empty), empty.kinds, list(empty.starts)), (0, [], b"", []))
+
     def test_more_than_there_is_room_for(self):
         """More events, and longer texts, than the first buffers hold."""
         self.assertEqual(sum(event.kind == EventKind.SOFT_BREAK for event in mds.events("a\n" * 5000)), 4999)
@@ -172,7 +215,10 @@ class Events(unittest.TestCase):
     def test_refusals(self):
         self.assertEqual(list(mds.events("")), [])
         self.assertEqual(list(mds.events(b"")), [])
-        self.assertRaises(mds.NotUtf8Error, mds.events, b"a\xff")
+        for call in (mds.events, mds.event_columns):
+            with self.assertRaises(mds.NotUtf8Error) as why:
+                call(b"\xffa\xff", 1)
+            self.assertEqual(why.exception.index, 2)
         self.assertRaises(mds.LoneSurrogateError, mds.events, "\ud800")
         self.assertRaisesRegex(ValueError, "no extension 'footnote'", mds.events, "a", extensions=["footnote"])
         for name in ("footnotes", "definition-lists"):

@@ -1,4 +1,5 @@
 """The HTML of pages, on the rows of packages/pages.tsv."""
+import itertools
 import sys
 import unittest
 from pathlib import Path
@@ -96,6 +97,8 @@ class Html(unittest.TestCase):
         for given in (1, 0, None, "no"):
             self.assertRaises(TypeError, mds.html, "a", rel=given)
             self.assertRaises(TypeError, mds.html, "a", images_as_links=given)
+            self.assertRaises(TypeError, mds.html, "a", strict=given)
+            self.assertRaises(TypeError, mds.html_unsafe, "a", strict=given)
         for name in ("schemes", "raw_html", "rel", "images_as_links"):
             self.assertRaises(TypeError, mds.html_unsafe, "a", **{name: False})
 
@@ -103,9 +106,37 @@ class Html(unittest.TestCase):
         self.assertEqual((mds.html(""), mds.html(b"")), ("", b""))
         self.assertEqual(mds.html("é🍔"), "<p>é🍔</p>\n")
         self.assertEqual(mds.html("é*a*b", 1, 4), "<p><em>a</em></p>\n")
-        self.assertRaises(mds.NotUtf8Error, mds.html, b"a\xff")
         self.assertRaises(mds.LoneSurrogateError, mds.html, "\ud800")
         self.assertRaises(TypeError, mds.html, None)
+
+    def test_pages_that_are_not_utf8(self):
+        """Each is read as Python's own decoder reads it, and is refused where that is asked for."""
+        wrong = [b"\xff", b"\x80", b"\xc3", b"\xe2\x82", b"\xe2\x28", b"\xed\xa0\x80", b"\xf0\x9f\x8d", b"\xc0\x80", b"\xf4\x90\x80\x80"]
+        wrong += [bytes(pair) for pair in itertools.product((0x41, 0x80, 0xBF, 0xC2, 0xE0, 0xED, 0xF0, 0xF4, 0xFF), repeat=2)]
+        asked = ({}, {"rel": False}, {"raw_html": "omitted", "schemes": ["ftp"]})
+        for middle, (front, back) in itertools.product(wrong, ((b"", b""), (b"# <b>\xc3\xa9 [", b"](ftp:b)\n"), (b"*" * 9, b"\xf0\x9f"))):
+            page = front + middle + back
+            text = page.decode(errors="replace").encode()
+            for setting in asked:
+                self.assertEqual(mds.html(page, **setting), mds.html(text, **setting), page)
+                self.assertEqual(mds.html(bytearray(page), 0, len(page), **setting), mds.html(text, **setting), page)
+            self.assertEqual(mds.html_unsafe(page), mds.html_unsafe(text), page)
+            self.are_strict(page)
+        self.assertEqual(mds.html(b"a\xff\xffb", 2, 3), b"<p>\xef\xbf\xbd</p>\n")
+
+    def are_strict(self, page):
+        """The calls that ask for it refuse a page that is not UTF-8."""
+        try:
+            text = page.decode()
+        except UnicodeDecodeError as expected:
+            for call, setting in ((mds.html, {}), (mds.html, {"rel": False}), (mds.html_unsafe, {})):
+                with self.assertRaises(mds.NotUtf8Error) as why:
+                    call(page, strict=True, **setting)
+                self.assertEqual(why.exception.index, expected.start)
+        else:
+            self.assertEqual(mds.html(page, strict=True), mds.html(page))
+            self.assertEqual(mds.html(text, strict=True), mds.html(text))
+            self.assertEqual(mds.html_unsafe(text, strict=True), mds.html_unsafe(text))
 
     def test_long_html(self):
         """More than a first buffer holds: an address is written as often as it is referred to, up to 100,000 bytes."""

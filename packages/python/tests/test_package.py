@@ -1,15 +1,24 @@
 """What no row of packages/c/tests says: bytes of each number, guards, what is refused before C is called, and that
 nothing is missing."""
+import ctypes
 import doctest
 import html.entities
 import importlib
+import importlib.util
+import itertools
+import os
+import pickle
 import pkgutil
+import sys
 import unicodedata
 import unittest
+from functools import partial
 from pathlib import Path
+from types import SimpleNamespace
+from unittest import mock
 
 import fillaqut as mds
-from fillaqut import _c, errors
+from fillaqut import _c, _library, errors
 from test_rows import hold
 
 FOLDER = Path(mds.__file__).parent
@@ -83,10 +92,37 @@ class Refusals(unittest.TestCase):
                 self.assertIs(getattr(mds, kind.__name__.removesuffix("Error")), kind)
 
     def test_texts(self):
-        for call in (mds.unescape, mds.label_key, lambda text: mds.labels_match(text, b"")):
-            self.assertRaises(mds.NotUtf8Error, call, b"a]\xff")
+        for call in (mds.unescape, mds.label_key, lambda text: mds.labels_match(text, b""), lambda text: mds.labels_match("", text)):
+            with self.assertRaisesRegex(mds.NotUtf8Error, "is not UTF-8: the byte at index 2 is wrong") as why:
+                call(b"a]\xff")
+            self.assertEqual(why.exception.index, 2)
         self.assertRaises(mds.EmptyError, mds.scan_entity, b"")
         self.assertRaises(mds.TooLargeError, mds.calc_indent, b"", limit=2**64 - 1)
+
+    def test_first_wrong_bytes(self):
+        """As Python's own decoder finds them, from a place on, of bytes and of a buffer."""
+        strict = partial(mds.html, strict=True), partial(mds.html_unsafe, strict=True)
+        for wrong in (b"\xff", b"\x80", b"a\xc3", b"\xe2\x82", b"\xe2\x28", b"\xed\xa0\x80", b"\xf0\x9f\x8d", b"\xc0\x80", b"\xf4\x90\x80\x80"):
+            for front in (b"", "é\n\n".encode(), b"# a\n" * 10_000):
+                page = b"\xff" + front + wrong
+                with self.assertRaises(UnicodeDecodeError) as expected:
+                    page[1:].decode()
+                for call, data in itertools.product((*strict, mds.events, mds.scan_inlines, mds.unescape), (page, bytearray(page))):
+                    with self.assertRaises(mds.NotUtf8Error) as why:
+                        call(data, 1)
+                    self.assertEqual(why.exception.index, 1 + expected.exception.start)
+                    copied = pickle.loads(pickle.dumps(why.exception))
+                    self.assertEqual((copied.index, str(copied)), (why.exception.index, str(why.exception)))
+
+    def test_labels_that_are_not_utf8(self):
+        with self.assertRaisesRegex(mds.NotUtf8Error, r"labels\[1\] is not UTF-8: the byte at index 1 is wrong") as why:
+            mds.scan_inlines("[a]", labels=["a", b"b\xff"])
+        self.assertEqual((why.exception.index, why.exception.name), (1, "labels[1]"))
+        with self.assertRaisesRegex(mds.NotUtf8Error, "other is not UTF-8"):
+            mds.labels_match("a", b"\xff")
+        with self.assertRaises(mds.NotUtf8Error) as why:
+            mds.scan_delimiter_run(b"\xff*a", 1)
+        self.assertIsNone(why.exception.index)
 
     def test_skips(self):
         page = b"> <a\n> b> c\n\xff> d"
@@ -175,6 +211,19 @@ class Package(unittest.TestCase):
         calls += [call for kind in (mds.LineStart, mds.HtmlScanGuard) for name, call in vars(kind).items() if not name.startswith("_")]
         self.assertEqual([call for call in calls if ">>>" not in (call.__doc__ or "") and callable(call)], [])
         hold(self, "examples", tried)
+
+    def test_ways_of_ctypes_under_windows(self):
+        """The library is found, and called, where ctypes goes the ways that it has for Windows, whose flags stand here for those of this system."""
+        flags = SimpleNamespace(_LOAD_LIBRARY_SEARCH_DEFAULT_DIRS=ctypes.DEFAULT_MODE | 2, _LOAD_LIBRARY_SEARCH_DLL_LOAD_DIR=0, _getfullpathname=str)
+        spec = importlib.util.spec_from_file_location("fillaqut._library_again", _library.__file__)
+        again = importlib.util.module_from_spec(spec)
+        system = SimpleNamespace(**{**vars(os), "name": "nt"})
+        with mock.patch.object(ctypes, "_os", system), mock.patch.dict(sys.modules, nt=flags):
+            if sys.version_info < (3, 14):  # a later one has chosen its ways before
+                self.assertRaises(TypeError, ctypes.PyDLL, None)
+            spec.loader.exec_module(again)
+        self.assertEqual(again.size_of_text("\u20ac"), 3)
+        self.assertEqual(again.function("scan_line")(again.address_of(b"a\nb"), 3), 2)
 
 
 if __name__ == "__main__":

@@ -51,11 +51,32 @@ class Arguments(unittest.TestCase):
             "a place ": lambda: mds.run_inline_html(b"<!", [2.0]),
             "a length ": lambda: mds.Skips(b"a", [(0, "1")]),
             "start ": lambda: mds.line_rest(b"a"),
+            "one ": lambda: mds.labels_match(1, "a"),
+            "other ": lambda: mds.labels_match("a", None),
+            "label ": lambda: mds.label_key(None),
+            "labels ": lambda: mds.scan_inlines("a", labels=None),
+            "labels[1] ": lambda: mds.scan_inlines("a", labels=["a", 1]),
+            "extensions ": lambda: mds.scan_blocks("a", extensions=None),
+            "schemes ": lambda: mds.html("a", schemes=1),
+            "schemes[0] ": lambda: mds.html("a", schemes=[None]),
+            "places ": lambda: mds.run_inline_html(b"<!", 2),
+            "rows ": lambda: mds.Skips(b"a", None),
+            "calls ": lambda: mds.run_line(start, None),
             "byte'": lambda: mds.scan_ch(b"a#", 1),
         }.items():
             with self.assertRaises(TypeError) as why:
                 call()
             self.assertIn(name, str(why.exception))
+
+    def test_a_bool_is_no_number(self):
+        """It is most often meant for an option, which has a name."""
+        for call in (mds.html, mds.html_unsafe, mds.events, mds.event_columns, mds.scan_blocks, mds.scan_inlines, mds.scan_line, mds.LineStart):
+            for given in (True, False):
+                self.assertRaisesRegex(TypeError, f"at is {given}, and not an int", call, "abc", given)
+                self.assertRaisesRegex(TypeError, f"end is {given}, and not an int", call, b"abc", 0, given)
+                self.assertRaisesRegex(TypeError, f"at is {given}, and not an int", call, bytearray(b"abc"), given)
+        self.assertRaisesRegex(TypeError, "limit is True", mds.calc_indent, b"a", limit=True)
+        self.assertRaisesRegex(TypeError, "the byte is True", mds.is_whitespace, True)
 
     def test_kinds(self):
         self.assertRaises(ValueError, mds.ends_html_block, b"a", kind=8)

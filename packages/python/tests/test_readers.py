@@ -1,4 +1,5 @@
 """Pages that come piece by piece have the blocks of the whole page, on the pages of packages/pages.tsv."""
+import io
 import unittest
 
 import fillaqut as mds
@@ -44,7 +45,6 @@ class Readers(unittest.TestCase):
         self.assertEqual([block.content() for block in reader.feed(bytearray(b"---\nc"))], [])  # no whole line follows yet
         self.assertEqual([block.kind for block in reader.feed(memoryview(b"\n"))], [BlockKind.SETEXT])
         self.assertEqual([block.content() for block in reader.close()], [b"c"])
-        self.assertEqual(reader.close(), [])
         self.assertEqual(list(read_blocks([])), [])
 
     def test_definitions_stand_before_a_paragraph(self):
@@ -75,8 +75,54 @@ class Readers(unittest.TestCase):
         [block] = reader.close()
         self.assertEqual((found, len(block.containers), block.lines, len(block.content())), ([], 1000, 10_000, 19_999))
 
+    def test_pieces_of_str(self):
+        """The blocks are those of the whole str, with places of its characters, in pieces of each size."""
+        rows = tables.pages("scan_blocks")
+        self.assertGreater(len(rows), 30)
+        for page, extensions in [(f"é\n\n{row.text.decode()}\n\n- 🍔\n  ü", row.words) for row in rows]:
+            whole = list(mds.scan_blocks(page, extensions=extensions))
+            for size in (1, 2, 3, 7, len(page)):
+                found = list(read_blocks((page[at : at + size] for at in range(0, len(page), size)), extensions=extensions))
+                self.assertEqual(together(found), together(whole), page)
+                if "]:" not in page:
+                    self.assertEqual([fields_of(block) for block in found], [fields_of(block) for block in whole], page)
+
+    def test_files(self):
+        """The lines of a file of text, and of one of bytes."""
+        expected = [block.content() for block in mds.scan_blocks("# é\n> b\n")]
+        self.assertEqual([block.content() for block in read_blocks(io.StringIO("# é\n> b\n"))], expected)
+        self.assertEqual([block.content().decode() for block in read_blocks(io.BytesIO("# é\n> b\n".encode()))], expected)
+
+    def test_byte_order_marks(self):
+        """They are no part of the first block, as of a whole page."""
+        for page in ("\ufeff# a", "\ufeff# a".encode()):
+            [whole] = mds.scan_blocks(page)
+            [found] = read_blocks(page[at : at + 1] for at in range(len(page)))
+            self.assertEqual((found.kind, found.start, found.stop), (whole.kind, whole.start, whole.stop))
+
+    def test_after_the_end(self):
+        reader = BlockReader()
+        reader.feed("a")
+        self.assertEqual([block.content() for block in reader.close()], ["a"])
+        for call in (lambda: reader.feed("b"), reader.close):
+            self.assertRaisesRegex(ValueError, "the page has ended", call)
+
+    def test_lone_surrogates(self):
+        reader = BlockReader()
+        reader.feed("é\n")
+        with self.assertRaises(mds.LoneSurrogateError) as why:
+            reader.feed("a\ud800")
+        self.assertEqual(why.exception.index, 3)
+        self.assertEqual([block.content() for block in reader.feed("b\n") + reader.close()], ["é\nb"])  # as if it had not come
+
     def test_wrong_types(self):
-        for given in ("a", 1, None):
-            self.assertRaises(TypeError, BlockReader().feed, given)
+        for given in (1, None, [b"a"]):
+            self.assertRaisesRegex(TypeError, "data is ", BlockReader().feed, given)
+        for first, second in (("a", b"b"), (b"a", "b")):
+            reader = BlockReader()
+            reader.feed(first)
+            self.assertRaisesRegex(TypeError, f"data is of type {type(second).__name__}, and the pieces before it", reader.feed, second)
+        for pieces in ("a", b"a", bytearray(b"a"), None, 1):
+            self.assertRaisesRegex(TypeError, "pieces is .*, and not several pieces", read_blocks, pieces)
         self.assertRaises(TypeError, BlockReader, extensions="tables")
         self.assertRaisesRegex(ValueError, "no extension 'definition_lists', but tables", BlockReader, extensions=["definition_lists"])

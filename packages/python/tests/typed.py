@@ -1,6 +1,6 @@
 """What a type checker says of calls: packages/python/test has mypy read this, and Python run it."""
 from mmap import mmap
-from typing import Iterator, Optional, assert_type
+from typing import Any, Iterator, Optional, assert_type
 
 import fillaqut as mds
 
@@ -16,6 +16,10 @@ def of_str(page: str) -> None:
     assert_type(mds.scan_inlines(page, labels=[page], extensions=("strikethrough", "wikilinks")), Iterator[mds.Inline])
     assert_type(mds.events(page, extensions=["tables"]), Iterator[mds.Event[str]])
     assert_type([event.target.title for event in mds.events(page) if event.target], list[str])
+    assert_type(mds.event_columns(page), mds.EventColumns[str])
+    assert_type(list(mds.event_columns(page).starts), list[int])
+    assert_type([event.text for event in mds.event_columns(page)], list[Optional[str]])
+    assert_type(mds.html_many([page], threads=2, rel=False), Iterator[str])
     assert_type(mds.html(page, extensions=["tables"], schemes=[*mds.DEFAULT_SCHEMES, "ftp"], raw_html="omitted"), str)
 
 
@@ -30,6 +34,8 @@ def of_bytes(page: bytes) -> None:
     raw_html: mds.RawHtml = "escaped"
     assert_type(mds.html(page, raw_html=raw_html, rel=False, images_as_links=True), bytes)
     assert_type(mds.html_unsafe(page), bytes)
+    assert_type(mds.html_many(iter([page]), extensions=["tables"]), Iterator[bytes])
+    assert_type(mds.event_columns(page, extensions=["tables"]).kinds, bytes)
 
 
 def of_pieces(pieces: list[bytes]) -> None:
@@ -37,8 +43,14 @@ def of_pieces(pieces: list[bytes]) -> None:
     assert_type(mds.BlockReader(extensions=["tables"]).feed(pieces[0]), list[mds.Block[bytes]])
 
 
-def of_buffers(array: bytearray, view: memoryview, mapped: mmap) -> None:
-    assert_type(mds.unescape(array), bytes)
+def of_pieces_of_text(pieces: list[str]) -> None:
+    assert_type(mds.read_blocks(pieces), Iterator[mds.Block[str]])
+    assert_type(mds.BlockReader().feed("a"), list[mds.Block[str]])
+    assert_type(mds.BlockReader().close(), list[mds.Block[Any]])
+
+
+def of_buffers(buffer: bytearray, view: memoryview, mapped: mmap) -> None:
+    assert_type(mds.unescape(buffer), bytes)
     assert_type(mds.label_key(view), bytes)
     assert_type(mds.lines(mapped), Iterator[mds.Line])
 
