@@ -2,8 +2,8 @@
 #![no_std]
 #![deny(unsafe_code)]
 
-#[cfg(not(all(target_arch = "x86_64", target_pointer_width = "64", target_os = "linux")))]
-compile_error!("fillaqut is for Linux on x86-64: its library is proved and built for no other machine");
+#[cfg(not(all(target_pointer_width = "64", target_endian = "little")))]
+compile_error!("fillaqut is for 64-bit machines whose numbers have their lowest byte first");
 
 extern crate alloc;
 
@@ -29,7 +29,8 @@ pub use inlines::{scan_inlines, Inline, InlineKind, Inlines, Link, LinkTarget};
 pub use labels::*;
 pub use line::LineStart;
 pub use page_events::{CodeBlockKind, Event, OffsetIter, Parser, Tag, TagEnd, Target};
-pub use page_html::{html, html_unsafe, html_with, HtmlSetting, RawHtml, DEFAULT_SCHEMES};
+pub use page_html::{html, html_lossy, html_lossy_with, html_unsafe, html_unsafe_lossy, html_with};
+pub use page_html::{HtmlSetting, RawHtml, DEFAULT_SCHEMES};
 pub use pages::{scan_blocks, scan_lists, Block, BlockKind, BlockReader, Blocks, Container, ListBlock};
 pub use raw::Skip;
 pub use runs::{line_rest, run_inline_html, run_line, HtmlRun, HtmlStop, LineAnswer, LineCall, LineRun, LineStop};

@@ -65,7 +65,7 @@ impl Default for HtmlSetting<'_> {
 /// ```
 #[must_use]
 pub fn html(text: &str, extensions: Extensions) -> String {
-    written(text.len(), |buffer| raw::html(text, built_bits(extensions), buffer))
+    html_lossy(text.as_bytes(), extensions)
 }
 
 /// The same as [`html`] by a setting. The HTML is safe with each: raw HTML is never kept.
@@ -86,7 +86,12 @@ pub fn html(text: &str, extensions: Extensions) -> String {
 /// ```
 #[must_use]
 pub fn html_with(text: &str, extensions: Extensions, setting: &HtmlSetting) -> String {
-    let asked = raw::AskedHtml {
+    html_lossy_with(text.as_bytes(), extensions, setting)
+}
+
+/// The setting as C has it.
+fn asked_by<'a>(setting: &HtmlSetting<'a>) -> raw::AskedHtml<'a> {
+    raw::AskedHtml {
         schemes: if setting.schemes.is_empty() { &[""] } else { setting.schemes }, // no address has this one
         raw_html: match setting.raw_html {
             RawHtml::Escaped => ffi::RAW_HTML_ESCAPED,
@@ -94,8 +99,55 @@ pub fn html_with(text: &str, extensions: Extensions, setting: &HtmlSetting) -> S
         },
         rel: if setting.rel { ffi::REL_NOFOLLOW } else { ffi::REL_NONE },
         images_as_links: setting.images_as_links,
-    };
-    written(text.len(), |buffer| raw::html_with(text, built_bits(extensions), &asked, buffer))
+    }
+}
+
+/// The HTML of a page that may not be UTF-8, safe as that of [`html`], with U+FFFD in the place of each part that is wrong, as
+/// [`String::from_utf8_lossy`] has it. To refuse such a page ask [`core::str::from_utf8`] first, whose error says where it is wrong.
+///
+/// # Panics
+///
+/// As of [`html`].
+///
+/// ```
+/// use fillaqut::{html_lossy, Extensions};
+/// assert_eq!(html_lossy(b"a\xe2\x82 <b>", Extensions::default()), "<p>a\u{fffd} &lt;b&gt;</p>\n");
+/// ```
+#[must_use]
+pub fn html_lossy(page: &[u8], extensions: Extensions) -> String {
+    written(page.len(), |buffer| raw::html(page, built_bits(extensions), buffer))
+}
+
+/// The same as [`html_lossy`] by a setting. The HTML is safe with each.
+///
+/// # Panics
+///
+/// As of [`html`].
+///
+/// ```
+/// use fillaqut::{html_lossy_with, Extensions, HtmlSetting, RawHtml};
+/// let setting = HtmlSetting { raw_html: RawHtml::Omitted, ..HtmlSetting::default() };
+/// assert_eq!(html_lossy_with(b"a\xff<b>", Extensions::default(), &setting), "<p>a\u{fffd}</p>\n");
+/// ```
+#[must_use]
+pub fn html_lossy_with(page: &[u8], extensions: Extensions, setting: &HtmlSetting) -> String {
+    let asked = asked_by(setting);
+    written(page.len(), |buffer| raw::html_with(page, built_bits(extensions), &asked, buffer))
+}
+
+/// The HTML of a page that may not be UTF-8, as [`html_unsafe`] has it and with U+FFFD as of [`html_lossy`].
+///
+/// # Panics
+///
+/// As of [`html`].
+///
+/// ```
+/// use fillaqut::{html_unsafe_lossy, Extensions};
+/// assert_eq!(html_unsafe_lossy(b"\xff<b>", Extensions::default()), "<p>\u{fffd}<b></p>\n");
+/// ```
+#[must_use]
+pub fn html_unsafe_lossy(page: &[u8], extensions: Extensions) -> String {
+    written(page.len(), |buffer| raw::html_unsafe(page, built_bits(extensions), buffer))
 }
 
 /// The HTML of a page, as the examples write it. Raw HTML stands in it as it is, and links lead anywhere: it is for text of one's own,
@@ -113,7 +165,7 @@ pub fn html_with(text: &str, extensions: Extensions, setting: &HtmlSetting) -> S
 /// ```
 #[must_use]
 pub fn html_unsafe(text: &str, extensions: Extensions) -> String {
-    written(text.len(), |buffer| raw::html_unsafe(text, built_bits(extensions), buffer))
+    html_unsafe_lossy(text.as_bytes(), extensions)
 }
 
 /// What is written where there is room, which is made anew where it is too short.

@@ -49,7 +49,9 @@ extern "C" fn check_version() {
 
 /// A shared library may be another one where a program is run than where it was linked.
 #[used]
-#[link_section = ".init_array"]
+#[cfg_attr(target_vendor = "apple", link_section = "__DATA,__mod_init_func")]
+#[cfg_attr(windows, link_section = ".CRT$XCU")]
+#[cfg_attr(not(any(target_vendor = "apple", windows)), link_section = ".init_array")]
 static CHECKS_VERSION: extern "C" fn() = check_version;
 
 #[inline]
@@ -358,16 +360,14 @@ fn views_of(texts: &[&str]) -> Vec<ffi::View> {
     texts.iter().map(|it| ffi::View { text: front(it.as_bytes()), length: it.len() }).collect()
 }
 
-pub(crate) fn html_unsafe(text: &str, extensions: u32, buffer: &mut [u8]) -> Text {
-    let bytes = text.as_bytes();
+pub(crate) fn html_unsafe(page: &[u8], extensions: u32, buffer: &mut [u8]) -> Text {
     // SAFETY: each pointer and length are those of one slice, and what is written is a `&mut` of its own.
-    returned(unsafe { ffi::mds_html_unsafe(front(bytes), bytes.len(), extensions, buffer.as_mut_ptr(), buffer.len()) })
+    returned(unsafe { ffi::mds_html_unsafe(front(page), page.len(), extensions, buffer.as_mut_ptr(), buffer.len()) })
 }
 
-pub(crate) fn html(text: &str, extensions: u32, buffer: &mut [u8]) -> Text {
-    let bytes = text.as_bytes();
+pub(crate) fn html(page: &[u8], extensions: u32, buffer: &mut [u8]) -> Text {
     // SAFETY: each pointer and length are those of one slice, and what is written is a `&mut` of its own.
-    returned(unsafe { ffi::mds_html(front(bytes), bytes.len(), extensions, buffer.as_mut_ptr(), buffer.len()) })
+    returned(unsafe { ffi::mds_html(front(page), page.len(), extensions, buffer.as_mut_ptr(), buffer.len()) })
 }
 
 /// What safe HTML is written with, by the numbers of C.
@@ -378,20 +378,21 @@ pub(crate) struct AskedHtml<'a> {
     pub(crate) images_as_links: bool,
 }
 
-pub(crate) fn html_with(text: &str, extensions: u32, asked: &AskedHtml, buffer: &mut [u8]) -> Text {
-    let (bytes, views) = (text.as_bytes(), views_of(asked.schemes));
+pub(crate) fn html_with(page: &[u8], extensions: u32, asked: &AskedHtml, buffer: &mut [u8]) -> Text {
+    let views = views_of(asked.schemes);
     let setting = ffi::HtmlSetting {
         schemes: views.as_ptr(),
         scheme_count: views.len(),
         raw_html: asked.raw_html,
         rel: asked.rel,
         images_as_links: asked.images_as_links.into(),
-        reserved: [0; 9],
+        strict: 0,
+        reserved: [0; 8],
     };
     let (out, capacity) = (buffer.as_mut_ptr(), buffer.len());
     // SAFETY: each pointer and length are those of one slice, those of the setting and of its views too, and what is written is a
     // `&mut` of its own.
-    returned(unsafe { ffi::mds_html_with(front(bytes), bytes.len(), extensions, &setting, out, capacity) })
+    returned(unsafe { ffi::mds_html_with(front(page), page.len(), extensions, &setting, out, capacity) })
 }
 
 pub(crate) fn events(text: &str, extensions: u32, events: &mut [ffi::Event], texts: &mut [u8]) -> ffi::Events {

@@ -2,7 +2,7 @@
 
 use core::ffi::c_void;
 
-pub const VERSION: u32 = 0x000100;
+pub const VERSION: u32 = 0x000200;
 pub const NONE: usize = usize::MAX;
 
 pub const OK: u32 = 0;
@@ -362,7 +362,8 @@ pub struct HtmlSetting {
     pub raw_html: u32,
     pub rel: u32,
     pub images_as_links: u32,
-    pub reserved: [u32; 9],
+    pub strict: u32,
+    pub reserved: [u32; 8],
 }
 
 #[repr(C)]
@@ -559,9 +560,9 @@ extern "C" {
         inlines: *mut Inline,
         capacity: usize,
     ) -> Inlines;
-    pub fn mds_html(text: *const c_void, length: usize, extensions: u32, buffer: *mut u8, capacity: usize) -> Text;
+    pub fn mds_html(page: *const c_void, length: usize, extensions: u32, buffer: *mut u8, capacity: usize) -> Text;
     pub fn mds_html_with(
-        text: *const c_void,
+        page: *const c_void,
         length: usize,
         extensions: u32,
         setting: *const HtmlSetting,
@@ -569,7 +570,7 @@ extern "C" {
         capacity: usize,
     ) -> Text;
     pub fn mds_html_unsafe(
-        text: *const c_void,
+        page: *const c_void,
         length: usize,
         extensions: u32,
         buffer: *mut u8,

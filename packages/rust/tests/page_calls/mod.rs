@@ -300,3 +300,24 @@ fn long_html() {
     assert_eq!(html_unsafe(&page, NONE), expected);
     assert_eq!(html_with(&page, NONE, &HtmlSetting { rel: false, ..HtmlSetting::default() }), expected);
 }
+
+/// Pages that are not UTF-8 are read as std reads them.
+#[test]
+fn lossy_html() {
+    let bytes = [0x41, 0x80, 0xbf, 0xc2, 0xe0, 0xed, 0xf0, 0xf4, 0xff];
+    let pairs = bytes.iter().flat_map(|one| bytes.iter().map(|other| vec![*one, *other]));
+    let others = [
+        &b"\xe2\x82"[..],
+        b"\xed\xa0\x80",
+        b"\xf0\x9f\x8d",
+        b"\xf4\x90\x80\x80",
+        b"# <b>\xc3\xa9 [\xff](ftp:b)\n\xf0\x9f",
+    ];
+    let setting = HtmlSetting { rel: false, raw_html: RawHtml::Omitted, ..HtmlSetting::default() };
+    for page in pairs.chain(others.map(<[u8]>::to_vec)) {
+        let text = String::from_utf8_lossy(&page);
+        assert_eq!(html_lossy(&page, NONE), html(&text, NONE));
+        assert_eq!(html_lossy_with(&page, NONE, &setting), html_with(&text, NONE, &setting));
+        assert_eq!(html_unsafe_lossy(&page, NONE), html_unsafe(&text, NONE));
+    }
+}
