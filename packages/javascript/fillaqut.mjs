@@ -27,6 +27,29 @@ export { LineStart } from "./lib/line_start.mjs";
 export { BlockReader } from "./lib/readers.mjs";
 export { VERSION };
 
+/**
+ * The types that calls take and answer, for TypeScript.
+ * @typedef {import("./lib/extensions.mjs").Extension} Extension
+ * @typedef {import("./lib/extensions.mjs").BuiltExtension} BuiltExtension
+ * @typedef {import("./lib/html_settings.mjs").HtmlSetting} HtmlSetting
+ * @typedef {import("./lib/html_settings.mjs").RawHtml} RawHtml
+ * @typedef {import("./lib/events.mjs").Element} Element
+ * @typedef {import("./lib/events.mjs").LinkKind} LinkKind
+ * @typedef {import("./lib/inlines.mjs").Inline} Inline
+ * @typedef {import("./lib/inlines.mjs").Link} Link
+ * @typedef {import("./lib/pages.mjs").BlockKind} BlockKind
+ * @typedef {import("./lib/pages.mjs").Container} Container
+ * @typedef {import("./lib/source.mjs").Units} Units
+ */
+/**
+ * @template Made a string or a Uint8Array, as the page is
+ * @typedef {import("./lib/events.mjs").Event<Made>} Event
+ */
+/**
+ * @template Made
+ * @typedef {import("./lib/pages.mjs").Leaf<Made>} Leaf a leaf block
+ */
+
 /** Node's files, which a browser has not. */
 const FILES = "node:fs/promises";
 /** The section of a module that says its version, and the one in which the 32-bit module names the 64-bit one beside it. */
@@ -63,7 +86,7 @@ export class Scanners {
 
     /**
      * The HTML of a page, a string of a string, and bytes of bytes, safe for pages by people who are not trusted, as `Text.html` says.
-     * NotUtf8 and LoneSurrogate as of `text`. (3 to 6)
+     * LoneSurrogate as of `text`. (3 to 6)
      * @template {string | Uint8Array} Made
      * @param {Made} page
      * @param {{ extensions?: import("./lib/extensions.mjs").BuiltExtension[] } & import("./lib/html_settings.mjs").HtmlSetting} [options]
@@ -76,7 +99,7 @@ export class Scanners {
      * The same with its raw HTML and all its addresses, for text of one's own, as `Text.htmlUnsafe` says.
      * @template {string | Uint8Array} Made
      * @param {Made} page
-     * @param {{ extensions?: import("./lib/extensions.mjs").BuiltExtension[] }} [options]
+     * @param {{ extensions?: import("./lib/extensions.mjs").BuiltExtension[], strict?: boolean }} [options]
      */
     htmlUnsafe(page, options = {}) {
         return this.text(page).htmlUnsafe(options);
@@ -177,9 +200,39 @@ export async function load(source) {
     try {
         return new Scanners(await moduleOf(source));
     } catch (why) {
-        if (!(why instanceof WebAssembly.CompileError || why instanceof WebAssembly.LinkError)) throw why;
-        throw new BadModule(`the module can't be run, or this engine has no 64-bit memories (${why.message})`, why);
+        throw faultOf(why);
     }
+}
+
+/**
+ * The same at once: of a module's bytes or of itself, and where files can be read, as in Node from 20.16 on, of the one that stands beside
+ * this file, or of another by its file URL. A browser may refuse to compile one at once outside of a worker: BadModule.
+ * @param {URL | Uint8Array | ArrayBuffer | WebAssembly.Module} [source]
+ */
+export function loadSync(source) {
+    try {
+        if (source === undefined) return new Scanners(ownModuleAtOnce());
+        if (source instanceof WebAssembly.Module) return new Scanners(source);
+        const bytes = source instanceof URL ? readAtOnce(source) : source;
+        if (!isBuffer(bytes)) throw wrongType("source", source, "bytes, a module or the URL of a file");
+        return new Scanners(new WebAssembly.Module(/** @type {any} */ (bytes)));
+    } catch (why) {
+        throw faultOf(why);
+    }
+}
+
+/**
+ * What is thrown where a module is not loaded.
+ * @param {unknown} why
+ */
+function faultOf(why) {
+    if (!(why instanceof WebAssembly.CompileError || why instanceof WebAssembly.LinkError || why instanceof RangeError)) return why;
+    return new BadModule(`the module can't be run, or this engine has no 64-bit memories (${why.message})`, why);
+}
+
+/** @param {unknown} given */
+function isBuffer(given) {
+    return ArrayBuffer.isView(given) || Object.prototype.toString.call(given) === "[object ArrayBuffer]";
 }
 
 /**
@@ -190,8 +243,7 @@ async function moduleOf(source) {
     if (source === undefined) return ownModule();
     if (source instanceof WebAssembly.Module) return source;
     if (typeof source === "string" || source instanceof URL) return WebAssembly.compile(await fetched(source));
-    const isBuffer = ArrayBuffer.isView(source) || Object.prototype.toString.call(source) === "[object ArrayBuffer]";
-    if (!isBuffer) throw wrongType("source", source, "a URL, bytes or a module");
+    if (!isBuffer(source)) throw wrongType("source", source, "a URL, bytes or a module");
     return WebAssembly.compile(/** @type {any} */ (source));
 }
 
@@ -201,6 +253,44 @@ async function ownModule() {
     const module = await WebAssembly.compile(await fetched(url));
     const name = sectionOf(module, WIDE_SECTION);
     return (name && (await wideModule(name, url))) || module;
+}
+
+/** The same at once. */
+function ownModuleAtOnce() {
+    const url = ownUrl();
+    const module = new WebAssembly.Module(readAtOnce(url));
+    const name = sectionOf(module, WIDE_SECTION);
+    return (name && wideModuleAtOnce(new URL(name, url))) || module;
+}
+
+/**
+ * The 64-bit module at the URL, or null where it is not there or can't be run.
+ * @param {URL} url
+ */
+function wideModuleAtOnce(url) {
+    if (!WebAssembly.validate(WIDE_MEMORY)) return null;
+    try {
+        const bytes = readAtOnce(url);
+        return WebAssembly.validate(bytes) ? new WebAssembly.Module(bytes) : null;
+    } catch (why) {
+        if (why instanceof ModuleMissing) return null;
+        throw why;
+    }
+}
+
+/**
+ * The bytes of a file.
+ * @param {URL} url
+ * @returns {BufferSource}
+ */
+function readAtOnce(url) {
+    const files = /** @type {any} */ (globalThis).process?.getBuiltinModule?.("node:fs");
+    if (!files) throw new ModuleMissing("no file can be read at once here: give `loadSync` the module's bytes");
+    try {
+        return files.readFileSync(url);
+    } catch (why) {
+        throw new ModuleMissing(`there is no module at ${url}: ${/** @type {Error} */ (why).message}`, why);
+    }
 }
 
 /** Where it stands. Bundlers know a file by this expression. */
@@ -239,13 +329,26 @@ function sectionOf(module, name) {
 }
 
 /**
+ * What is given as a URL, which may be one from the page's on.
+ * @param {URL | string} source
+ */
+function urlOf(source) {
+    const page = globalThis.location?.href;
+    try {
+        return new URL(source, page);
+    } catch (why) {
+        throw page ? why : new TypeError("it is no URL; of a file, `pathToFileURL` of `node:url` makes one");
+    }
+}
+
+/**
  * The bytes at a URL, which may be one from the page's on. Node's fetch knows no files.
  * @param {URL | string} source
  * @returns {Promise<BufferSource>}
  */
 async function fetched(source) {
     try {
-        const url = new URL(source, globalThis.location?.href);
+        const url = urlOf(source);
         if (url.protocol === "file:") return await (await import(/* webpackIgnore: true */ /* @vite-ignore */ FILES)).readFile(url);
         const response = await fetch(url);
         if (response.ok) return await response.arrayBuffer();

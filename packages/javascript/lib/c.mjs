@@ -1,6 +1,6 @@
 // The structs, functions and numbers of fillaqut.h, as packages/c/bindings has written them.
 
-export const VERSION = "0.1.0";
+export const VERSION = "0.2.0";
 
 export const OK = 0;
 export const NOTHING = 1;
@@ -381,13 +381,14 @@ export const STRUCTS = {
     },
     htmlSetting: {
         size: 64,
-        fields: [["schemes", 0, "size_t"], ["schemeCount", 8, "size_t"], ["rawHtml", 16, "uint32_t"], ["rel", 20, "uint32_t"], ["imagesAsLinks", 24, "uint32_t"]],
+        fields: [["schemes", 0, "size_t"], ["schemeCount", 8, "size_t"], ["rawHtml", 16, "uint32_t"], ["rel", 20, "uint32_t"], ["imagesAsLinks", 24, "uint32_t"], ["strict", 28, "uint32_t"]],
         read: (from, at) => ({
             schemes: from.size(at),
             schemeCount: from.size(at + 8),
             rawHtml: from.uint32(at + 16),
             rel: from.uint32(at + 20),
             imagesAsLinks: from.uint32(at + 24),
+            strict: from.uint32(at + 28),
         }),
     },
     event: {

@@ -11,6 +11,10 @@ const STRUCT_ROOM = 64;
 /** For texts, besides the longest of them. */
 const TEXT_ROOM = 2 ** 20;
 const HALF = 2 ** 32;
+/** A module with so much memory is left for a new one, once so many calls in a row are given less than one in so many bytes of that. */
+const LARGE = 2 ** 26;
+const CALLS = 64;
+const SHARE = 64;
 
 /** Bytes that stay in the module's memory from call to call, as long as there is room. */
 export class Block {
@@ -31,6 +35,8 @@ export class Engine {
     #texts = 0;
     #next = 0;
     #work = 0;
+    /** How many calls in a row were small for this memory. */
+    #small = 0;
     /** @type {Heap} */
     heap = /** @type {any} */ (null);
     /** Where a struct that is answered stands, a line start, and a guard. */
@@ -60,6 +66,7 @@ export class Engine {
         this.guard = this.lineStart + STRUCT_ROOM;
         this.#texts = this.#next = this.#work = this.guard + STRUCT_ROOM;
         this.owner = null;
+        this.#small = 0;
         this.#turn += 1;
         for (const [name, [symbol, answer, taken]] of Object.entries(FUNCTIONS)) {
             if (typeof exported[symbol] !== "function") throw new BadModule(`the module has no ${symbol}`);
@@ -129,12 +136,25 @@ export class Engine {
     }
 
     /**
-     * Brings to memory what is not there. All of it is there at once, and what the calls before have taken is free.
+     * Brings to memory what is not there. All of it is there at once, and what the calls before have taken is free: after a large text
+     * also for others than this module, whose memory can't become less, so that a new one begins.
      * @param {...Block} blocks
      */
     bring(...blocks) {
+        if (this.heap.bytes.length > LARGE) this.#mayLeave(SHARE * sizeOf(blocks) < this.heap.bytes.length);
         if (!blocks.every((block) => block.turn === this.#turn)) this.#copy(blocks);
         this.heap.top = this.#work;
+    }
+
+    /**
+     * Leaves the module for a new one, where this call is one of enough small ones in a row.
+     * @param {boolean} isSmall
+     */
+    #mayLeave(isSmall) {
+        this.#small = isSmall ? this.#small + 1 : 0;
+        if (this.#small < CALLS) return;
+        this.owner?.leave();
+        this.#begin();
     }
 
     /** @param {Block[]} blocks */

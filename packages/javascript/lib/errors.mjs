@@ -11,7 +11,17 @@ export class Refusal extends Error {
 }
 
 /** The text is not UTF-8. */
-export class NotUtf8 extends Refusal {}
+export class NotUtf8 extends Refusal {
+    /**
+     * @param {string} message
+     * @param {number | null} [index]
+     */
+    constructor(message, index = null) {
+        super(index === null ? message : `${message}: the byte at index ${index} is wrong`);
+        /** Where its first wrong byte stands; null of `scanDelimiterRun`, which reads a few bytes, and of labels. */
+        this.index = index;
+    }
+}
 
 /** A string has half of a surrogate pair, which UTF-8 has not. */
 export class LoneSurrogate extends Refusal {
@@ -37,6 +47,9 @@ export class Empty extends Refusal {}
 
 /** Memory was refused. */
 export class OutOfMemory extends Refusal {}
+
+/** A reader is closed, and reads no more. */
+export class Ended extends Refusal {}
 
 /** A run has stopped before its end. */
 export class Stopped extends Refusal {

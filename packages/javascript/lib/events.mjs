@@ -1,6 +1,5 @@
 /** The events of a page. Sections in brackets are those of CommonMark 0.31.2. */
 import * as c from "./c.mjs";
-import { isAnswer } from "./errors.mjs";
 
 /** @typedef {import("./blocks.mjs").Alignment} Alignment */
 /** @typedef {"paragraph" | "quote" | "htmlBlock" | "item" | "tableHead" | "tableRow" | "tableCell" | "emphasis" | "strong" | "strikethrough"} PlainElement */
@@ -21,7 +20,10 @@ import { isAnswer } from "./errors.mjs";
  * @typedef {{ kind: "start", element: "link" | "image", link: LinkKind, destination: Made, title: Made, label: Made } & Place} LinkStart
  * where it leads; of a reference its label, as it is written, else an empty text (6.3 to 6.5)
  */
-/** @typedef {{ kind: "end", element: Element } & Place} End the element ends that has begun last, of those that have not ended */
+/** @typedef {{ kind: "end", element: PlainElement | "codeBlock" | "table" | "link" | "image" } & Place} PlainEnd */
+/** @typedef {{ kind: "end", element: "heading", level: number } & Place} HeadingEnd */
+/** @typedef {{ kind: "end", element: "list", isOrdered: boolean } & Place} ListEnd */
+/** @typedef {PlainEnd | HeadingEnd | ListEnd} End the element ends that has begun last, of those that have not ended */
 /**
  * @template Made
  * @typedef {{ kind: "text" | "code" | "html" | "inlineHtml", text: Made } & Place} TextEvent escapes and references of a text are resolved
@@ -93,7 +95,7 @@ export function eventsOf(page, engine, bits) {
         const [records, texts] = [engine.room(count * SIZE), engine.room(size)];
         const found = engine.calls.events(page.block.address, length, bits, records, count, texts, size);
         if (found.status !== c.TOO_SHORT) {
-            isAnswer(found.status);
+            page.isAnswered(found.status);
             const words = wordsOf(engine.heap.bytes.subarray(texts, texts + found.length), page.isString);
             return Array.from({ length: found.count }, (_, index) => eventOf(engine.read("event", records + index * SIZE), page, words));
         }
@@ -124,11 +126,20 @@ function wordsOf(texts, isString) {
 function eventOf(event, page, words) {
     const [start, stop] = [page.placeOf(event.start), page.placeOf(event.end)];
     if (event.kind === c.EVENT_START) return { kind: "start", element: ELEMENTS[event.element], start, stop, ...held(event, words) };
-    if (event.kind === c.EVENT_END) return { kind: "end", element: ELEMENTS[event.element], start, stop };
+    if (event.kind === c.EVENT_END) return { kind: "end", element: ELEMENTS[event.element], start, stop, ...ended(event) };
     if (event.kind === c.EVENT_TASK) return { kind: "task", checked: event.detail === 1, start, stop };
     const kind = KINDS[event.kind];
     if (event.kind >= c.EVENT_SOFT_BREAK) return { kind, start, stop };
     return { kind, text: words(event.textStart, event.textLength), start, stop };
+}
+
+/**
+ * What the end of an element says besides.
+ * @param {Record<string, number>} event
+ */
+function ended({ element, detail }) {
+    if (element === c.ELEMENT_HEADING) return { level: detail };
+    return element === c.ELEMENT_LIST ? { isOrdered: detail === 1 } : {};
 }
 
 /**

@@ -7,15 +7,16 @@ import { Views } from "./views.mjs";
 /**
  * `schemes` are those that addresses may have, without a colon, `DEFAULT_SCHEMES` where they are not given; of none relative addresses are
  * written alone. `rawHtml` is what is written of raw HTML, "escaped" where it is not given. With `rel`, which is true where it is not given,
- * links say `rel="nofollow noopener"`. With `imagesAsLinks` an image is written as a link to it, whose text is its description.
- * @typedef {{ schemes?: readonly string[], rawHtml?: RawHtml, rel?: boolean, imagesAsLinks?: boolean }} HtmlSetting
+ * links say `rel="nofollow noopener"`. With `imagesAsLinks` an image is written as a link to it, whose text is its description. With `strict`
+ * bytes that are not UTF-8 are NotUtf8.
+ * @typedef {{ schemes?: readonly string[], rawHtml?: RawHtml, rel?: boolean, imagesAsLinks?: boolean, strict?: boolean }} HtmlSetting
  */
 
 /** The schemes that addresses may have where none are given. */
 export const DEFAULT_SCHEMES = /** @type {readonly string[]} */ (Object.freeze(["http", "https", "mailto", "tel"]));
 
 /** The names of its options. */
-export const SETTING_NAMES = ["schemes", "rawHtml", "rel", "imagesAsLinks"];
+export const SETTING_NAMES = ["schemes", "rawHtml", "rel", "imagesAsLinks", "strict"];
 
 /** @type {Record<RawHtml, number>} */
 const RAW_HTML = { escaped: c.RAW_HTML_ESCAPED, omitted: c.RAW_HTML_OMITTED };
@@ -27,13 +28,14 @@ export class AskedHtml {
     #numbers;
 
     /** @param {HtmlSetting} setting */
-    constructor({ schemes = DEFAULT_SCHEMES, rawHtml = "escaped", rel = true, imagesAsLinks = false }) {
+    constructor({ schemes = DEFAULT_SCHEMES, rawHtml = "escaped", rel = true, imagesAsLinks = false, strict = false }) {
         const listed = listOf("schemes", schemes);
         this.#schemes = new Views("a scheme", listed.length > 0 ? listed : [""]); // no address has this one
         this.#numbers = {
             rawHtml: rawOf(rawHtml),
             rel: flagOf("rel", rel) ? c.REL_NOFOLLOW : c.REL_NONE,
             imagesAsLinks: Number(flagOf("imagesAsLinks", imagesAsLinks)),
+            strict: Number(flagOf("strict", strict)),
         };
         this.block = this.#schemes.block;
     }

@@ -2,7 +2,6 @@
 import * as c from "./c.mjs";
 import { Blocks } from "./blocks.mjs";
 import { NONE } from "./engine.mjs";
-import { isAnswer } from "./errors.mjs";
 import { bitsOf, listOf, optionsOf } from "./given.mjs";
 import { Views } from "./views.mjs";
 
@@ -85,7 +84,7 @@ export class Inlines extends Blocks {
             const given = [this.block.address + from, to - from, views, labels.length, bits, at, capacity];
             const { status, count } = engine.calls.scanInlines(...given);
             if (status !== c.TOO_SHORT) {
-                isAnswer(status);
+                this.isAnswered(status, from, to);
                 return Array.from({ length: count }, (_, index) => engine.read("inline", at + index * SIZE));
             }
             capacity = count;

@@ -1,6 +1,6 @@
 /** Places of UTF-8 bytes and of UTF-16 units of the same text. */
 
-const STEP = 1024;
+const STEP = 32;
 
 /**
  * How many UTF-16 units a character has whose first byte is this one; other bytes of it have none.
@@ -78,4 +78,44 @@ export class Utf16Places {
         }
         return [low * STEP, this.#counts[low]];
     }
+}
+
+/**
+ * The place of the first byte that is not UTF-8, or null where all of them are.
+ * @param {Uint8Array} bytes
+ */
+export function firstWrong(bytes) {
+    let [low, high] = [0, bytes.length + 1];
+    while (high - low > 1) {
+        const middle = (low + high) >> 1;
+        if (isFrontOfUtf8(bytes.subarray(0, middle))) low = middle;
+        else high = middle;
+    }
+    const at = beforePart(bytes, low);
+    return at < bytes.length ? at : null;
+}
+
+/**
+ * Whether these are UTF-8, but that the last character may have more bytes.
+ * @param {Uint8Array} bytes
+ */
+function isFrontOfUtf8(bytes) {
+    try {
+        new TextDecoder("utf-8", { fatal: true }).decode(bytes, { stream: true });
+        return true;
+    } catch {
+        return false;
+    }
+}
+
+/**
+ * The place up to which whole characters stand, where all bytes before the end are such or the front of one.
+ * @param {Uint8Array} bytes
+ * @param {number} end
+ */
+function beforePart(bytes, end) {
+    let first = end - 1;
+    while (first > 0 && isInside(bytes[first])) first--;
+    const size = bytes[first] < 0x80 ? 1 : bytes[first] < 0xe0 ? 2 : bytes[first] < 0xf0 ? 3 : 4;
+    return first >= 0 && first + size > end ? first : end;
 }

@@ -1,7 +1,7 @@
 /** Pages that come piece by piece. Sections in brackets are those of CommonMark 0.31.2. */
 import * as c from "./c.mjs";
 import { Block } from "./engine.mjs";
-import { isAnswer } from "./errors.mjs";
+import { Ended, isAnswer } from "./errors.mjs";
 import { bytesOf } from "./given.mjs";
 import { containerOf, Leaf, Pages } from "./pages.mjs";
 
@@ -37,6 +37,7 @@ export class BlockReader {
     /** How much of the page is returned. */
     #start = 0;
     #line = 0;
+    #hasEnded = false;
 
     /**
      * @param {import("./engine.mjs").Engine} engine
@@ -48,11 +49,12 @@ export class BlockReader {
     }
 
     /**
-     * Takes the next bytes of the page, which may end anywhere, or a string. Answers the blocks that are known to end.
+     * Takes the next bytes of the page, which may end anywhere, or a string. Answers the blocks that are known to end. Ended after `close`.
      * @param {string | Uint8Array} data
      * @returns {Leaf<Uint8Array>[]}
      */
     feed(data) {
+        this.#checkNotEnded();
         const piece = bytesOf("data", data);
         this.#pieces.push(piece);
         this.#size += piece.length;
@@ -60,11 +62,18 @@ export class BlockReader {
     }
 
     /**
-     * The page has ended. Answers the blocks that are left.
+     * The page has ended. Answers the blocks that are left. Ended the next time.
      * @returns {Leaf<Uint8Array>[]}
      */
     close() {
-        return this.#returned(true);
+        this.#checkNotEnded();
+        const returned = this.#returned(true);
+        this.#hasEnded = true;
+        return returned;
+    }
+
+    #checkNotEnded() {
+        if (this.#hasEnded) throw new Ended("the page has ended, as the reader is closed");
     }
 
     /** @param {boolean} hasEnded */
@@ -95,10 +104,10 @@ export class BlockReader {
      * @param {boolean} hasEnded
      */
     #next(text, hasEnded) {
-        const { heap, calls } = this.#engine;
         const at = text.bytes.length - this.#size;
         for (;;) {
             this.#engine.bring(text);
+            const { heap, calls } = this.#engine;
             const capacity = this.#structs.length / SIZE;
             const buffer = this.#engine.room(this.#structs.length);
             const open = this.#engine.rows("openBlocks", [{ depth: this.#open.length, extensions: this.#bits, state: this.#state }]);

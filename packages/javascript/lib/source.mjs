@@ -1,8 +1,9 @@
 /** A text that is scanned, and the places of it. */
+import { NOT_UTF8 } from "./c.mjs";
 import { Block, NONE } from "./engine.mjs";
-import { NotUtf8 } from "./errors.mjs";
+import { isAnswer, NotUtf8 } from "./errors.mjs";
 import { bytesOf, sizeOf, wrongType } from "./given.mjs";
-import { isInside, Utf16Places } from "./places.mjs";
+import { firstWrong, isInside, Utf16Places } from "./places.mjs";
 
 const DECODER = new TextDecoder("utf-8", { ignoreBOM: true });
 
@@ -57,7 +58,7 @@ export class Source {
     #utf16(data) {
         if (data.length === this.bytes.length && this.isString) return null;
         this.#engine.bring(this.#block);
-        if (!this.isString && !this.#engine.calls.isUtf8(this.#block.address, this.bytes.length)) throw new NotUtf8("the text is not UTF-8");
+        if (!this.isString && !this.#engine.calls.isUtf8(this.#block.address, this.bytes.length)) throw this.notUtf8();
         return new Utf16Places(this.bytes);
     }
 
@@ -125,6 +126,37 @@ export class Source {
         const to = end === this.length ? this.bytes.length : this.inBytes(end, "end");
         if (from > to) throw new RangeError(`\`end\` is ${end}, which is before \`at\`, ${at}`);
         return [from, to];
+    }
+
+    /**
+     * Whether there is an answer of a call that reads all bytes between two of them; a refusal is thrown.
+     * @package
+     * @param {number} status
+     * @param {number} [from]
+     * @param {number} [to]
+     */
+    isAnswered(status, from = 0, to = this.bytes.length) {
+        if (status === NOT_UTF8) throw this.notUtf8(from, to);
+        return isAnswer(status);
+    }
+
+    /**
+     * What is thrown where the bytes between two of them are not UTF-8, or else another text is not that the call is given.
+     * @package
+     * @param {number} [from]
+     * @param {number} [to]
+     */
+    notUtf8(from = 0, to = this.bytes.length) {
+        const found = firstWrong(this.bytes.subarray(from, to));
+        return found === null ? new NotUtf8("a text is not UTF-8") : new NotUtf8("the text is not UTF-8", from + found);
+    }
+
+    /**
+     * Throws where not all bytes are UTF-8.
+     * @package
+     */
+    checkUtf8() {
+        if (firstWrong(this.bytes) !== null) throw this.notUtf8();
     }
 
     /**

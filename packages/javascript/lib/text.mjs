@@ -222,7 +222,7 @@ export class Text extends Inlines {
         const [from, to] = this.limits(at, end);
         const capacity = to - from + Math.floor((to - from) / 5);
         const [found, text] = this.written("unescape", at, end, capacity, flagOf("inTable", inTable));
-        isAnswer(found.status);
+        this.isAnswered(found.status, from, to);
         return this.made(text);
     }
 
@@ -250,9 +250,10 @@ export class Text extends Inlines {
     /**
      * The HTML of the text, a page, safe for pages by people who are not trusted: raw HTML is written as text, links and images lead to
      * addresses that are relative or have one of the schemes http, https, mailto and tel, others being written as empty, and links say
-     * `rel="nofollow noopener"`. All else is as the examples of CommonMark have it. NotUtf8. (3 to 6)
+     * `rel="nofollow noopener"`. All else is as the examples of CommonMark have it. (3 to 6)
      *
-     * `schemes`, `rawHtml`, `rel` and `imagesAsLinks` ask for other HTML, which is as safe.
+     * Bytes that are not UTF-8 are read with U+FFFD in the place of each part that is wrong, as a TextDecoder reads them; with `strict` they
+     * are NotUtf8. `schemes`, `rawHtml`, `rel` and `imagesAsLinks` ask for other HTML, which is as safe.
      * @param {{ extensions?: BuiltExtension[] } & HtmlSetting} [options]
      */
     html(options = {}) {
@@ -263,11 +264,13 @@ export class Text extends Inlines {
 
     /**
      * The HTML of the text, a page, as the examples write it: raw HTML stands in it as it is, and links lead anywhere. It is for text of
-     * one's own, and `html` for text by others. NotUtf8. (3 to 6)
-     * @param {{ extensions?: BuiltExtension[] }} [options]
+     * one's own, and `html` for text by others. `strict` is as of `html`. (3 to 6)
+     * @param {{ extensions?: BuiltExtension[], strict?: boolean }} [options]
      */
     htmlUnsafe(options = {}) {
-        return this.#htmlBy("htmlUnsafe", builtBitsOf(optionsOf(options, "extensions").extensions));
+        const { extensions, strict = false } = optionsOf(options, "extensions", "strict");
+        if (flagOf("strict", strict)) this.checkUtf8();
+        return this.#htmlBy("htmlUnsafe", builtBitsOf(extensions));
     }
 
     /**
@@ -285,7 +288,7 @@ export class Text extends Inlines {
             const buffer = engine.room(capacity);
             const { status, length } = engine.calls[call](...given, buffer, capacity);
             if (status !== c.TOO_SHORT) {
-                isAnswer(status);
+                this.isAnswered(status);
                 return this.made(engine.heap.bytes.subarray(buffer, buffer + length));
             }
             capacity = length;
@@ -305,7 +308,7 @@ export class Text extends Inlines {
     /** The key of the whole text as a label: two labels match exactly where their keys are equal. NotUtf8. (6.3) */
     labelKey() {
         const [found, key] = this.written("labelKey", 0, this.length, 3 * this.bytes.length);
-        isAnswer(found.status);
+        this.isAnswered(found.status);
         return this.made(key);
     }
 

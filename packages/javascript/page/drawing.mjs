@@ -59,12 +59,12 @@ function entry(number, what, answer) {
     return made;
 }
 
-function note(text) {
+export function note(text) {
     return element("p", { class: "note" }, text);
 }
 
 /** A list that may be returned in part. */
-function list({ count, first }, nothing, draw) {
+export function drawList({ count, first }, nothing, draw) {
     const drawn = first.map(draw);
     if (count === 0) drawn.push(note(nothing));
     if (count > first.length) drawn.push(note(`and ${count - first.length} more`));
@@ -72,16 +72,18 @@ function list({ count, first }, nothing, draw) {
 }
 
 export function drawnOutline({ headings }) {
-    return list(headings, "There are no headings.", (heading) => {
-        const what = element("span", { class: "what", style: `padding-left: ${1.2 * (heading.level - 1)}rem` }, heading.text || "(empty)");
+    return drawList(headings, "There are no headings.", (heading) => {
+        const what = element("span", { class: "what" }, heading.text || "(empty)");
+        what.style.paddingLeft = `${1.2 * (heading.level - 1)}rem`;
         return entry(heading.number, what, heading);
     });
 }
 
 export function drawnTables({ tables }) {
-    return list(tables, "There are no tables.", (found) => {
+    return drawList(tables, "There are no tables.", (found) => {
         const cells = (tag, row) => row.cells.map((cell, index) => {
-            const drawn = element(tag, { style: `text-align: ${found.alignments[index] === "none" ? "left" : found.alignments[index]}` });
+            const drawn = element(tag);
+            drawn.style.textAlign = found.alignments[index] === "none" ? "left" : found.alignments[index];
             drawn.append(button("strip", cell.text || " ", { ...cell, answer: cell.text }));
             return drawn;
         });
@@ -93,16 +95,17 @@ export function drawnTables({ tables }) {
 }
 
 export function drawnLabels({ labels }) {
-    return list(labels, "There are no links and no definitions.", (label) => {
-        const leads = label.target === null ? element("span", { class: "nowhere" }, "leads nowhere") : element("span", { class: "leads" }, `→ ${label.target}`);
+    return drawList(labels, "There are no links and no definitions.", (label) => {
+        const isLeading = label.target !== null;
+        const leads = element("span", { class: isLeading ? "leads" : "nowhere" }, isLeading ? `→ ${label.target}` : "leads nowhere");
         const what = element("span", { class: "what" }, label.label ? `[${label.label}] ` : "", leads);
         return entry(label.kind, what, label);
     });
 }
 
-export function drawnHtml({ html, passed, bound, scans }) {
+export function drawnScans({ html, passed, bound, scans }) {
     const budget = `${scans} scans for comments, CDATA, declarations and instructions passed over ${passed} bytes; 4n + 8k is ${bound}.`;
-    const found = list(html, "There is no inline HTML.", (piece) => {
+    const found = drawList(html, "There is no inline HTML.", (piece) => {
         const what = element("span", { class: "what" }, `bytes ${piece.from} to ${piece.to}`);
         return entry(piece.call === "scanHtmlTagOverLines" ? "tag" : "other", what, piece);
     });
@@ -120,8 +123,9 @@ function whatOf({ lineStart, isOfCells }) {
     return ` of a line start at ${lineStart.place}${lineStart.pending ? ` with ${lineStart.pending} columns pending` : ""}`;
 }
 
-/** What is returned of an answer: the call, its bytes, its section and its contract. */
+/** What is said of an answer: the call, its bytes, its section and its contract; or what its pane says of it. */
 export function drawnAnswer(found) {
+    if (found.said) return found.said;
     const contract = CONTRACTS[found.call];
     const given = (found.given ?? []).map((word) => JSON.stringify(word)).join(", ");
     const link = element("a", { href: contract.url, target: "_blank", rel: "noreferrer" }, contract.section);

@@ -1,39 +1,39 @@
 /**
- * The frame that shows safe HTML. It runs no script, loads nothing and leads nowhere: its sandbox allows the page alone to look inside,
- * which marks the source of what is pointed at.
+ * The frames that show HTML. Neither runs a script, loads anything or leads anywhere, by its sandbox and by the policies of the page and of
+ * itself. That of safe HTML lets the page alone look inside, which marks the source of what is pointed at; that of unsafe HTML lets no one.
  */
 import { element } from "./drawing.mjs";
 
-const POLICY = "default-src 'none'; style-src 'unsafe-inline'";
-const STYLE = `
-:root { color-scheme: light dark; }
-body { margin: 0.8rem; font: 0.95rem/1.5 system-ui, sans-serif; overflow-wrap: anywhere; }
-pre, code { font-family: ui-monospace, "DejaVu Sans Mono", monospace; font-size: 0.85rem; }
-pre { overflow: auto; }
-blockquote { margin-left: 0; padding-left: 0.8rem; border-left: 3px solid color-mix(in srgb, currentColor 30%, transparent); }
-table { border-collapse: collapse; }
-td, th { padding: 0.15rem 0.5rem; border: 1px solid color-mix(in srgb, currentColor 30%, transparent); }
-[data-pointed] { outline: 2px solid #4a86d8; outline-offset: 1px; }
-`;
-const EMPTY = `<!doctype html><meta http-equiv="Content-Security-Policy" content="${POLICY}"><style>${STYLE}</style><body>`;
+const STYLE = new URL("frame.css", import.meta.url).href;
+const POLICY = `default-src 'none'; style-src ${STYLE}`;
+const HEAD = `<!doctype html><meta http-equiv="Content-Security-Policy" content="${POLICY}"><link rel="stylesheet" href="${STYLE}"><body>`;
 
 /** Where the source of each element stands that is shown. */
 const places = new WeakMap();
 
 /**
- * A frame that is empty. Of what is pointed at in it `show` is given: its name, and where its source begins and stops.
+ * A frame for safe HTML, which is empty. Of what is pointed at in it `show` is given: its name, and where its source begins and stops.
  * @param {(name: string, start: number, stop: number) => void} show
  */
 export function newFrame(show) {
-    const frame = /** @type {HTMLIFrameElement} */ (element("iframe", { sandbox: "allow-same-origin", title: "The safe HTML", srcdoc: EMPTY }));
+    const frame = /** @type {HTMLIFrameElement} */ (element("iframe", { sandbox: "allow-same-origin", title: "The safe HTML", srcdoc: HEAD }));
     const stands = new Promise((resolve) => frame.addEventListener("load", resolve, { once: true }));
     stands.then(() => {
         const inside = /** @type {Document} */ (frame.contentDocument);
         inside.addEventListener("pointerover", (event) => point(inside, event.target, show));
+        inside.addEventListener("focusin", (event) => point(inside, event.target, show));
         inside.addEventListener("click", (event) => event.preventDefault());
         inside.addEventListener("auxclick", (event) => event.preventDefault());
     });
     return { frame, stands };
+}
+
+/**
+ * A frame that shows unsafe HTML.
+ * @param {string} html
+ */
+export function unsafeFrame(html) {
+    return element("iframe", { sandbox: "", class: "unsafe", title: "The unsafe HTML, which runs no script here and loads nothing", srcdoc: HEAD + html });
 }
 
 /** Marks the innermost element that is pointed at and has a source. */

@@ -1,20 +1,24 @@
-/** The page: the text at one side, what is seen of it at the other, and the keys that go through it. */
-import { answers, drawnAnswer, drawnHtml, drawnLabels, drawnOutline, drawnRow, drawnTables, element } from "./drawing.mjs";
-import { fill, newFrame } from "./frame.mjs";
+/** The page: the text at one side, what the parser makes of it at the other, and the keys that go through it. */
+import { answers, drawnAnswer, drawnLabels, drawnOutline, drawnRow, drawnScans, drawnTables, element } from "./drawing.mjs";
+import { fill, newFrame, unsafeFrame } from "./frame.mjs";
+import { fragmentOf, heldBy, MOST_LINKED } from "./link.mjs";
+import { Marks } from "./marks.mjs";
+import { ask, askedBy, settle as settleOptions, wordOf } from "./options.mjs";
+import { DRAWN_PANES } from "./panes.mjs";
+import { theoremOf } from "./theorems.mjs";
 
 const SAMPLE = `# Tabs are columns
 >\t- A tab after a quote: the quote takes one
 >\t  column of it, the item what is left.
 
 A paragraph with a [link][two words], an <em>inline</em> tag,
-a <!-- comment --> and https://commonmark.org
-lines that go on
-===
+a <!-- comment -->, ~~some~~ *emphasis*, and
+<https://commonmark.org>; [not this](javascript:alert(1))
 
 [two words]: /somewhere "A title"
 
 1. one
-   - two
+   - [x] two
 \t- three, after a tab
 
 | column | aligned |
@@ -24,18 +28,18 @@ lines that go on
 \`\`\`c
 > no quote in code
 \`\`\`
-<div>
+<div onclick="alert(2)">
 `;
-const DRAWN = { outline: drawnOutline, tables: drawnTables, labels: drawnLabels, html: drawnHtml };
+/** What is drawn of the text that was read, and not asked for by itself. */
+const DRAWN = { outline: drawnOutline, tables: drawnTables, labels: drawnLabels, scans: drawnScans };
 /** Rows that are drawn beyond what is in sight. */
 const BEYOND = 10;
 const DELAY = 120;
-/** Lines that are marked in the text at once. */
-const MOST_MARKS = 100;
 
-const IDS = ["text", "file", "marks", "view", "report", "answer", "views"];
-const [text, file, marks, view, report, answer, views] = IDS.map((id) => document.getElementById(id));
-const state = { view: "lines", seen: null, id: 0, timer: 0, shown: null };
+const IDS = ["text", "file", "marks", "view", "report", "answer", "views", "options", "theorem", "share", "shared"];
+const [text, file, under, view, report, answer, views, options, theorem, share, shared] = IDS.map((id) => document.getElementById(id));
+const state = { view: "rendered", seen: null, id: 0, timer: 0, shown: null, asked: askedBy(options) };
+const marks = new Marks(text, under);
 const worker = new Worker(new URL("worker.mjs", import.meta.url), { type: "module" });
 
 /** The page's state, for who reads it: whether what is drawn is of the text that stands there. */
@@ -46,7 +50,7 @@ function settle(name) {
 function read() {
     settle("reading");
     state.id += 1;
-    worker.postMessage({ kind: "read", id: state.id, text: text.value });
+    worker.postMessage({ kind: "read", id: state.id, text: text.value, extensions: state.asked.extensions });
 }
 
 function rowHeight() {
@@ -66,7 +70,8 @@ function drawRows({ rows }) {
     if (state.view !== "lines") return;
     const current = position(document.activeElement);
     const height = rowHeight();
-    const space = element("div", { style: `height: ${state.seen.lines * height}px` });
+    const space = element("div");
+    space.style.height = `${state.seen.lines * height}px`;
     const drawn = rows.map((row) => {
         const made = drawnRow(row);
         made.style.top = `${(row.number - 1) * height}px`;
@@ -86,38 +91,56 @@ function position(button) {
     return row && { line: row.dataset.line, index: [...row.querySelectorAll("button")].indexOf(button) };
 }
 
-/** Asks for the safe HTML of the text, once there is a frame for it. */
-async function askRendered() {
-    if (!view.contains(state.shown?.frame ?? null)) {
-        state.shown = newFrame(point);
-        view.replaceChildren(state.shown.frame);
+/** Asks for what the pane shows of the text, once there is a frame for safe HTML. */
+async function askPane() {
+    const { id, asked } = state;
+    if (state.view === "rendered" && asked.isSafe) {
+        if (!view.contains(state.shown?.frame ?? null)) {
+            state.shown = newFrame(point);
+            view.replaceChildren(state.shown.frame);
+        }
+        await state.shown.stands;
     }
-    await state.shown.stands;
-    worker.postMessage({ kind: "rendered", id: state.id, text: text.value });
+    if (id === state.id) worker.postMessage({ kind: "play", id, text: text.value, of: { pane: state.view, asked } });
 }
 
-function drawRendered(rendered) {
-    if (state.view !== "rendered") return;
-    const areKnown = fill(state.shown.frame, rendered);
-    answer.replaceChildren(...(areKnown ? [] : [element("p", {}, "Where these elements stand in the text is not known.")]));
+function drawPane(found) {
+    if (state.view !== found.pane) return;
+    if (found.pane !== "rendered") {
+        view.replaceChildren(...DRAWN_PANES[found.pane](found));
+        reachable();
+    } else if (found.asked.isSafe) {
+        const areKnown = fill(state.shown.frame, found);
+        answer.replaceChildren(...(areKnown ? [] : [element("p", {}, "Where these elements stand in the text is not known.")]));
+    } else view.replaceChildren(unsafeFrame(found.html));
+    say(`${state.read}; ${found.pane} in ${found.milliseconds.toFixed(1)} ms`);
     settle("drawn");
+}
+
+/** Says which theorem the pane stands on, and whether its HTML is safe. */
+function drawTheorem() {
+    const { words, at } = theoremOf(state.view, state.asked.isSafe);
+    const isUnsafe = at === "unsafe";
+    theorem.classList.toggle("unsafe", isUnsafe);
+    view.classList.toggle("unsafe", isUnsafe);
+    theorem.replaceChildren(`${words} `, element("a", { href: `page/theorems.html#${at}` }, "Where it is proved"));
 }
 
 /** Marks the source of an element, and says where it stands. */
 function point(name, start, stop) {
-    text.setSelectionRange(start, stop);
-    mark(start, stop);
+    marks.show(start, stop);
     answer.replaceChildren(element("p", {}, element("code", {}, `<${name}>`), ` has its source at ${start} to ${stop}`));
 }
 
 function draw() {
     if (!state.seen) return;
-    if (state.view === "rendered") {
-        askRendered();
-        return;
-    }
+    drawTheorem();
     if (state.view === "lines") {
         askRows();
+        return;
+    }
+    if (!DRAWN[state.view]) {
+        askPane();
         return;
     }
     view.replaceChildren(...DRAWN[state.view](state.seen));
@@ -150,58 +173,21 @@ async function open() {
 function heard({ data }) {
     if (data.id !== state.id) return;
     if (data.kind === "rows") drawRows(data);
-    else if (data.kind === "rendered") drawRendered(data);
+    else if (data.kind === "play") drawPane(data);
     else if (data.kind === "open") {
         text.value = data.text;
-        marks.replaceChildren();
+        marks.clear();
         read();
     } else if (data.kind === "refused") {
         say(`${data.name}: ${data.message}. What is drawn is of the text before.`, true);
         settle("refused");
     } else {
         state.seen = data;
-        say(`${data.lines} lines, ${data.bytes} bytes, read in ${Math.round(data.milliseconds)} ms`);
+        state.read = `${data.lines} lines, ${data.bytes} bytes, read in ${Math.round(data.milliseconds)} ms`;
+        say(state.read);
         answer.replaceChildren();
         draw();
     }
-}
-
-/** The UTF-16 unit of a place in bytes. */
-function unitOf(place) {
-    let bytes = 0;
-    let unit = 0;
-    const all = text.value;
-    while (unit < all.length && bytes < place) {
-        const code = all.codePointAt(unit);
-        bytes += code < 0x80 ? 1 : code < 0x800 ? 2 : code < 0x10000 ? 3 : 4;
-        unit += code < 0x10000 ? 1 : 2;
-    }
-    return unit;
-}
-
-/** Marks what stands between two places of the text, of which the first is brought in sight. */
-function mark(from, to) {
-    const { lineHeight, paddingTop } = getComputedStyle(text);
-    const height = parseFloat(lineHeight);
-    const first = text.value.lastIndexOf("\n", from - 1) + 1;
-    const before = text.value.slice(0, first).split("\n").length - 1;
-    let at = first;
-    const lines = text.value.slice(first, to).replace(/\n$/, "").split("\n").slice(0, MOST_MARKS).map((line, index) => {
-        const hidden = line.slice(0, Math.max(0, from - at));
-        const made = element("div", {}, hidden, element("mark", {}, line.slice(hidden.length) || " "));
-        made.style.top = `${parseFloat(paddingTop) + (before + index) * height}px`;
-        at += line.length + 1;
-        return made;
-    });
-    marks.replaceChildren(...lines);
-    const top = before * height;
-    if (top < text.scrollTop || top > text.scrollTop + text.clientHeight - 2 * height) text.scrollTop = top - text.clientHeight / 3;
-    follow();
-}
-
-/** The marks stand where the text is scrolled to. */
-function follow() {
-    marks.style.transform = `translate(${-text.scrollLeft}px, ${-text.scrollTop}px)`;
 }
 
 /** Marks the bytes of an answer in the text, and says what it is. */
@@ -211,9 +197,7 @@ function show(button) {
     view.querySelectorAll("[aria-current]").forEach((other) => other.removeAttribute("aria-current"));
     button.setAttribute("aria-current", "true");
     answer.replaceChildren(...drawnAnswer(found));
-    const [from, to] = [unitOf(found.from), unitOf(found.to)];
-    text.setSelectionRange(from, to);
-    mark(from, to);
+    marks.show(...(found.inUnits ? [found.from, found.to] : [marks.unitOf(found.from), marks.unitOf(found.to)]));
 }
 
 function choose(tab) {
@@ -225,6 +209,8 @@ function choose(tab) {
     view.scrollTop = 0;
     state.view = tab.id.replace("tab-", "");
     view.className = state.view;
+    answer.replaceChildren();
+    drawTheorem();
     settle("reading");
     draw();
 }
@@ -261,21 +247,64 @@ function movedTab(event) {
     choose(tab);
 }
 
+/** Reads the text again with what the form asks for. */
+function askAgain() {
+    settleOptions(options);
+    state.asked = askedBy(options);
+    drawTheorem();
+    read();
+}
+
+/** Puts the text with its options into the address, and copies that where the browser lets it. */
+async function shareText() {
+    const fragment = await fragmentOf(text.value, wordOf(state.asked));
+    if (!fragment) {
+        shared.textContent = `A link holds ${MOST_LINKED} characters at most.`;
+        return;
+    }
+    history.replaceState(null, "", fragment);
+    const isCopied = await navigator.clipboard?.writeText(location.href).then(() => true, () => false);
+    shared.textContent = `The text is in the address of this page now${isCopied ? ", which is copied" : ""}: after its #, what browsers send nowhere.`;
+}
+
+/** Takes the text that the address holds, and says whether it holds one. Its HTML is shown safe. */
+async function takeLinked() {
+    try {
+        const held = await heldBy(location.hash);
+        if (!held) return false;
+        text.value = held.text;
+        ask(options, held.options);
+        return true;
+    } catch (why) {
+        shared.textContent = `The text of this address can't be read: ${why.message}`;
+        return false;
+    }
+}
+
+async function begin() {
+    text.value = SAMPLE;
+    await takeLinked();
+    askAgain();
+}
+
 worker.onmessage = heard;
 worker.onerror = (event) => say(`The parser can't be had: ${event.message ?? "the worker has stopped"}`, true);
 file.addEventListener("change", open);
-text.addEventListener("scroll", follow);
 text.addEventListener("input", () => {
     settle("reading");
-    marks.replaceChildren();
+    marks.clear();
+    shared.textContent = "";
     clearTimeout(state.timer);
     state.timer = setTimeout(read, DELAY);
 });
+options.addEventListener("change", askAgain);
+share.addEventListener("click", shareText);
+addEventListener("hashchange", async () => (await takeLinked()) && askAgain());
 view.addEventListener("scroll", () => requestAnimationFrame(askRows));
 view.addEventListener("click", (event) => show(event.target.closest("button")));
 view.addEventListener("keydown", moved);
 views.addEventListener("click", (event) => event.target.role !== "tablist" && choose(event.target.closest("button")));
 views.addEventListener("keydown", movedTab);
 addEventListener("resize", askRows);
-text.value = SAMPLE;
-read();
+say("Reading …");
+begin();

@@ -31,15 +31,17 @@ export class Reading {
     /**
      * @param {any} scanners
      * @param {string} data
+     * @param {string[]} [extensions] tables, or nothing
      */
-    constructor(scanners, data) {
+    constructor(scanners, data, extensions = ["tables"]) {
         this.scanners = scanners;
+        this.extensions = extensions;
         this.page = scanners.text(data);
     }
 
     /** Reads the page, in steps. */
     *read() {
-        for (const block of this.page.scanBlocks(0, this.page.length, { extensions: ["tables"] })) {
+        for (const block of this.page.scanBlocks(0, this.page.length, { extensions: this.extensions })) {
             for (const _ of this.#readBlock(block)) if (this.lines.length % STEP === 0) yield;
         }
         this.#resolve();

@@ -26,18 +26,21 @@ const OF_ELEMENT = {
 const OF_KIND = { code: ["code"], hardBreak: ["br"], rule: ["hr"], task: ["input"] };
 
 /**
- * The elements that events write, in the order in which they begin.
+ * The elements that events write, in the order in which they begin; images as links, where they are written so.
  * @param {Event[]} events
+ * @param {boolean} [imagesAsLinks]
  * @returns {Source[]}
  */
-export function sourcesOf(events) {
+export function sourcesOf(events, imagesAsLinks = false) {
     /** @type {Source[]} */
     const found = [];
     let images = 0; // an image shows the texts that it holds, and none of their elements
     let rows = 0;
     for (const event of events) {
         if (event.kind === "start" && event.element === "table") rows = 0;
-        if (images === 0) for (const name of namesOf(event, rows)) found.push([name, event.start, event.stop]);
+        if (images === 0) {
+            for (const name of namesOf(event, rows)) found.push([imagesAsLinks && name === "img" ? "a" : name, event.start, event.stop]);
+        }
         if (event.kind === "end" && event.element === "tableRow") rows += 1;
         if (event.kind === "end" && event.element === "tableHead") rows = 1;
         if (event.element === "image") images += event.kind === "start" ? 1 : -1;
@@ -65,8 +68,10 @@ function namesOf(event, rows) {
  * The safe HTML of a text, and its elements.
  * @param {import("../fillaqut.mjs").Scanners} scanners
  * @param {string} text
+ * @param {{ extensions?: any[] } & import("../fillaqut.mjs").HtmlSetting} [options] those of `html`
  */
-export function rendered(scanners, text) {
+export function rendered(scanners, text, options = { extensions: EXTENSIONS }) {
     const page = text.replaceAll("\0", "\ufffd"); // as `html` reads it, and `events` does not (2.3)
-    return { html: scanners.html(page, { extensions: EXTENSIONS }), sources: sourcesOf(scanners.events(page, { extensions: EXTENSIONS })) };
+    const events = scanners.events(page, { extensions: options.extensions });
+    return { html: scanners.html(page, options), sources: sourcesOf(events, options.imagesAsLinks) };
 }

@@ -1,9 +1,9 @@
-/** Reads texts beside the page, so that it never waits: answers what is in a text, the rows that are in sight, and its safe HTML. */
+/** Reads texts beside the page, so that it never waits: answers what is in a text, the rows that are in sight, and what a pane shows of it. */
 import { load, NotUtf8, Refusal } from "../fillaqut.mjs";
 import { MOST_COLUMNS, rowOf, shortened } from "./columns.mjs";
 import { decode } from "./paragraph.mjs";
 import { Reading } from "./reading.mjs";
-import { rendered } from "./rendered.mjs";
+import { played } from "./playing.mjs";
 
 /** Of each list so many are returned. */
 const MOST = 1000;
@@ -11,7 +11,7 @@ const MOST = 1000;
 const SHOWN = 1000;
 /** How many lines are read at most: what is known of them takes memory. */
 const MOST_LINES = 250_000;
-/** How many UTF-16 units of a text are rendered at most: a browser takes long for more. */
+/** How many UTF-16 units of a text are shown as a whole at most: a browser takes long to render more. */
 const MOST_RENDERED = 1_000_000;
 /** So many milliseconds are read before another text is heard of. */
 const PAUSE = 50;
@@ -62,12 +62,12 @@ function summary() {
 /** A text has more lines than the page reads. */
 class TooManyLines extends Refusal {}
 
-/** Reads a text, as long as no other one comes. */
-async function read(text) {
+/** Reads a text, with tables or without, as long as no other one comes. */
+async function read(text, extensions) {
     const mine = ++turn;
     const begun = performance.now();
     let last = begun;
-    const next = new Reading(scanners, text);
+    const next = new Reading(scanners, text, extensions.filter((name) => name === "tables"));
     for (const _ of next.read()) {
         if (next.lines.length > MOST_LINES) throw new TooManyLines(`the page reads ${MOST_LINES} lines at most`);
         if (performance.now() - last < PAUSE) continue;
@@ -82,10 +82,10 @@ async function read(text) {
 /** A text is longer than what the page renders. */
 class TooLong extends Refusal {}
 
-/** The safe HTML of a text, and where its elements stand. */
-function shown(text) {
+/** What a pane shows of a text. */
+function shown(text, of) {
     if (text.length > MOST_RENDERED) throw new TooLong(`the page renders ${MOST_RENDERED} characters at most`);
-    return rendered(scanners, text);
+    return played(scanners, text, of);
 }
 
 /** What is drawn of the lines from one on. */
@@ -102,8 +102,8 @@ function opened(bytes) {
 async function answer({ kind, ...given }) {
     scanners ??= await load();
     if (kind === "open") return opened(given.bytes);
-    if (kind === "read") return read(given.text);
-    if (kind === "rendered") return shown(given.text);
+    if (kind === "read") return read(given.text, given.extensions);
+    if (kind === "play") return shown(given.text, given.of);
     return { first: given.first, rows: reading ? rows(given.first, given.count) : [] };
 }
 

@@ -68,6 +68,13 @@ test("places are those of the string", () => {
     assert.deepEqual(scanners.events("***"), [{ kind: "rule", start: 0, stop: 3 }]);
 });
 
+test("both events of a heading say its level, and the end of a list whether it is ordered", () => {
+    const found = scanners.events("## a\n\n3. b\n   - c\n");
+    assert.deepEqual(found.filter((event) => event.element === "heading").map((event) => event.level), [2, 2]);
+    const lists = found.filter((event) => event.element === "list").map(({ kind, number, isOrdered }) => [kind, number, isOrdered]);
+    assert.deepEqual(lists, [["start", 3, undefined], ["start", null, undefined], ["end", undefined, false], ["end", undefined, true]]);
+});
+
 test("more events, and longer texts, than the first rooms hold", () => {
     assert.equal(scanners.events("a\n".repeat(5000)).filter((event) => event.kind === "softBreak").length, 4999);
     const links = scanners.events(`${"[a]\n".repeat(20)}\n[a]: ${"b".repeat(5000)}\n`).filter((event) => event.link);
@@ -76,7 +83,7 @@ test("more events, and longer texts, than the first rooms hold", () => {
 
 test("what is refused", () => {
     assert.deepEqual(scanners.events(""), []);
-    assert.throws(() => scanners.events(new Uint8Array([97, 255])), mds.NotUtf8);
+    assert.throws(() => scanners.events(new Uint8Array([97, 255])), { name: "NotUtf8", index: 1 });
     assert.throws(() => scanners.events("\ud800"), mds.LoneSurrogate);
     assert.throws(() => scanners.events("a", { extensions: ["footnote"] }), { name: "TypeError", message: /there is no extension/ });
     assert.throws(() => scanners.events("a", { extensions: ["footnotes"] }), { name: "TypeError", message: /not built of the extension "footnotes" yet/ });

@@ -53,6 +53,8 @@ test("settings that are refused", () => {
     for (const given of [1, 0, null, "no"]) {
         assert.throws(() => scanners.html("a", { rel: given }), { name: "TypeError", message: /`rel` is/ });
         assert.throws(() => scanners.html("a", { imagesAsLinks: given }), { name: "TypeError", message: /`imagesAsLinks` is/ });
+        assert.throws(() => scanners.html("a", { strict: given }), { name: "TypeError", message: /`strict` is/ });
+        assert.throws(() => scanners.htmlUnsafe("a", { strict: given }), { name: "TypeError", message: /`strict` is/ });
     }
     for (const name of ["schemes", "rawHtml", "rel", "imagesAsLinks"]) {
         assert.throws(() => scanners.htmlUnsafe("a", { [name]: undefined }), { name: "TypeError", message: new RegExp(name) });
@@ -79,8 +81,47 @@ test("unknown extensions", () => {
     assert.throws(() => scanners.html("a", { extensions: "tables" }), { name: "TypeError", message: /extensions/ });
 });
 
+/** Bytes that are wrong in each way, alone and between others. */
+function* wrongPages() {
+    const bytes = [0x41, 0x80, 0xbf, 0xc2, 0xe0, 0xed, 0xf0, 0xf4, 0xff];
+    const wrong = [[0xe2, 0x82], [0xed, 0xa0, 0x80], [0xf0, 0x9f, 0x8d], [0xf4, 0x90, 0x80, 0x80], ...bytes.flatMap((one) => bytes.map((other) => [one, other]))];
+    for (const middle of wrong) {
+        yield new Uint8Array(middle);
+        yield new Uint8Array([35, 32, 60, 98, 62, 91, ...middle, 93, 40, 98, 41, 10, 0xf0, 0x9f]);
+    }
+}
+
+/** The index of the first byte that a decoder refuses: no longer front can be read as a text that goes on. */
+function firstWrong(page) {
+    const decodes = (length) => {
+        try {
+            return new TextDecoder("utf-8", { fatal: true, ignoreBOM: true }).decode(page.subarray(0, length)) !== null;
+        } catch {
+            return false;
+        }
+    };
+    const lengths = Array.from({ length: page.length + 1 }, (_, length) => length).filter(decodes);
+    return lengths.at(-1);
+}
+
+test("pages that are not UTF-8", () => {
+    for (const page of wrongPages()) {
+        const text = new TextDecoder("utf-8", { ignoreBOM: true }).decode(page);
+        for (const options of [{}, { rel: false }, { rawHtml: "omitted", strict: false }]) {
+            assert.equal(Buffer.from(scanners.html(page, options)).toString(), scanners.html(text, options));
+        }
+        assert.equal(Buffer.from(scanners.htmlUnsafe(page)).toString(), scanners.htmlUnsafe(text));
+        const index = firstWrong(page);
+        if (index === page.length) {
+            assert.equal(Buffer.from(scanners.html(page, { strict: true })).toString(), scanners.html(text, { strict: true }));
+            continue;
+        }
+        for (const call of ["html", "htmlUnsafe"]) assert.throws(() => scanners[call](page, { strict: true }), { name: "NotUtf8", index });
+    }
+});
+
 test("pages that are refused", () => {
-    assert.throws(() => scanners.html(new Uint8Array([97, 255])), mds.NotUtf8);
+    assert.throws(() => scanners.html(new Uint8Array([97, 255]), { strict: true }), { name: "NotUtf8", index: 1 });
     assert.throws(() => scanners.html("\ud800"), mds.LoneSurrogate);
     assert.throws(() => scanners.html(null), TypeError);
 });

@@ -111,8 +111,8 @@ test("what is refused of texts and labels", () => {
     const given = (labels) => () => scanners.text("[a]").scanInlines(0, 3, { labels });
     for (const value of ["a", {}, [1]]) assert.throws(given(value), TypeError);
     assert.throws(given(["\ud800"]), mds.LoneSurrogate);
-    assert.throws(given([new Uint8Array([255])]), mds.NotUtf8);
-    assert.throws(() => scanners.text(new Uint8Array([255])).scanInlines(), mds.NotUtf8);
+    assert.throws(given([new Uint8Array([255])]), { name: "NotUtf8", index: null });
+    assert.throws(() => scanners.text(new Uint8Array([255, 97, 128])).scanInlines(1), { name: "NotUtf8", index: 2 });
     assert.throws(() => scanners.text("a").scanInlines(2), RangeError);
     assert.throws(() => scanners.text("a").scanInlines(0, 1, { label: [] }), TypeError);
 });

@@ -61,6 +61,31 @@ test("memory that is refused within a call has an error, and the next call has i
     }
 });
 
+test("after a large page its memory is given back, and what is used goes on", async () => {
+    const own = await mds.load(MODULE);
+    const { engine } = own.text("");
+    const page = own.text("# a\n".repeat(2_000_000));
+    const start = own.text("> b").lineStart();
+    assert.ok(start.quote());
+    assert.equal(page.html().length, 2_000_000 * "<h1>a</h1>\n".length);
+    assert.ok(engine.heap.bytes.length > 2 ** 26);
+    for (let count = 0; count < 100; count++) assert.equal(own.html("*c*"), "<p><em>c</em></p>\n");
+    assert.ok(engine.heap.bytes.length < 2 ** 23, `${engine.heap.bytes.length}`);
+    assert.deepEqual([start.place, start.pending, start.eol()], [2, 0, false]);
+    assert.equal(page.scanAtxHeading(4), 1);
+});
+
+test("a large text that is used again and again stays where it is", async () => {
+    const own = await mds.load(MODULE);
+    const { engine } = own.text("");
+    const page = own.text("a\n".repeat(40_000_000));
+    for (let count = 0; count < 1000; count++) assert.deepEqual([page.scanLine(count * 2), own.labelKey("A")], [count * 2 + 2, "a"]);
+    const { heap } = engine;
+    for (let count = 0; count < 10; count++) own.labelKey("A");
+    assert.equal(engine.heap, heap);
+    assert.ok(heap.bytes.length > 2 ** 26);
+});
+
 /** Makes a call while the functions of the module are refused memory; the buffers that they are given are there. */
 function refusing(call) {
     const { engine } = scanners.text("");

@@ -230,14 +230,18 @@ test("of two modules the 64-bit one is taken where the engine runs it", async ()
     const folder = mkdtempSync(join(tmpdir(), "package-"));
     for (const name of ["fillaqut.mjs", "lib"]) cpSync(join(PACKAGE, name), join(folder, name), { recursive: true });
     writeFileSync(join(folder, "fillaqut.wasm"), naming(readFileSync(MODULE), "wide.wasm"));
-    const { load } = await import(pathToFileURL(join(folder, "fillaqut.mjs")));
-    const isRead = async () => (await load()).text("# a").scanAtxHeading() === 1;
+    const { load, loadSync } = await import(pathToFileURL(join(folder, "fillaqut.mjs")));
+    const isRead = async () => [await load(), loadSync()].every((made) => made.text("# a").scanAtxHeading() === 1);
     assert.ok(await isRead()); // where it is not there
     writeFileSync(join(folder, "wide.wasm"), "none");
     assert.ok(await isRead());
     writeFileSync(join(folder, "wide.wasm"), ofOtherVersion(readFileSync(MODULE)));
-    if (WebAssembly.validate(WIDE_MEMORY)) await assert.rejects(isRead, { name: "WrongVersion" });
-    else assert.ok(await isRead());
+    if (WebAssembly.validate(WIDE_MEMORY)) {
+        await assert.rejects(isRead, { name: "WrongVersion" });
+        assert.throws(loadSync, { name: "WrongVersion" });
+    } else {
+        assert.ok(await isRead());
+    }
     rmSync(folder, { recursive: true });
 });
 
@@ -245,6 +249,7 @@ test("a module that is missing, broken or of another version", async () => {
     const bytes = readFileSync(MODULE);
     const other = ofOtherVersion(bytes);
     await assert.rejects(mds.load(new URL("none.wasm", MODULE)), { name: "ModuleMissing" });
+    await assert.rejects(mds.load("/none.wasm"), { name: "ModuleMissing", message: /pathToFileURL/ });
     await assert.rejects(mds.load("data:text/plain,none"), { name: "BadModule" });
     for (const source of [5, null, {}]) await assert.rejects(mds.load(source), (why) => why instanceof TypeError && why.message.includes("`source` is"));
     await assert.rejects(mds.load(bytes.subarray(0, 1000)), { name: "BadModule" });
@@ -252,6 +257,17 @@ test("a module that is missing, broken or of another version", async () => {
     await assert.rejects(mds.load(other), (why) => why.name === "WrongVersion" && why.message.includes(VERSION));
     assert.equal((await mds.load(bytes)).text("# a").scanAtxHeading(), 1);
     assert.equal((await mds.load(await WebAssembly.compile(bytes))).text("# a").scanAtxHeading(), 1);
+});
+
+test("modules are loaded at once", () => {
+    const bytes = readFileSync(MODULE);
+    for (const source of [bytes, bytes.buffer.slice(bytes.byteOffset, bytes.byteOffset + bytes.length), new WebAssembly.Module(bytes), MODULE]) {
+        assert.equal(mds.loadSync(source).text("# a").scanAtxHeading(), 1);
+    }
+    for (const source of [5, null, {}, "fillaqut.wasm"]) assert.throws(() => mds.loadSync(source), { name: "TypeError", message: /`source` is/ });
+    assert.throws(() => mds.loadSync(new URL("none.wasm", MODULE)), { name: "ModuleMissing" });
+    assert.throws(() => mds.loadSync(bytes.subarray(0, 1000)), { name: "BadModule" });
+    assert.throws(() => mds.loadSync(ofOtherVersion(bytes)), { name: "WrongVersion" });
 });
 
 test("a bundle that has no URL can be imported, and given the module", async () => {

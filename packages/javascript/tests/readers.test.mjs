@@ -37,7 +37,7 @@ test("a paragraph that begins with definitions is one block, and footnotes are a
     const [first, second] = [...reader.feed("[^a]: b\n\n"), ...reader.feed("    c"), ...reader.close()].filter((leaf) => leaf.kind === "paragraph");
     assert.deepEqual([first.containers, second.containers, second.kept], [[{ kind: "footnote", place: 0 }], first.containers, 1]);
     assert.throws(() => scanners.blockReader({ extensions: "footnotes" }), TypeError);
-    assert.throws(() => reader.feed(1), TypeError);
+    assert.throws(() => scanners.blockReader().feed(1), TypeError);
 });
 
 test("definition lists are asked for", () => {
@@ -56,4 +56,12 @@ test("deep nesting, and a long block", () => {
     for (let index = 0; index < 10_000; index++) found.push(...reader.feed("a\n"));
     const [block] = reader.close();
     assert.deepEqual([found.length, block.containers.length, block.lines, block.content().length], [0, 1000, 10_000, 19_999]);
+});
+
+test("a reader that is closed reads no more", () => {
+    const reader = scanners.blockReader();
+    reader.feed("a");
+    assert.equal(reader.close().length, 1);
+    assert.throws(() => reader.feed("b"), { name: "Ended", message: /the page has ended/ });
+    assert.throws(() => reader.close(), mds.Ended);
 });

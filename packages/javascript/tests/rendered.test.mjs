@@ -29,6 +29,13 @@ test("sources of elements", () => {
     assert.deepEqual(names, ["table", "thead", "tr", "th", "tbody", "tr", "td", "img", "tr", "td"]);
 });
 
+test("sources of images that are written as links, and of wikilinks", () => {
+    const options = { extensions: ["wikilinks"], imagesAsLinks: true };
+    const { html, sources } = rendered(scanners, "![a *b*](c)\n[[d]]\n", options);
+    assert.deepEqual(sources.map(([name]) => name), namesOf(html));
+    assert.deepEqual(sources, [["p", 0, 18], ["a", 0, 11], ["a", 12, 17]]);
+});
+
 test("each example of the specification", () => {
     const spec = readFileSync(new URL("tests/commonmark/spec-0.31.2.txt", TOP), "utf8").replaceAll("→", "\t");
     const pages = Array.from(spec.matchAll(EXAMPLE), ([, page]) => page);

@@ -1,5 +1,5 @@
 /** What a user of the package writes in TypeScript; what stands after `@ts-expect-error` must have an error. */
-import { DEFAULT_SCHEMES, load, NotUtf8, type LineStart, type Text } from "fillaqut";
+import { DEFAULT_SCHEMES, load, loadSync, NotUtf8, type Event, type Extension, type HtmlSetting, type Leaf, type LineStart, type Text } from "fillaqut";
 
 const scanners = await load();
 const page: Text<string> = scanners.text("# a\n> [b](c) &amp;");
@@ -25,8 +25,16 @@ const returned: (string | number | null)[] = scanners.events("# *a*", { extensio
 });
 const first: Uint8Array | null = bytes.events().reduce<Uint8Array | null>((found, it) => found ?? (it.kind === "text" ? it.text : null), null);
 const name: string = new NotUtf8("none").name;
+const at: number | null = new NotUtf8("none", 3).index;
+const asked: Extension[] = ["tables", "footnotes"];
+const setting: HtmlSetting = { schemes: ["ftp"], rel: false };
+const leaves: Leaf<string>[] = [...page.scanBlocks(0, 3, { extensions: asked })];
+const levelOf = (event: Event<string>): number | null => ("element" in event && event.element === "heading" ? event.level : null);
+const isOrdered: boolean[] = scanners.events("1. a").flatMap((it) => (it.kind === "end" && it.element === "list" ? [it.isOrdered] : []));
+const synchronous = (module: Uint8Array): string => loadSync(module).html("a", setting);
 console.log(level, isQuote, made[0], made[1].length, label?.text, page.scanLinkDest(10, 11)?.end, name);
 console.log(returned.length, first, madeHtml);
+console.log(at, leaves.length, scanners.events("# a").map(levelOf), isOrdered, synchronous.length);
 console.log(html[0].length, html[1].length, contents, places, inlines, title?.start, run, page.scanCodeSpan()?.stop);
 console.log(scanners.isUnicodeWhitespace("a"), scanners.isUnicodePunctuation(33));
 
@@ -56,6 +64,8 @@ scanners.blockReader({ footnotes: true });
 scanners.events("a", { safe: true });
 // @ts-expect-error a heading leads nowhere
 scanners.events("a").map((it) => it.kind === "start" && it.element === "heading" && it.destination);
+// @ts-expect-error a paragraph that ends has no level
+scanners.events("a").map((it) => it.kind === "end" && it.element === "paragraph" && it.level);
 // @ts-expect-error a call of a run is a list
 start.run(["quote"]);
 // @ts-expect-error what is made of a string is a string

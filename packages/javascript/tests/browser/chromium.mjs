@@ -106,9 +106,10 @@ export class Browser {
     }
 
     async key(key, modifiers = 0) {
-        const code = { ArrowDown: 40, ArrowUp: 38, ArrowLeft: 37, ArrowRight: 39, Tab: 9, Enter: 13 }[key];
-        const params = { key, code: key, windowsVirtualKeyCode: code, modifiers };
-        await this.send("Input.dispatchKeyEvent", { type: key === "Enter" ? "keyDown" : "rawKeyDown", ...params, text: key === "Enter" ? "\r" : undefined });
+        const code = { ArrowDown: 40, ArrowUp: 38, ArrowLeft: 37, ArrowRight: 39, Tab: 9, Enter: 13, " ": 32 }[key];
+        const params = { key, code: key === " " ? "Space" : key, windowsVirtualKeyCode: code, modifiers };
+        const text = { Enter: "\r", " ": " " }[key];
+        await this.send("Input.dispatchKeyEvent", { type: text ? "keyDown" : "rawKeyDown", ...params, text });
         await this.send("Input.dispatchKeyEvent", { type: "keyUp", ...params });
     }
 

@@ -1,7 +1,6 @@
 /**
- * The page in a headless Chromium, with the module that MODULE names: what is drawn of a text that is typed, and what the C
- * functions answer of it; the keys, both colour schemes, 400 pixels, 1 MB, and bad input. packages/javascript/totals has how many
- * answers are compared. With SCREENSHOT set it is written there.
+ * The page in a headless Chromium: what is drawn of the lines of a text that is typed, and what the C functions answer of them; keys, 1 MB, and
+ * bad input. packages/javascript/totals has how many answers are compared. With SCREENSHOT set it is written there.
  */
 import assert from "node:assert/strict";
 import { execFileSync } from "node:child_process";
@@ -14,78 +13,21 @@ import { MODULE, naming, ofOtherVersion } from "../module.mjs";
 import { examples, filesOfDisk, madePages } from "../pages.mjs";
 import { hold } from "../totals.mjs";
 import { TOP } from "../tree.mjs";
-import { Browser, serve } from "./chromium.mjs";
+import { serve } from "./chromium.mjs";
+import { browser, choose, DESK, faults, fill, LIBRARY, open, PACKAGE, report, servedWith, settled, start, stop, type } from "./driven.mjs";
 import { MADE, TYPED } from "./typed.mjs";
 
-const PACKAGE = fileURLToPath(new URL("../..", import.meta.url));
 const NATIVE = fileURLToPath(new URL("native.py", import.meta.url));
 const OUTLINE = fileURLToPath(new URL("packages/c/examples/outline.py", TOP));
-const LIBRARY = fileURLToPath(new URL("out/libfillaqut.so.0", TOP));
-const DESK = { width: 1280, height: 820 };
 
 const scratch = mkdtempSync(join(tmpdir(), "page-"));
-let served, browser, faults;
 
-/** The package with these bytes as its module, and with no other one; else with that of MODULE. */
-function servedWith(module = readFileSync(MODULE), wide = undefined) {
-    return serve(PACKAGE, (path) => {
-        if (path === "/fillaqut64.wasm") return wide;
-        return path === "/fillaqut.wasm" ? module : null;
-    });
-}
-
-before(async () => {
-    served = await servedWith();
-    browser = new Browser();
-    browser.on("Runtime.exceptionThrown", (event) => faults.push(event.exceptionDetails.exception?.description));
-});
+before(start);
 
 after(async () => {
-    await browser.close();
-    served.close();
+    await stop();
     rmSync(scratch, { recursive: true });
 });
-
-/** Waits until the page says of itself that it is so. */
-async function settled(name) {
-    for (let tries = 0; tries < 4000; tries++) {
-        if ((await browser.ask(() => document.body.dataset.state)) === name) return;
-        await new Promise((resolve) => setTimeout(resolve, 50));
-    }
-    throw new Error(`the page is not ${name}: ${await report()}`);
-}
-
-const report = () => browser.ask(() => document.getElementById("report").textContent);
-
-async function open(size = DESK, url = served.url) {
-    faults = [];
-    await browser.open(url, size);
-}
-
-/** Types a text in place of what stands there. */
-async function type(text) {
-    await browser.ask(() => {
-        const area = document.getElementById("text");
-        area.focus();
-        area.select();
-    });
-    await browser.send("Input.insertText", { text });
-    await settled("drawn");
-}
-
-/** Puts a text there that is too long to be typed, or that can't be. */
-async function fill(text) {
-    await browser.ask((typed) => {
-        const area = document.getElementById("text");
-        area.value = typed;
-        area.dispatchEvent(new Event("input"));
-    }, text);
-}
-
-async function choose(name) {
-    await browser.ask((tab) => document.getElementById(`tab-${tab}`).click(), name);
-    await settled("drawn");
-}
 
 /** In the page: what is drawn of the lines that are in sight, each answer as it is shown when it is clicked. */
 function drawnRows() {
@@ -175,6 +117,7 @@ async function typeAndCompare(text) {
 test("each line that is drawn is what the C functions answer", async () => {
     await open();
     await settled("drawn");
+    await choose("lines");
     hold("drawn_made", await typeAndCompare(MADE));
     hold("drawn_lines", await typeAndCompare(TYPED));
     assert.deepEqual(faults, []);
@@ -216,7 +159,7 @@ function outline(file) {
 
 test("labels, links, HTML and cells are what the C functions answer", async () => {
     let tried = 0;
-    for (const name of ["labels", "html", "tables"]) {
+    for (const name of ["labels", "scans", "tables"]) {
         await choose(name);
         const entries = await browser.ask(drawnEntries);
         const calls = entries.map(({ call, given, of }) => (of === null ? { call, given } : { call, given, of }));
@@ -225,7 +168,7 @@ test("labels, links, HTML and cells are what the C functions answer", async () =
         assert.deepEqual(entries.map((entry) => entry.marked), entries.map((entry) => bytes.subarray(entry.from, entry.to).toString().replace(/\n$/, "")));
     }
     hold("drawn_inline", tried);
-    await choose("html");
+    await choose("scans");
     const [scans, passed, , , bound] = (await browser.ask(() => document.querySelector(".note").textContent)).match(/\d+/g).map(Number);
     assert.ok(scans > 100 && passed > 0 && passed <= bound, `${passed} of ${bound}`);
 });
@@ -255,7 +198,7 @@ test("a click names the place that the call was given", async () => {
 
 test("keys go through tabs and answers", async () => {
     await choose("lines");
-    await browser.ask(() => document.getElementById("tab-lines").focus());
+    await browser.ask(() => document.getElementById("view").focus());
     await browser.key("Tab");
     const focused = () => browser.ask(() => [document.activeElement.closest(".row")?.dataset.line, document.getElementById("call")?.textContent]);
     const [first] = await focused();
@@ -310,7 +253,7 @@ test("safe HTML is rendered, and what is pointed at has its source marked", asyn
     await type("*again*");
     assert.deepEqual((await browser.ask(inFrame)).html, "<p><em>again</em></p>\n");
     assert.equal((await pointAt("em")).marks, "*again*");
-    assert.equal(await browser.ask(() => document.title), "What the parser sees");
+    assert.equal(await browser.ask(() => document.title), "fillaqut: a playground");
     assert.deepEqual(faults, []);
 });
 
@@ -321,20 +264,10 @@ test("what is longer than a browser renders soon is not rendered", async () => {
     await choose("lines");
 });
 
-test("nothing is wider than 400 pixels, in light and in dark", async () => {
-    for (const dark of [false, true]) {
-        await open({ width: 400, height: 800, dark });
-        await settled("drawn");
-        assert.ok((await browser.ask(() => document.documentElement.scrollWidth)) <= 400);
-        const style = await browser.ask(() => ["backgroundColor", "color"].map((property) => getComputedStyle(document.body)[property]));
-        const [paper, ink] = style.map((color) => Number(/\d+/.exec(color)[0]));
-        assert.ok(dark ? paper < 60 && ink > 180 : paper > 200 && ink < 80);
-    }
-});
-
 test("1 MB is read without a stall", async () => {
     await open();
     await settled("drawn");
+    await choose("lines");
     const text = TYPED.slice(0, TYPED.indexOf("<!-- <!--")).repeat(600).slice(0, 1_000_000);
     const most = await longestWait(text);
     console.log(`# 1 MB: ${await report()}; the page never waited longer than ${Math.round(most)} ms`);
@@ -379,6 +312,7 @@ async function overtaken(text, milliseconds) {
 test("of a line of 1 MB the page is sent what it draws", async () => {
     await open();
     await settled("drawn");
+    await choose("lines");
     for (const [name, text] of [[">", ">".repeat(1_000_000)], ["* ", `${"* ".repeat(500_000)}a`]]) {
         const most = await longestWait(text);
         console.log(`# 1 MB of \`${name}\`: ${await report()}; the page never waited longer than ${Math.round(most)} ms`);
@@ -417,7 +351,8 @@ test("bad input has a message, and the page goes on", async () => {
     await fill("\n".repeat(300_000));
     await settled("refused");
     assert.match(await report(), /^TooManyLines: /);
-    await type("# and again");
+    await fill("# and again");
+    await settled("drawn");
     assert.match(await report(), /^1 lines, 11 bytes/);
 });
 
@@ -436,10 +371,12 @@ async function choosing(bytes) {
 test("10 MB are read, and another text after them", async () => {
     await open();
     await settled("drawn");
+    await choose("lines");
     await fill(`${"A line of [some] words, as <b>they</b> are. ".repeat(4)}\n\n`.repeat(57_000));
     await settled("drawn");
     assert.match(await report(), /^114000 lines, 10\d{6} bytes/);
-    await type("# again");
+    await fill("# again");
+    await settled("drawn");
     assert.match(await report(), /^1 lines, 7 bytes/);
 });
 
@@ -483,9 +420,8 @@ test("a policy needs `wasm-unsafe-eval`, and a URL is one from the page's on", a
 });
 
 test("a picture", async () => {
-    await open({ width: 1100, height: 720 });
+    await open({ width: 1100, height: 760 });
     await settled("drawn");
-    await choose("rendered");
     await pointAt("a");
     const picture = await browser.screenshot();
     assert.ok(picture.length > 20_000 && picture.length < 200_000, `${picture.length} bytes`);
@@ -495,6 +431,7 @@ test("a picture", async () => {
 test("a file with an underline of definitions alone is drawn", async () => {
     await open();
     await settled("drawn");
+    await choose("lines");
     await type("[foo]: /url\n===\n[foo]\n");
     const rows = await browser.ask(drawnRows);
     assert.deepEqual(rows.map((row) => [row.text, row.block.name]), [["[foo]: /url", "definition"], ["===", "paragraph"], ["[foo]", "goes on"]]);
@@ -525,7 +462,17 @@ function* inParts(texts) {
     if (part.length > 0) yield part;
 }
 
+/** Opens an empty page beside the package: the policy of the page lets its worker alone read the module. */
+async function openEmpty() {
+    const module = readFileSync(MODULE);
+    const given = { "/empty.html": Buffer.from("<!doctype html>"), "/fillaqut.wasm": module, "/fillaqut64.wasm": undefined };
+    const beside = await serve(PACKAGE, (path) => (path in given ? given[path] : null));
+    await open(DESK, `${beside.url}empty.html`);
+    return beside;
+}
+
 test("pages of each kind, the specification's examples and the files of this disk are read", async () => {
+    const beside = await openEmpty();
     const count = async (texts) => {
         let tried = 0;
         for (const part of inParts(texts)) tried += await browser.ask(readAll, part);
@@ -535,4 +482,5 @@ test("pages of each kind, the specification's examples and the files of this dis
     const written = examples();
     if (written) hold("examples_of_spec", await count(written));
     assert.ok((await count(filesOfDisk().filter((file) => file !== null))) > 0);
+    beside.close();
 });
