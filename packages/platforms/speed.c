@@ -22,7 +22,7 @@ int main(int count, char **words) {
     double least = 0;
     for (int call = 0; call < CALLS; call++) {
         clock_t begun = clock();
-        if (mds_html(page, length, MDS_TABLES, NULL, 0, html, 4 * (size_t)MOST).status != MDS_OK)
+        if (mds_html(page, length, MDS_TABLES, html, 4 * (size_t)MOST).status != MDS_OK)
             stop("the page has no HTML");
         double took = 1e3 * (double)(clock() - begun) / CLOCKS_PER_SEC;
         least = call == 0 || took < least ? took : least;

@@ -11,7 +11,7 @@ _fillaqut_options() {
         blocks) echo '--json -e --gfm -h --help --version' ;;
         inlines) echo '-e --gfm -h --help --version' ;;
         links) echo '--json --check --root -e --gfm -h --help --version' ;;
-        tables) echo '--check --write -h --help --version' ;;
+        tables) echo '--check --write --gfm -h --help --version' ;;
     esac
 }
 

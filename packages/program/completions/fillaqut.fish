@@ -57,6 +57,7 @@ complete -c fillaqut -n '__fillaqut_command links' -l help -d 'Prints the help o
 complete -c fillaqut -n '__fillaqut_command links' -l version -d 'Prints the name of the program and its version'
 complete -c fillaqut -n '__fillaqut_command tables' -l check -d 'Prints only where a table is not laid out'
 complete -c fillaqut -n '__fillaqut_command tables' -l write -d 'Lays tables out in their files, and prints nothing'
+complete -c fillaqut -n '__fillaqut_command tables' -l gfm -d 'Changes nothing: tables are those of GitHub Flavored Markdown'
 complete -c fillaqut -n '__fillaqut_command tables' -s h -d 'Prints the help of the command'
 complete -c fillaqut -n '__fillaqut_command tables' -l help -d 'Prints the help of the command'
 complete -c fillaqut -n '__fillaqut_command tables' -l version -d 'Prints the name of the program and its version'
