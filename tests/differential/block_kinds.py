@@ -122,6 +122,11 @@ def has_other_white_space(page):
     return any(re.search(rb"[\v\f]", row) for row in rows)
 
 
+def has_lazy_pipe(page):
+    """That a table's header row begins with spaces and a pipe in a lazy line, whose spaces cmark-gfm keeps."""
+    return any(block.kind == "table" and block.depth > 0 and re.match(rb"[ \t]+\|", page.lines[block.first - 1]) for block in page.ours)
+
+
 def begins_blank(page):
     """That an item begins with two blank lines, of which the second has its indent."""
     return re.search(rb"(?:[-+*]|[0-9][.)])[ \t]*\r?\n[> \t]*[ \t]\r?\n", page.text) is not None
@@ -143,7 +148,8 @@ KINDS = {
     "pipe": Kind("have a row of one pipe", "GFM 4.10", in_a_table_page(rb"^(?:[ \t>]|[-+*]|[0-9]{1,9}[.)])*\|[ \t]*\r?$")),
     "space": Kind("have a form feed or vertical tab in a table's first rows", "GFM 4.10", has_other_white_space),
     "older": Kind("have a table for one of them, and a block of <textarea>", "4.6, condition 1", begins_textarea),
-    # Known before the blocks are compared: cmark-gfm writes no places of these lines.
+    "lazy": Kind("have spaces before a header row's pipe in a lazy line", "5.1", has_lazy_pipe),
+    # Compared by kinds and depths alone: cmark-gfm writes no places of these lines.
     "header": Kind("have lines of a paragraph before a table", "GFM 4.10", lambda page: False),
 }
 

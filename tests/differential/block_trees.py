@@ -235,6 +235,25 @@ def has_later_header(document):
     return any(item.get("sourcepos") is None for item, _, _ in elements(document))
 
 
+def our_shapes(page):
+    """Kinds and depths of what our_blocks has but lists, with the columns of tables and the levels of headings; None where there are
+    definitions, which are text before such a row for cmark-gfm."""
+    rows = [row for row in our_rows(page) if row[3] not in ("blank", "list")]
+    if definitions_in(rows):
+        return None
+    return [(SAME_KIND.get(kind, kind), number_of(our_detail(kind, more)), depth) for _, _, depth, kind, more in rows]
+
+
+def their_shapes(document):
+    """The same of what cmark-gfm says."""
+    found = [(element, CONTAINERS.get(name_of(element)) or BLOCKS.get(name_of(element)), depth) for element, _, depth in elements(document)]
+    return [(kind, number_of(None if kind in CONTAINERS.values() else their_detail(element, kind)), depth) for element, kind, depth in found if kind]
+
+
+def number_of(detail):
+    return detail if isinstance(detail, int) else None
+
+
 def alike(our, their):
     """Whether they are the same, but that of an item which is not the first of its list cmark has no number, and that of some lists
     it isn't asked whether they are tight."""

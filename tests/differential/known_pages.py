@@ -42,6 +42,11 @@ BLOCKS = [
     (["older"], b"|a|\n|-|\n\n<textarea\n\nb\n"),
     (["older"], b"1. <textarea\n\t:-:\n"),
     (["header"], b"a\n|b|\n|-|\n"),
+    (["header"], b"a\n    b|c\n-|-\n"),
+    (["header"], b"a\n2. b|c\n-|-\n"),
+    (["header"], b"> a\nb|c\n> -|-\n> d|e\n"),
+    (["header"], b"- a\n      b|c\n  -|-\n"),
+    (["lazy"], b"> a\n |b|c|\n> -|-\n"),
 ]
 
 LONG = b"`" * 1001

@@ -22,6 +22,7 @@ REASONS = {
     errno.ETXTBSY: b"Text file busy",
     errno.EEXIST: b"File exists",
     errno.EXDEV: b"Invalid cross-device link",
+    errno.EMFILE: b"Too many open files",
 }
 
 # So many containers in each other take more memory than the first request gives room.

@@ -199,9 +199,10 @@ def broken_page(program, scan, tally):
         well = (run.out, run.err, run.status) == (scan.out, fault % reason(errno.EIO), 3)
         tally.check(f"{program.name} {scan.name}, in a file", well, run)
         whole = program.run([file.name])
-        run = program.run([file.name, file.name], open_fail=2, errno=errno.EACCES)
-        well = (run.out, run.err, run.status) == (whole.out, fault % reason(errno.EACCES), 3) and whole.status == 0
-        tally.check(f"{program.name} {scan.name}, before a file that is not opened", well, run)
+        for number in (errno.EACCES, errno.EMFILE):
+            run = program.run([file.name, file.name], open_fail=2, errno=number)
+            well = (run.out, run.err, run.status) == (whole.out, fault % reason(number), 3) and whole.status == 0
+            tally.check(f"{program.name} {scan.name}, before a file that is not opened: {errno.errorcode[number]}", well, run)
 
 
 class Replaced:

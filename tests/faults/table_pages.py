@@ -16,7 +16,7 @@ class Tables(Page):
 
 MISFIT = b"row has more cells than its table has columns, and the table is left as it is\n"
 EMPTY = b"row has no cell, and its table is left as it is\n"
-FORMS = b"usage: fillaqut tables [--check | --write] [--] [FILE ..]\n       fillaqut tables -h | --help | --version\n"
+FORMS = b"usage: fillaqut tables [--check | --write] [--gfm] [--] [FILE ..]\n       fillaqut tables -h | --help | --version\n"
 USAGE, COMPLAINTS = usage_of(FORMS), complaints_of(FORMS)
 UNREAD = unread_of(Tables)
 NAMED = named_of(Tables, b"a", notes=lambda name: b"%s:27:1: %s%s:43:1: %s" % (name.encode(), MISFIT, name.encode(), EMPTY))

@@ -49,7 +49,6 @@ def outside_of_code(change):
     return lambda text: b"".join(part if part.startswith(b"<pre><code") else change(part) for part in parts_of(text))
 
 
-without_returns = substituted(rb"\r\n?", b"\n")
 without_tabs = substituted(rb"[ \t]+(?=\n|<br />)")
 without_slashes = substituted(rb'<input(?: type="checkbox"| checked=""| disabled=""| /)*>', b"<input>")
 without_indent = substituted(rb"(\n|<code(?: [^>]*)?>)[ \t]+", rb"\1")
@@ -78,10 +77,6 @@ def has_loose_list(difference):
 
 # The changes are made one after another, and a page is of the kind of the first after which both have the same.
 CHANGES = {
-    "endings": (
-        Kind("have a tag with a line ending that is CR LF or CR, which is LF for cmark", "2.1", lambda difference: b"\r" in difference.page),
-        without_returns,
-    ),
     "tasks": (Kind("have a task, whose attributes cmark-gfm writes in another order", "GFM 5.3", lambda difference: difference.is_extended), without_slashes),
     "tabs": (Kind("have a tab before a line ending, which cmark leaves out as it does spaces", "6.7, 6.8", has(rb"\t[ \t]*(?:[\r\n]|$)")), without_tabs),
     "lazy": (Kind("have a lazy line in code or HTML, or after a backslash, whose indent cmark keeps", "5.1, 6.7", has(LAZY)), without_lazy_indent),

@@ -79,6 +79,34 @@ def references():
         yield row(name, command, b"%s\n%s\n" % (page, rest), paragraphs(*[link_of(75_000)] * links, *[text] * (3 - links), rest))
 
 
+def short_rows(columns, *rows):
+    """A table of so many columns, and for each pair so many rows of so many cells; its HTML where these are not filled in, and where they are."""
+    page = b"|a" * columns + b"|\n" + b"|-" * columns + b"|\n" + b"".join((b"|b" * cells + b"|\n") * count for count, cells in rows)
+    head = b"<table>\n<thead>\n<tr>\n" + b"<th>a</th>\n" * columns + b"</tr>\n</thead>\n<tbody>\n"
+
+    def html(is_filled):
+        shown = (b"<tr>\n" + b"<td>b</td>\n" * min(cells, columns) + b"<td></td>\n" * (max(columns - cells, 0) * is_filled) + b"</tr>\n" for _, cells in rows)
+        return head + b"".join(one * count for one, (count, _) in zip(shown, rows)) + b"</tbody>\n</table>\n"
+
+    return page, html(False), html(True)
+
+
+def filled_rows():
+    """Rows are filled in with as many cells in a page as it has bytes, and with 100,000 in a shorter one: all rows of a table, or none (GFM 4.10)."""
+    command, name = "fillaqut html -e tables", "rows_are_filled_in_with_100000_cells_in_a_short_page"
+    page, _, filled = short_rows(401, (250, 1))
+    yield row(name, command, page, filled)
+    for rows in [(250, 1), (1, 400)], [(251, 1), (1, 402)]:
+        yield row(name, command, *short_rows(401, *rows)[:2])
+    first, most, more, last = (short_rows(401, (150, 1)), short_rows(401, (100, 1)), short_rows(401, (100, 1), (1, 400)), short_rows(2, (1, 1)))
+    yield row(name, command, first[0] + b"\n" + most[0] + b"\n" + last[0], first[2] + most[2] + last[1])
+    yield row(name, command, first[0] + b"\n" + more[0] + b"\n" + last[0], first[2] + more[1] + last[2])
+    yield row("own_empty_cells_are_counted", command, b"|a|\n|-|\n||\n\n" + page, short_rows(1, (1, 0))[2] + short_rows(401, (250, 1))[1])
+    name, (page, own, filled) = "rows_are_filled_in_with_as_many_cells_as_a_page_has_bytes", short_rows(1011, (100, 1))
+    for length, html in ((101_000, filled), (100_999, own)):
+        yield row(name, command, page.ljust(length, b"\n"), html)
+
+
 def large():
     """A block that is longer than many reads, and a hundred thousand items in each other."""
     count = 100_000
@@ -148,8 +176,8 @@ def wide_tables():
 
 # The rows by the names under which they are counted, and the files that some are run with.
 MADE = {
-    "answers": answers, "stored": stored, "definitions_made": definitions, "references": references, "large": large,
-    "wide_tables": wide_tables, "names": names,
+    "answers": answers, "stored": stored, "definitions_made": definitions, "references": references, "filled_rows": filled_rows,
+    "large": large, "wide_tables": wide_tables, "names": names,
     COMMONMARK.stem: of_specification,
 }
 FILES = {"names": {ODD: b"|a|\n|-|\n[a](gone)\n"}}
