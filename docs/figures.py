@@ -9,13 +9,14 @@ from collections import Counter
 from functools import cache
 
 import totals_file
+from crate_list import crates
 from rattle_source import TOP, text_of
 
 WORDS = "no one two three four five six seven eight nine ten eleven twelve thirteen fourteen fifteen sixteen".split()
 FIGURE = r"(\w+(?:[.,]\w+)*)"
 NUMBER = re.compile(r"\d+(?:[.,]\d+)*")
-# What README.md says in numbers that are no figures of the tree: a version, the proved bound, the size of the text in bench/RESULTS.md.
-GIVEN = re.compile(r"\b\d+\.\d+\.\d+\b|Python 3\b|4n \+ 8k|\bon 1\.8 MB of Markdown|\bright of 1\b|\bx86-64\b")
+# What README.md says in digits that are no figures of the tree: versions, the proved bound, names.
+GIVEN = re.compile(r"\b\d+\.\d+\.\d+\b|\| 0\.31 \||\bC99\b|\bmd4c\b|4n \+ 8k|\b32-bit\b")
 
 
 @cache
@@ -41,12 +42,6 @@ def printed(figure):
     return f"{figure:,}" if isinstance(figure, int) else figure
 
 
-def times(row):
-    """How many times as many instructions a row of tests/parser/README.md has."""
-    found = source("tests/parser/README.md", rf"(?m)^\| {row}.*: ([\d.]+) \|$")
-    return f"{float(found):.2f}"
-
-
 def answered():
     """How many cases of each call pulldown-cmark answered, those of lines apart."""
     lines = text_of("crates/tests_replay/stdin").splitlines()[-totals("tests/differential/totals")["answered"] :]
@@ -66,8 +61,8 @@ def of_answers():
     both = replay["worked"], replay["answered"]
     cases = len(totals_file.read(TOP / "tests/faults/cases"))
     return [
-        ("README.md", "say what they should: {} worked rows, {} of what programs print,", [both[0], rows_of_programs()]),
-        ("README.md", "the examples of the specification, and {} inputs on which", both[1:]),
+        ("README.md", "They are tested, by {} worked rows, {} of what programs print,", [both[0], rows_of_programs()]),
+        ("README.md", "the specification's examples, {} inputs on which", both[1:]),
         ("docs/MAP.md", "the {} worked rows of `tests/differential/rows`, and {} that pulldown-cmark", both),
         ("docs/DIFFERENCES.md", "how the {} answers of pulldown-cmark were made", both[1:]),
         ("tests/differential/README.md", "begins with the {} worked rows of", both[:1]),
@@ -84,10 +79,8 @@ def of_parser():
     found = totals("tests/parser/totals")
     original, swapped = found["tests-original"], found["tests-swapped"]
     most = totals_file.read(TOP / "tests/parser/totals")["instructions"]
-    both = times("1.8 MB of release notes"), times("the pages of this tree")
     page = "tests/parser/README.md"
     return [
-        ("README.md", "the scanners take {} times the instructions of its own, and {} of its {} tests pass", [both[0], swapped, original]),
         (page, "Of the {} functions of `scanners.rs`", [found["functions"]]),
         (page, "`puncttable.rs` {} are gone", [found["functions"] - found["kept"]]),
         (page, "{} functions stay:", [WORDS[found["kept"]].capitalize()]),
@@ -99,9 +92,39 @@ def of_parser():
     ]
 
 
-def of_pages():
-    events, html = (source("bench/RESULTS.md", rf"(?m)^\| {call} \|.*\| ([\d.]+) \|$") for call in ("Parser, all events", "html_of_page"))
-    return [("README.md", "pulldown-cmark 0.9.2 takes {} times our instructions for its events, and {} times for its HTML", [events, html])]
+def of_texts(kind):
+    """Of whole texts through C, by bench/corpora/run: the least and the greatest ratio, on how many it is below 1, and how many there are."""
+    part = text_of("bench/RESULTS.md").split("\nWhole texts, instructions a byte:\n")[1].split("\nThe first ")[0]
+    return re.search(rf"(?m)^- {kind}: ([\d.]+) .* to ([\d.]+) .*, below 1 on (\d+) of (\d+) texts$", part).groups()
+
+
+def of_others():
+    """The costs of other parsers: in instructions, by bench/corpora/run, and in megabytes a second, as the pages of the packages have them."""
+    pulldown, events, cmark, md4c = (of_texts(kind) for kind in ("HTML", "events", "HTML of cmark", "HTML of md4c"))
+    results, node, python = "bench/RESULTS.md", "packages/javascript/README.md", "packages/python/README.md"
+    markdown_it = float(source(node, r"([\d.]+) MB/s on either module,")) / float(source(node, r"and to ([\d.]+) by markdown-it"))
+    mistune = float(source(python, r"(?m)^\| `html\(page\)` \| ([\d.]+) \|$")) / float(source(python, r"\| mistune [\d.]+ \| ([\d.]+) \|"))
+    costs = [*cmark[:2], *md4c[:2], *pulldown[:2], f"{markdown_it:.1f}", f"{mistune:.0f}"]
+    ahead = [md4c[2], WORDS[int(md4c[3])], pulldown[2], *events[:2]]
+    patterns = [r"and cmark ([\d.]+)\. Instructions", r"md4c ([\d.]+) and cmark", r"beside pulldown-cmark ([\d.]+) \(`push_html`"]
+    timed = [source(node, r"by markdown-it ([\d.]+) with its preset"), source(python, r"\| mistune ([\d.]+) \|")]
+    return [
+        ("README.md", "for cmark {}, md4c {} and pulldown-cmark {} with `simd`,", [source(results, pattern) for pattern in patterns]),
+        ("README.md", "and time for [markdown-it {}](packages/javascript/README.md#how-fast-it-is) and [mistune {}]", timed),
+        ("README.md", "| Cost of HTML, ours as 1 | 1 | {} to {} | {} to {} | {} to {} | – | {} (time) | {} (time) |", costs),
+        ("README.md", "the most of [{} texts](bench/RESULTS.md#texts-of-many-kinds) ({} for cmark),", [WORDS[int(it[3])] for it in (md4c, cmark)]),
+        ("README.md", "md4c is ahead on {} of the {} texts, pulldown-cmark on {}, and its events take {} to {} of our instructions", ahead),
+    ]
+
+
+def of_gate():
+    """What `rt ci` counts: the crates, and the wrong bodies of their must-fail/."""
+    proved = len(crates())
+    refused = sum(int(numbers.split()[0]) for numbers in totals_file.read(TOP / "tests/mutations/totals").values())
+    return [
+        ("README.md", "{} passed, 0 failed", [proved + refused]),
+        ("README.md", "proves {} crates, has the prover refuse {} wrong bodies,", [proved, refused]),
+    ]
 
 
 def of_packages():
@@ -118,7 +141,13 @@ def of_packages():
 
 
 def of_sources():
+    events, html = "crates/markdown_events/specs/page/Sizes.antt", "crates/markdown_html/specs/HtmlSizes.antt"
+    most_events = [number(events, r"≤ (\d+) \* length page"), number(events, r"\* length page \+ (\d+)")]
+    most_html = [number(html, r"written ≤ (\d+) \* length page"), number(html, r"\* length page \+ (\d+)")]
+    most_html.insert(1, 3 * most_html[0])  # a zero byte is read as U+FFFD, which has three
     return [
+        ("README.md", "and cut no character; at most {} for each byte, and {} |", most_events),
+        ("README.md", "by definition; at most {} bytes for each byte ({} for a zero byte), and {};", most_html),
         ("docs/DECISIONS.md", "a perfect hash of {} seeds", [number("crates/html_entities/generate.py", r"(?m)^SEED_COUNT = (\d+)")]),
     ]
 
@@ -132,7 +161,7 @@ def of_kit():
 
 
 def rows():
-    return of_answers() + of_parser() + of_pages() + of_packages() + of_sources() + of_kit()
+    return of_answers() + of_parser() + of_others() + of_gate() + of_packages() + of_sources() + of_kit()
 
 
 def pattern_of(words):

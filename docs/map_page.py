@@ -10,7 +10,7 @@ MAP = "docs/MAP.md"
 USES = "parser_uses"
 FOLDERS = [path.relative_to(TOP).as_posix() for at in ("packages", "tests") for path in sorted((TOP / at).iterdir()) if path.is_dir()]
 FOLDERS += ["bench", "docs"]
-UNLISTED = (".pyc", ".edit", "Cargo.lock", ".wasm", ".d.mts")  # wrong bodies, and what tools make
+UNLISTED = (".pyc", ".edit", "Cargo.lock", ".wasm", ".d.mts", ".o", ".so")  # wrong bodies, and what tools make
 PARTS = {"src": ".rt", "specs": ".antt", "proofs": ".antt"}
 OF_TYPES = ("type", "trait")
 
