@@ -5,7 +5,9 @@ pub mod InPageLemmas
 pub mod IteratedLemmas
 pub mod LeftLemmas
 pub mod LevelLemmas
+pub mod ListEnds
 pub mod ListFronts
+pub mod ListRuns
 pub mod NestLemmas
 pub mod NodeCuts
 pub mod NodeRanges

@@ -4,6 +4,7 @@ pub mod Iterated
 pub mod LeafContent
 pub mod LeafEvents
 pub mod Levels
+pub mod ListEnds
 pub mod OpenElements
 pub mod PageEvents
 pub mod Places

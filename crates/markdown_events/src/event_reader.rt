@@ -4,7 +4,10 @@ ghost use Rattle.markdown_events.specs.EventLaws.{AreAtBoundaries, AreBalanced, 
 ghost use Rattle.markdown_events.specs.InlineEvents.{RangedEvent, seen_event};
 ghost use Rattle.markdown_events.specs.Nesting.{AreNestedEvents};
 ghost use Rattle.markdown_blocks.specs.events.Events.{ends, leaf, seen_event as seen_block, seen_leaf, starts};
-ghost use Rattle.markdown_events.specs.page.Given.{AlwaysGivesOnly, AlwaysGivesPage, Gives, GivesOnly, GivesWith, IsDone, IsPassed, KnowsDefinitions, events_left, leaf_left_with, left_with, setting_with};
+ghost use Rattle.markdown_events.specs.page.Given.{AlwaysGivesOnly, AlwaysGivesPage, Gives};
+ghost use Rattle.markdown_events.specs.page.Given.{GivesOnly, GivesWith, IsDone, IsPassed};
+ghost use Rattle.markdown_events.specs.page.Given.{KnowsDefinitions, events_left, leaf_left_with};
+ghost use Rattle.markdown_events.specs.page.Given.{left_with, setting_with};
 ghost use Rattle.markdown_events.specs.page.OpenElements.{begun, end_events, ended, next_span, passed, place_in, start_events};
 ghost use Rattle.markdown_values.specs.values.Extensions.{asked_by, commonmark};
 ghost use Rattle.markdown_events.specs.page.PageEvents.{ArePageEvents};

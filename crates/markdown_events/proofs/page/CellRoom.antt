@@ -147,8 +147,8 @@ module _ (page : List ℕ) (setting : EventSetting) where
         arith,
         ap begun_cells is,
         ap empty_cells is,
-        cells_in_other container offset (container_end inner) held rest,
-        empty_in_other container offset (container_end inner) held rest,
+        cells_in_other container offset (container_end container inner) held rest,
+        empty_in_other container offset (container_end container inner) held rest,
         held_fit room (inside container false here) (Some container) None held are_held,
         later_fit (room_after room held) (after_block here) None None rest are_rest,
       )

@@ -1,5 +1,5 @@
 -- The list that nodes begin with is a list of the page.
-use Rattle.std.proofs.Common.{ℕ, suc, Bool, true, false, not, ◌&&◌, ◌||◌, ◌==◌, List, [], ◌∷◌, ◌++◌, Option, Some, None, ◌≡◌, if◌then◌else◌}
+use Rattle.std.proofs.Common.{ℕ, suc, Bool, true, false, not, ◌&&◌, ◌||◌, ◌==◌, List, [], ◌∷◌, ◌++◌, Option, Some, None, ◌≡◌, inr, if◌then◌else◌}
 use Rattle.std.proofs.Common.{refl, sym, ap, subst, arith, ◌∙◌, append_assoc}
 use Rattle.std.proofs.lemmas.Bool.{eqb-true}
 use Rattle.std.proofs.lemmas.List.{append-nil}
@@ -11,32 +11,17 @@ use Rattle.markdown_blocks.specs.declared.containers.Container.TheVariants.{Item
 use Rattle.markdown_blocks.specs.declared.containers.ListItem.{ListItem}
 use Rattle.markdown_blocks.specs.declared.lists.ListBlock.{ListBlock}
 use Rattle.markdown_blocks.specs.events.Events.{LeafBlock}
+use Rattle.markdown_blocks.specs.laws.Order.{HoldSome}
 use Rattle.markdown_blocks.specs.blocks.Pages.{is_blank_kind}
 use Rattle.markdown_blocks.specs.lists.Lists.{Nodes, nothing, leaf_then, container_then, begins_blank, next_line, lines_passed}
 use Rattle.markdown_blocks.specs.lists.Lists.{Child, leaf_child, container_child, child_unless, children, are_alike, are_loose}
 use Rattle.markdown_blocks.specs.lists.Lists.{last_end, list_of, goes_on, lists_among}
 use Rattle.markdown_events.specs.declared.page.levels.ItemList.{ItemList}
 use Rattle.markdown_events.specs.page.Spans.{is_parted, is_set_off, list_alone, list_with, front_list}
+use Rattle.markdown_events.specs.page.ListEnds.{EndAlike, IsLeafOf}
 use Rattle.markdown_events.proofs.page.LevelLemmas.{are_marked, same_followed, whole_parted_is}
-
--- how many lines of the page stand before what follows a leaf block
-abbrev pub line_after : LeafBlock → ℕ
-line_after = next_line
-
--- an item of this bullet or delimiter
-abbrev pub is_of : ℕ → Option Container → Bool
-is_of delimiter (Some (Item item)) = delimiter == item.delimiter
-is_of delimiter container = false
-
-pub alike_is : (item : ListItem) (c : Option Container) → are_alike (Some (Item item)) c ≡ is_of item.delimiter c
-alike_is item None = refl
-alike_is item (Some (Item other)) = refl
-alike_is item (Some c) = refl
-
--- such items, with which blocks begin
-abbrev pub run_of : ℕ → List Child → List Child
-run_of delimiter [] = []
-run_of delimiter (child ∷ later) = if is_of delimiter child.container then child ∷ run_of delimiter later else []
+use Rattle.markdown_events.proofs.page.ListEnds.{alike_mapped, item_ends_alike}
+use Rattle.markdown_events.proofs.page.ListRuns.{alike_is, delimiter_with, is_of, line_after, run_of}
 
 -- ---- the run is a list
 
@@ -92,16 +77,6 @@ loose_with item inner set_off (Some list) = by_case (item.delimiter == list.deli
         ≡ (if q then list.is_loose || (is_parted inner || set_off) else is_parted inner)
     by_case true = refl
     by_case false = refl
-
-pub delimiter_with : (item : ListItem) (inner : Nodes) (set_off : Bool) (list : Option ItemList)
-    → (list_with item inner set_off list).delimiter ≡ item.delimiter
-delimiter_with item inner set_off None = refl
-delimiter_with item inner set_off (Some list) = by_case (item.delimiter == list.delimiter) refl
-  where
-    by_case : (q : Bool) → (item.delimiter == list.delimiter) ≡ q
-        → (if q then record list { is_loose = list.is_loose || (is_parted inner || set_off) } else list_alone item inner).delimiter ≡ item.delimiter
-    by_case true is = sym (eqb-true item.delimiter list.delimiter is)
-    by_case false is = refl
 
 -- the run of an item is loose as the list of it is
 abbrev IsLooseRun : Nodes → Type 0
@@ -163,10 +138,22 @@ loose_run (container_then c offset inner later) = λ item child depth line. refl
 
 -- ---- the list that begins with an item
 
--- one of the lists of blocks in so many containers has the bullet or delimiter of this list, and is loose or tight as it is
-abbrev pub IsListed : ℕ → List Child → ItemList → Type 0
-IsListed depth blocks list = (block : ListBlock) × Contains (lists_among depth [] blocks) block × (block.delimiter ≡ list.delimiter)
-    × (block.is_loose ≡ list.is_loose)
+-- One of the lists of blocks in so many containers has the bullet or delimiter of this list, and is loose or tight as it is; and both end
+-- with one leaf block, where each container among the nodes of which they are holds something.
+abbrev pub IsListed : Nodes → ℕ → List Child → ItemList → Type 0
+IsListed nodes depth blocks list = (block : ListBlock) × Contains (lists_among depth [] blocks) block × (block.delimiter ≡ list.delimiter)
+    × (block.is_loose ≡ list.is_loose) × (HoldSome nodes → EndAlike (IsLeafOf nodes) list.to block.end)
+
+-- so it is where another leaf block stands before them
+listed_after_leaf : (block : LeafBlock) (nodes : Nodes) (depth : ℕ) (blocks : List Child) (list : ItemList) → IsListed nodes depth blocks list
+    → IsListed (leaf_then block nodes) depth blocks list
+listed_after_leaf block nodes depth blocks list (listed, there, of, loose, ends) = (
+  listed,
+  there,
+  of,
+  loose,
+  λ some. alike_mapped (IsLeafOf nodes) (IsLeafOf (leaf_then block nodes)) (λ leaf is. inr is) list.to listed.end (ends some),
+)
 
 -- an item's run is loose as its list is
 pub item_is_loose : (item : ListItem) (inner later : Nodes) (depth line : ℕ)
@@ -185,7 +172,7 @@ item_is_loose item inner later depth line =
     ∙ sym (loose_with item inner (is_set_off item inner later) (front_list later))
 
 item_is_listed : (item : ListItem) (offset : ℕ) (inner later : Nodes) (depth line : ℕ)
-    → IsListed depth (children false depth line (container_then (Item item) offset inner later))
+    → IsListed (container_then (Item item) offset inner later) depth (children false depth line (container_then (Item item) offset inner later))
     (list_with item inner (is_set_off item inner later) (front_list later))
 item_is_listed item offset inner later depth line =
     let passed = lines_passed line inner in
@@ -204,6 +191,7 @@ item_is_listed item offset inner later depth line =
       Contains-append_right ([] ++ first.inside) (lists_among depth (first ∷ []) others) block (listed depth item first refl others [] block refl),
       sym (delimiter_with item inner (is_set_off item inner later) (front_list later)),
       item_is_loose item inner later depth line,
+      item_ends_alike item offset inner later depth line,
     )
 
 -- a leaf block before them is in none of the lists
@@ -213,14 +201,17 @@ lists_after_leaf depth line block blank [] = refl
 lists_after_leaf depth line block blank (child ∷ later) = refl
 
 abbrev IsFrontListed : Nodes → Type 0
-IsFrontListed nodes = (list : ItemList) → front_list nodes ≡ Some list → (depth line : ℕ) → IsListed depth (children false depth line nodes) list
+IsFrontListed nodes = (list : ItemList) → front_list nodes ≡ Some list → (depth line : ℕ)
+    → IsListed nodes depth (children false depth line nodes) list
 
 front_after_leaf : (block : LeafBlock) (later : Nodes) → IsFrontListed later → IsFrontListed (leaf_then block later)
 front_after_leaf block later listed_later list front depth line = by_kind (is_blank_kind block.kind) front
   where
     by_kind : (k : Bool) → ◌≡◌ {A = Option ItemList} (if k then front_list later else None) (Some list)
-        → IsListed depth (child_unless (k && not false) (leaf_child block line (begins_blank later)) (children false depth (line_after block) later)) list
-    by_kind true is = listed_later list is depth (line_after block)
+        → IsListed (leaf_then block later) depth
+        (child_unless (k && not false) (leaf_child block line (begins_blank later)) (children false depth (line_after block) later)) list
+    by_kind true is =
+        listed_after_leaf block later depth (children false depth (line_after block) later) list (listed_later list is depth (line_after block))
     by_kind false is = absurd (cc)
 
 front_is_listed : (nodes : Nodes) → IsFrontListed nodes
@@ -228,13 +219,13 @@ front_is_listed nothing = λ list front depth line. absurd (cc)
 front_is_listed (leaf_then block later) = front_after_leaf block later (front_is_listed later)
 front_is_listed (container_then (Item item) offset inner later) = λ list front depth line.
     let is : list_with item inner (is_set_off item inner later) (front_list later) ≡ list = cc in
-    subst (IsListed depth (children false depth line (container_then (Item item) offset inner later))) is
+    subst (IsListed (container_then (Item item) offset inner later) depth (children false depth line (container_then (Item item) offset inner later))) is
     (item_is_listed item offset inner later depth line)
 front_is_listed (container_then c offset inner later) = λ list front depth line. absurd (cc)
 
 -- The list that the blocks of a container or of the page begin with, blank lines aside, is one of their lists.
 pub front_list_is_listed : (nodes : Nodes) (list : ItemList) → front_list nodes ≡ Some list → (is_first : Bool) (depth line : ℕ)
-    → IsListed depth (children is_first depth line nodes) list
+    → IsListed nodes depth (children is_first depth line nodes) list
 front_list_is_listed nodes list front false depth line = front_is_listed nodes list front depth line
 front_list_is_listed nothing list front true depth line = absurd (cc)
 front_list_is_listed (container_then c offset inner later) list front true depth line =
@@ -242,9 +233,13 @@ front_list_is_listed (container_then c offset inner later) list front true depth
 front_list_is_listed (leaf_then block later) list front true depth line = by_kind (is_blank_kind block.kind) front
   where
     by_kind : (k : Bool) → ◌≡◌ {A = Option ItemList} (if k then front_list later else None) (Some list)
-        → IsListed depth (child_unless (k && not true) (leaf_child block line (begins_blank later)) (children false depth (line_after block) later)) list
+        → IsListed (leaf_then block later) depth
+        (child_unless (k && not true) (leaf_child block line (begins_blank later)) (children false depth (line_after block) later)) list
     by_kind false is = absurd (cc)
     by_kind true is =
         let blocks = children false depth (line_after block) later in
-        subst (λ lists. (found : ListBlock) × Contains lists found × (found.delimiter ≡ list.delimiter) × (found.is_loose ≡ list.is_loose))
-        (sym (lists_after_leaf depth line block (begins_blank later) blocks)) (front_is_listed later list is depth (line_after block))
+        let nodes = leaf_then block later in
+        subst (λ lists. (found : ListBlock) × Contains lists found × (found.delimiter ≡ list.delimiter) × (found.is_loose ≡ list.is_loose)
+        × (HoldSome nodes → EndAlike (IsLeafOf nodes) list.to found.end))
+        (sym (lists_after_leaf depth line block (begins_blank later) blocks))
+        (listed_after_leaf block later depth blocks list (front_is_listed later list is depth (line_after block)))

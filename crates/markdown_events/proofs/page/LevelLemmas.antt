@@ -15,8 +15,8 @@ use Rattle.markdown_events.specs.declared.page.levels.ItemList.{ItemList}
 use Rattle.markdown_events.specs.declared.page.levels.LastBlock.{LastBlock}
 use Rattle.markdown_events.specs.declared.page.levels.Level.{Level}
 use Rattle.markdown_events.specs.declared.page.spans.Span.{Span}
-use Rattle.markdown_events.specs.page.Levels.{content_of, is_followed, last_with, last_of, begins_blank_twice, level_of, goes_on, with_block}
-use Rattle.markdown_events.specs.page.Spans.{first_offset, block_end, last_end, container_end}
+use Rattle.markdown_events.specs.page.Levels.{content_of, is_followed, last_with, last_of, begins_blank_twice, level_of, goes_on, with_block, ended_at}
+use Rattle.markdown_events.specs.page.Spans.{first_offset, block_end, last_end, lines_end, end_of, container_end}
 use Rattle.markdown_events.specs.page.Spans.{is_parted, is_set_off, is_alike, list_alone, list_with, front_list, span_of}
 
 -- ---- the last of the blocks
@@ -43,7 +43,18 @@ end_with_leaf block later there to blank = by_kind (is_blank_kind block.kind)
 end_is : (nodes : Nodes) → EndsThere nodes
 end_is nothing = λ to blank. refl
 end_is (leaf_then block later) = end_with_leaf block later (end_is later)
-end_is (container_then c offset inner later) = λ to blank. end_is later (container_end inner) (is_followed c inner later)
+end_is (container_then c offset inner later) = λ to blank. end_is later (container_end c inner) (is_followed c inner later)
+
+-- and so is that of their lines
+lines_are : (nodes : Nodes) (to : ℕ) → (if begins_blank nodes || is_some (last_of nodes) then lines_end 0 nodes else to) ≡ lines_end to nodes
+lines_are nothing to = refl
+lines_are (leaf_then block later) to = by_kind (is_blank_kind block.kind)
+  where
+    by_kind : (k : Bool) → (if k || is_some (last_with k (last_of later) (leaf_alone block later)) then lines_end (block_end block) later else to)
+        ≡ lines_end (block_end block) later
+    by_kind true = refl
+    by_kind false = refl
+lines_are (container_then c offset inner later) to = refl
 
 -- whether a blank line follows the last, or ends it, whatever lines stand before
 abbrev pub AreMarked : Nodes → Type 0
@@ -82,10 +93,10 @@ marked_with_container c offset inner later marked_inner marked = (λ depth line 
     here : (depth line : ℕ)
         → ends_blank (ends_blank_line c (children true (suc depth) line inner) || begins_blank later)
         (children false depth (lines_passed line inner) later)
-        ≡ (last_or (container_end inner) (is_followed c inner later) (last_of later)).is_blank
+        ≡ (last_or (container_end c inner) (is_followed c inner later) (last_of later)).is_blank
     here depth line =
         ap (λ b. ends_blank b (children false depth (lines_passed line inner) later)) (same_followed c (suc depth) line inner later marked_inner)
-        ∙ marked.0 depth (lines_passed line inner) (container_end inner) (is_followed c inner later)
+        ∙ marked.0 depth (lines_passed line inner) (container_end c inner) (is_followed c inner later)
 
 pub are_marked : (nodes : Nodes) → AreMarked nodes
 are_marked nothing = (λ depth line to blank. refl, λ depth line to. refl)
@@ -272,28 +283,36 @@ parted_known level nodes same =
 
 pub content_known : (level : Level) (nodes : Nodes) → level ≡ level_of nodes → (last : LastBlock)
     → last ≡ last_or level.offset level.begins_blank_twice level.last → (parted : Bool) → parted ≡ is_parted nodes
-    → ◌≡◌ {A = ContainerContent} (record { to = last.to; is_parted = parted; ends_blank = last.is_blank }) (content_of nodes)
+    → ◌≡◌ {A = ContainerContent} (record { to = last.to; lines_to = level.lines_to; is_parted = parted; ends_blank = last.is_blank }) (content_of nodes)
 content_known level nodes same last is_last parted parts =
-    let content : ℕ → Bool → Bool → ContainerContent = λ to parted blank. record { to = to; is_parted = parted; ends_blank = blank } in
+    let content : ℕ → Bool → Bool → ContainerContent = λ to parted blank.
+    record { to = to; lines_to = lines_end 0 nodes; is_parted = parted; ends_blank = blank } in
     let known : Level → LastBlock = λ l. last_or l.offset l.begins_blank_twice l.last in
-    ap (λ l. content l.to parted l.is_blank) (is_last ∙ ap known same)
+    ap (λ (l : Level). record { to = last.to; lines_to = l.lines_to; is_parted = parted; ends_blank = last.is_blank }) same
+    ∙ ap (λ l. content l.to parted l.is_blank) (is_last ∙ ap known same)
     ∙ ap (λ p. content (known (level_of nodes)).to p (known (level_of nodes)).is_blank) parts
     ∙ ap (λ to. content to (is_parted nodes) (known (level_of nodes)).is_blank) (sym (end_is nodes (first_offset nodes) (begins_blank_twice nodes)))
-    ∙ ap (content (container_end nodes) (is_parted nodes)) (sym ((are_marked nodes).1 0 0 (first_offset nodes)))
+    ∙ ap (content (last_end (first_offset nodes) nodes) (is_parted nodes)) (sym ((are_marked nodes).1 0 0 (first_offset nodes)))
 
 -- ---- one more block
 
+abbrev parted_of_all : Nodes → Bool
+parted_of_all nodes = are_parted (children false 0 0 nodes)
+
 abbrev pub leaf_level : Bool → LeafBlock → Level → Level
-leaf_level true block later = record later { offset = block.offset; begins_blank = true; begins_blank_twice = later.begins_blank }
-leaf_level false block later = with_block block.offset (record { to = block_end block; is_blank = later.begins_blank }) false None later
+leaf_level true block later =
+    record (ended_at (block_end block) later) { offset = block.offset; begins_blank = true; begins_blank_twice = later.begins_blank }
+leaf_level false block later =
+    with_block block.offset (record { to = block_end block; is_blank = later.begins_blank }) false None (ended_at (block_end block) later)
 
 pub level_with_leaf : (block : LeafBlock) (later : Nodes)
     → leaf_level (is_blank_kind block.kind) block (level_of later) ≡ level_of (leaf_then block later)
 level_with_leaf block later = by_kind (is_blank_kind block.kind)
   where
-    known : Bool → Bool → Level
-    known k parted = record {
+    known : ℕ → Bool → Bool → Level
+    known lines k parted = record {
       offset = block.offset;
+      lines_to = lines;
       last = last_with k (last_of later) (leaf_alone block later);
       is_parted = parted;
       begins_blank = k;
@@ -303,39 +322,50 @@ level_with_leaf block later = by_kind (is_blank_kind block.kind)
 
     by_kind : (k : Bool)
         → leaf_level k block (level_of later)
-        ≡ known k (are_parted (child_unless (k && not false) (leaf_child block 0 (begins_blank later)) (children false 0 (next_line block) later)))
-    by_kind true = ap (known true) (parted_is later 0 0 ∙ sym (parted_is later 0 (next_line block)))
-    by_kind false = ap (known false) (ap (λ p. is_parting (begins_blank later) false later || p) (parted_is later 0 0)
+        ≡ known (lines_end (block_end block) later) k (are_parted (child_unless (k && not false) (leaf_child block 0 (begins_blank later)) (children false 0 (next_line block) later)))
+    by_kind true = ap (λ n. known n true (parted_of_all later)) (lines_are later (block_end block))
+        ∙ ap (known (lines_end (block_end block) later) true) (parted_is later 0 0 ∙ sym (parted_is later 0 (next_line block)))
+    by_kind false = ap (λ n. known n false (is_parting (begins_blank later) false later || parted_of_all later)) (lines_are later (block_end block))
+        ∙ ap (known (lines_end (block_end block) later) false) (ap (λ p. is_parting (begins_blank later) false later || p) (parted_is later 0 0)
         ∙ sym (parted_with_leaf block later (parted_is later) 0 (next_line block) 0))
 
 pub level_with_container : (c : Container) (offset : ℕ) (inner later : Nodes)
-    → with_block offset (record { to = container_end inner; is_blank = is_followed c inner later }) (goes_on c (front_list later))
-    (front_list (container_then c offset inner later)) (level_of later)
+    → with_block offset (record { to = container_end c inner; is_blank = is_followed c inner later }) (goes_on c (front_list later))
+    (front_list (container_then c offset inner later)) (ended_at (lines_end 0 inner) (level_of later))
     ≡ level_of (container_then c offset inner later)
 level_with_container c offset inner later =
-    let level : Bool → Level = λ parted. record {
+    let level : ℕ → Bool → Level = λ lines parted. record {
       offset = offset;
-      last = Some (last_or (container_end inner) (is_followed c inner later) (last_of later));
+      lines_to = lines;
+      last = Some (last_or (container_end c inner) (is_followed c inner later) (last_of later));
       is_parted = parted;
       begins_blank = false;
       begins_blank_twice = false;
       list = front_list (container_then c offset inner later);
     } in
-    ap level (ap (λ p. is_parting (is_followed c inner later) (goes_on c (front_list later)) later || p) (parted_is later 0 0)
+    ap (λ n. level n (is_parting (is_followed c inner later) (goes_on c (front_list later)) later || parted_of_all later))
+    (lines_are later (lines_end 0 inner))
+    ∙ ap (level (lines_end (lines_end 0 inner) later))
+    (ap (λ p. is_parting (is_followed c inner later) (goes_on c (front_list later)) later || p) (parted_is later 0 0)
     ∙ sym (parted_is (container_then c offset inner later) 0 0))
 
 pub level_known : (c : Container) (offset : ℕ) (content : ContainerContent) (level : Level) (inner later : Nodes) → content ≡ content_of inner
     → level ≡ level_of later → (blank : Bool) → blank ≡ is_followed c inner later → (more : Bool) → more ≡ goes_on c level.list
     → (list : Option ItemList) → list ≡ front_list (container_then c offset inner later)
-    → with_block offset (record { to = content.to; is_blank = blank }) more list level ≡ level_of (container_then c offset inner later)
-level_known c offset content level inner later same same_later blank is_blank more is_more list is_list =
+    → (to : ℕ) → to ≡ end_of c content.lines_to content.to
+    → with_block offset (record { to = to; is_blank = blank }) more list (ended_at content.lines_to level)
+    ≡ level_of (container_then c offset inner later)
+level_known c offset content level inner later same same_later blank is_blank more is_more list is_list to is_to =
     let front = front_list (container_then c offset inner later) in
     let followed = is_followed c inner later in
-    ap (λ b. with_block offset (record { to = content.to; is_blank = b }) more list level) is_blank
-    ∙ ap (λ m. with_block offset (record { to = content.to; is_blank = followed }) m list level) is_more
-    ∙ ap (λ l. with_block offset (record { to = content.to; is_blank = followed }) (goes_on c level.list) l level) is_list
-    ∙ ap (λ all. with_block offset (record { to = all.to; is_blank = followed }) (goes_on c level.list) front level) same
-    ∙ ap (λ known. with_block offset (record { to = container_end inner; is_blank = followed }) (goes_on c known.list) front known) same_later
+    let at : ContainerContent → LastBlock = λ all. record { to = end_of c all.lines_to all.to; is_blank = followed } in
+    ap (λ n. with_block offset (record { to = n; is_blank = blank }) more list (ended_at content.lines_to level)) is_to
+    ∙ ap (λ b. with_block offset (record { to = end_of c content.lines_to content.to; is_blank = b }) more list (ended_at content.lines_to level))
+    is_blank
+    ∙ ap (λ m. with_block offset (at content) m list (ended_at content.lines_to level)) is_more
+    ∙ ap (λ l. with_block offset (at content) (goes_on c level.list) l (ended_at content.lines_to level)) is_list
+    ∙ ap (λ all. with_block offset (at all) (goes_on c level.list) front (ended_at all.lines_to level)) same
+    ∙ ap (λ known. with_block offset (at (content_of inner)) (goes_on c known.list) front (ended_at (lines_end 0 inner) known)) same_later
     ∙ level_with_container c offset inner later
 
 -- ---- what a container spans
@@ -345,17 +375,17 @@ span_with (Some list) to more = record { to = to; is_loose = list.is_loose; list
 span_with None to more = record { to = to; is_loose = false; list_to = 0; is_last = false }
 
 pub span_is : (c : Container) (offset : ℕ) (inner later : Nodes)
-    → span_with (front_list (container_then c offset inner later)) (container_end inner) (goes_on c (front_list later)) ≡ span_of c inner later
+    → span_with (front_list (container_then c offset inner later)) (container_end c inner) (goes_on c (front_list later)) ≡ span_of c inner later
 span_is (Item i) offset inner later = refl
 span_is c offset inner later = refl
 
 pub span_known : (c : Container) (content : ContainerContent) (level : Level) (inner later : Nodes) → content ≡ content_of inner → level ≡ level_of later
     → (list : Option ItemList) → list ≡ front_list (container_then c 0 inner later) → (more : Bool) → more ≡ goes_on c level.list
-    → span_with list content.to more ≡ span_of c inner later
-span_known c content level inner later same same_later list is_list more is_more =
+    → (to : ℕ) → to ≡ end_of c content.lines_to content.to → span_with list to more ≡ span_of c inner later
+span_known c content level inner later same same_later list is_list more is_more to is_to =
     let front = front_list (container_then c 0 inner later) in
-    ap (λ l. span_with l content.to more) is_list
-    ∙ ap (span_with front content.to) is_more
-    ∙ ap (λ all. span_with front all.to (goes_on c level.list)) same
-    ∙ ap (λ known. span_with front (container_end inner) (goes_on c known.list)) same_later
+    ap (λ l. span_with l to more) is_list
+    ∙ ap (span_with front to) is_more
+    ∙ ap (λ n. span_with front n (goes_on c level.list)) (is_to ∙ ap (λ all. end_of c all.lines_to all.to) same)
+    ∙ ap (λ known. span_with front (container_end c inner) (goes_on c known.list)) same_later
     ∙ span_is c 0 inner later

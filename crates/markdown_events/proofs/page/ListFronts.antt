@@ -1,6 +1,6 @@
 -- Each list of the page is one that blocks begin with: the one that begins with its first item.
 use Rattle.std.proofs.Common.{ℕ, suc, Bool, true, false, not, ◌&&◌, List, [], ◌∷◌, ◌++◌, Option, Some, None, ◌≡◌, ◌⊎◌, inl, inr, if◌then◌else◌}
-use Rattle.std.proofs.Common.{refl, sym, ap, arith, ◌∙◌, append_assoc}
+use Rattle.std.proofs.Common.{refl, sym, ap, subst, arith, ◌∙◌, append_assoc}
 use Rattle.std.proofs.lemmas.List.{append-nil}
 use Rattle.std.proofs.lemmas.List.Elements.{Contains-append_cases, Contains-push_cases}
 use Rattle.std.specs.List.{Contains}
@@ -10,19 +10,23 @@ use Rattle.markdown_blocks.specs.declared.containers.Container.TheVariants.{Item
 use Rattle.markdown_blocks.specs.declared.containers.ListItem.{ListItem}
 use Rattle.markdown_blocks.specs.declared.lists.ListBlock.{ListBlock}
 use Rattle.markdown_blocks.specs.events.Events.{LeafBlock}
+use Rattle.markdown_blocks.specs.laws.Order.{HoldSome}
 use Rattle.markdown_blocks.specs.blocks.Pages.{is_blank_kind}
 use Rattle.markdown_blocks.specs.lists.Lists.{Nodes, nothing, leaf_then, container_then, begins_blank, lines_passed}
 use Rattle.markdown_blocks.specs.lists.Lists.{Child, leaf_child, container_child, child_unless, children, are_alike, are_loose, goes_on}
-use Rattle.markdown_blocks.specs.lists.Lists.{list_of, lists_among, lists_of}
+use Rattle.markdown_blocks.specs.lists.Lists.{last_end, list_of, lists_among, lists_of}
 use Rattle.markdown_events.specs.declared.page.levels.ItemList.{ItemList}
 use Rattle.markdown_events.specs.page.Spans.{is_set_off, list_with, front_list}
-use Rattle.markdown_events.proofs.page.FrontLists.{alike_is, delimiter_with, is_of, item_is_loose, line_after, run_of}
+use Rattle.markdown_events.specs.page.ListEnds.{EndAlike, IsLeafOf}
+use Rattle.markdown_events.proofs.page.FrontLists.{item_is_loose}
+use Rattle.markdown_events.proofs.page.ListEnds.{item_ends_alike}
+use Rattle.markdown_events.proofs.page.ListRuns.{alike_is, delimiter_with, is_of, line_after, run_of}
 
 -- The nodes, before which so many lines of the page stand, begin with a list that begins at the line where this one does, has its bullet or
--- delimiter, and is loose or tight as it is.
+-- delimiter, is loose or tight as it is, and ends with the same leaf block, where each container holds something.
 abbrev pub BeginWith : Nodes → ℕ → ListBlock → Type 0
 BeginWith nodes line block = (list : ItemList) × (front_list nodes ≡ Some list) × (block.line ≡ line)
-    × (block.delimiter ≡ list.delimiter) × (block.is_loose ≡ list.is_loose)
+    × (block.delimiter ≡ list.delimiter) × (block.is_loose ≡ list.is_loose) × (HoldSome nodes → EndAlike (IsLeafOf nodes) list.to block.end)
 
 -- so do those from one of the containers on, among the nodes or in them
 abbrev pub BeginsIn : ListBlock → ℕ → Nodes → Type 0
@@ -148,6 +152,11 @@ begins_with (Item item) offset inner later depth line block is =
       sym (ap (λ (b : ListBlock). b.is_loose) same)
           ∙ ap (λ more. are_loose (first ∷ more)) (run_is item first refl others)
           ∙ item_is_loose item inner later depth line,
+      λ some.
+          subst (EndAlike (IsLeafOf (container_then (Item item) offset inner later))
+          (list_with item inner (is_set_off item inner later) (front_list later)).to)
+          (ap (last_end first.end) (sym (run_is item first refl others)) ∙ ap (λ (b : ListBlock). b.end) same)
+          (item_ends_alike item offset inner later depth line some),
     )
 begins_with c offset inner later depth line block is = absurd (cc)
 
@@ -174,7 +183,8 @@ are_theirs nothing = λ is_first depth line block items there.
 are_theirs (leaf_then leaf later) = theirs_with_leaf leaf later (are_theirs later)
 are_theirs (container_then c offset inner later) = theirs_with_container c offset inner later (are_theirs inner) (are_theirs later)
 
--- Where a list of the page begins, there blocks begin with a list of its bullet or delimiter, which is loose or tight as it is.
+-- Where a list of the page begins, there blocks begin with a list of its bullet or delimiter, which is loose or tight as it is, and ends with
+-- the same leaf block.
 pub listed_is_front_list : (nodes : Nodes) (block : ListBlock) → Contains (lists_of nodes) block → BeginsIn block 0 nodes
 listed_is_front_list nodes block there = elim (are_theirs nodes true 0 0 block [] there) [
   | inl is ↦ (let none : ◌≡◌ {A = Option ListBlock} None (Some block) = ap (list_of 0) (sym (none_more (children true 0 0 nodes))) ∙ is in absurd (cc))

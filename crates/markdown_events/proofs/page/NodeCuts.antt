@@ -22,7 +22,7 @@ use Rattle.markdown_events.specs.page.LeafEvents.{Place}
 use Rattle.markdown_events.specs.page.PageEvents.{AreNodeEvents, OpenList, after_block, container_tag, element_of, ending, inside, list_after, list_end}
 use Rattle.markdown_events.specs.page.PageEvents.{list_in, list_start, starting}
 use Rattle.markdown_events.specs.page.Spans.{block_end, container_end, first_offset, front_list, is_parted}
-use Rattle.markdown_events.specs.page.Spans.{is_set_off, last_end, list_alone, list_with, span_of}
+use Rattle.markdown_events.specs.page.Spans.{is_set_off, last_end, lines_end, end_of, list_alone, list_with, span_of}
 use Rattle.markdown_events.specs.page.References.{room_after}
 use Rattle.markdown_events.specs.page.TaskEvents.{AreBlockEvents}
 use Rattle.markdown_events.proofs.inline_events.Boundaries.{both_at}
@@ -58,6 +58,21 @@ module _ (page : List ℕ) (setting : EventSetting) where
     first_cut (leaf_then block later) outer kept waiting at = at.0.offset
     first_cut (container_then container offset inner later) outer kept waiting at = at.0
 
+    lines_cut : (nodes : Nodes) (outer : List Container) (kept : ℕ) (waiting : Option Container) (from : ℕ) → NodesAt outer kept waiting nodes
+        → Cut from → Cut (lines_end from nodes)
+    lines_cut nothing outer kept waiting from at cut = cut
+    lines_cut (leaf_then block later) outer kept waiting from at cut =
+        lines_cut later outer (length outer) (waiting_next waiting (leaf block)) (block_end block) at.2 at.0.ends
+    lines_cut (container_then container offset inner later) outer kept waiting from at cut =
+        lines_cut later outer (length outer) None (lines_end 0 inner) at.2
+        (lines_cut inner (outer ++ past_first_line container ∷ []) kept (Some container) 0 at.1 (IsCharBoundary-start page utf8))
+
+    either_cut : (container : Container) (lines last : ℕ) → Cut lines → Cut last → Cut (end_of container lines last)
+    either_cut Quote lines last at_lines at_last = at_lines
+    either_cut (Item one) lines last at_lines at_last = at_last
+    either_cut Footnote lines last at_lines at_last = at_last
+    either_cut (TermDefinition one) lines last at_lines at_last = at_last
+
     last_cut : (nodes : Nodes) (outer : List Container) (kept : ℕ) (waiting : Option Container) (from : ℕ) → NodesAt outer kept waiting nodes
         → Cut from → Cut (last_end from nodes)
     last_cut nothing outer kept waiting from at cut = cut
@@ -69,20 +84,26 @@ module _ (page : List ℕ) (setting : EventSetting) where
         by true = cut
         by false = at.0.ends
     last_cut (container_then container offset inner later) outer kept waiting from at cut =
-        last_cut later outer (length outer) None (last_end (first_offset inner) inner) at.2
-        (last_cut inner (outer ++ past_first_line container ∷ []) kept (Some container) (first_offset inner) at.1
-        (first_cut inner (outer ++ past_first_line container ∷ []) kept (Some container) at.1))
+        let first = first_cut inner (outer ++ past_first_line container ∷ []) kept (Some container) at.1 in
+        last_cut later outer (length outer) None (container_end container inner) at.2
+        (either_cut container (lines_end 0 inner) (last_end (first_offset inner) inner)
+        (lines_cut inner (outer ++ past_first_line container ∷ []) kept (Some container) 0 at.1 (IsCharBoundary-start page utf8))
+        (last_cut inner (outer ++ past_first_line container ∷ []) kept (Some container) (first_offset inner) at.1 first))
 
-    end_cut : (inner : Nodes) (outer : List Container) (kept : ℕ) (waiting : Option Container) → NodesAt outer kept waiting inner
-        → Cut (container_end inner)
-    end_cut inner outer kept waiting at = last_cut inner outer kept waiting (first_offset inner) at (first_cut inner outer kept waiting at)
+    end_cut : (container : Container) (inner : Nodes) (outer : List Container) (kept : ℕ) → NodesAt outer kept (Some container) inner
+        → Cut (container_end container inner)
+    end_cut container inner outer kept at =
+        let first = first_cut inner outer kept (Some container) at in
+        either_cut container (lines_end 0 inner) (last_end (first_offset inner) inner)
+        (lines_cut inner outer kept (Some container) 0 at (IsCharBoundary-start page utf8))
+        (last_cut inner outer kept (Some container) (first_offset inner) at first)
 
     -- ---- lists
 
     abbrev ListCut : Option ItemList → Type 0
     ListCut list = IfSome list (λ l. Cut l.to)
 
-    with_cut : (one : ListItem) (inner : Nodes) (set_off : Bool) (list : Option ItemList) → Cut (container_end inner) → ListCut list
+    with_cut : (one : ListItem) (inner : Nodes) (set_off : Bool) (list : Option ItemList) → Cut (container_end (Item one) inner) → ListCut list
         → Cut (list_with one inner set_off list).to
     with_cut one inner set_off None own cut = own
     with_cut one inner set_off (Some list) own cut = by (one.delimiter == list.delimiter)
@@ -103,7 +124,7 @@ module _ (page : List ℕ) (setting : EventSetting) where
         by false cut = tt
     front_cut (container_then (Item one) offset inner later) outer kept waiting at =
         with_cut one inner (is_set_off one inner later) (front_list later)
-        (end_cut inner (outer ++ past_first_line (Item one) ∷ []) kept (Some (Item one)) at.1) (front_cut later outer (length outer) None at.2)
+        (end_cut (Item one) inner (outer ++ past_first_line (Item one) ∷ []) kept at.1) (front_cut later outer (length outer) None at.2)
     front_cut (container_then Quote offset inner later) outer kept waiting at = tt
     front_cut (container_then Footnote offset inner later) outer kept waiting at = tt
     front_cut (container_then (TermDefinition one) offset inner later) outer kept waiting at = tt
@@ -127,12 +148,12 @@ module _ (page : List ℕ) (setting : EventSetting) where
         → NodesAt here.containers here.kept waiting (container_then (Item one) offset inner later) → Cut now.element.from × Cut now.element.to
         → AreAt front → AreNodeEvents page setting room (inside (Item one) now.is_tight here) (Some (Item one)) None inner held
         → AreNodeEvents page setting (room_after room held) (after_block here) None (list_after (span_of (Item one) inner later).is_last now) later rest
-        → events ≡ front ++ starting item offset (container_end inner) ++ held ++ ending (element_of item offset (container_end inner))
-        ++ list_end (span_of (Item one) inner later).is_last now ++ rest → AreAt events
+        → events ≡ front ++ starting item offset (container_end (Item one) inner) ++ held
+        ++ ending (element_of item offset (container_end (Item one) inner)) ++ list_end (span_of (Item one) inner later).is_last now ++ rest → AreAt events
     item_at one offset inner later inner_at later_at room here waiting now events front held rest at listed front_at are_held are_rest is =
         let last = (span_of (Item one) inner later).is_last in
-        let end = container_end inner in
-        let to = end_cut inner (here.containers ++ past_first_line (Item one) ∷ []) here.kept (Some (Item one)) at.1 in
+        let end = container_end (Item one) inner in
+        let to = end_cut (Item one) inner (here.containers ++ past_first_line (Item one) ∷ []) here.kept at.1 in
         let begins = starting item offset end in
         let ends = ending (element_of item offset end) in
         let first = both_at page front begins front_at ((at.0, to), tt) in
@@ -158,12 +179,12 @@ module _ (page : List ℕ) (setting : EventSetting) where
         → NodesAt here.containers here.kept waiting (container_then container offset inner later)
         → AreNodeEvents page setting room (inside container false here) (Some container) None inner held
         → AreNodeEvents page setting (room_after room held) (after_block here) None None later rest
-        → events ≡ starting (container_tag container) offset (container_end inner) ++ held
-        ++ ending (element_of (container_tag container) offset (container_end inner)) ++ rest → AreAt events
+        → events ≡ starting (container_tag container) offset (container_end container inner) ++ held
+        ++ ending (element_of (container_tag container) offset (container_end container inner)) ++ rest → AreAt events
     other_at container offset inner later inner_at later_at room here waiting events held rest at are_held are_rest is =
-        let to = end_cut inner (here.containers ++ past_first_line container ∷ []) here.kept (Some container) at.1 in
-        let begins = starting (container_tag container) offset (container_end inner) in
-        let ends = ending (element_of (container_tag container) offset (container_end inner)) in
+        let to = end_cut container inner (here.containers ++ past_first_line container ∷ []) here.kept at.1 in
+        let begins = starting (container_tag container) offset (container_end container inner) in
+        let ends = ending (element_of (container_tag container) offset (container_end container inner)) in
         let first = both_at page begins held ((at.0, to), tt) (inner_at room (inside container false here) (Some container) None held at.1 tt are_held) in
         let whole = both_at page (begins ++ held) ends first ((at.0, to), tt) in
         subst AreAt (sym is)
@@ -178,7 +199,7 @@ module _ (page : List ℕ) (setting : EventSetting) where
     nodes_at (container_then (Item one) offset inner later) room here waiting None events at listed (held, rest, are_held, are_rest, is) =
         let span = span_of (Item one) inner later in
         let to = with_cut one inner (is_set_off one inner later) (front_list later)
-        (end_cut inner (here.containers ++ past_first_line (Item one) ∷ []) here.kept (Some (Item one)) at.1)
+        (end_cut (Item one) inner (here.containers ++ past_first_line (Item one) ∷ []) here.kept at.1)
         (front_cut later here.containers (length here.containers) None at.2) in
         item_at one offset inner later (nodes_at inner) (nodes_at later) room here waiting (list_in None one offset span) events
         (list_start None one offset span) held rest at (at.0, to) ((at.0, to), tt) are_held are_rest is

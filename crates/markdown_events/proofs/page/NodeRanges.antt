@@ -29,7 +29,8 @@ use Rattle.markdown_events.proofs.page.RoomLemmas.{in_room}
 use Rattle.markdown_events.specs.page.PageEvents.{AreNodeEvents, OpenList, after_block, container_tag, inside, list_after, list_end, list_in, list_tag}
 use Rattle.markdown_events.specs.page.PageEvents.{outermost}
 use Rattle.markdown_events.specs.page.Places.{element}
-use Rattle.markdown_events.specs.page.Spans.{block_end, container_end, first_offset, front_list, is_alike, is_set_off, last_end, list_with, span_of}
+use Rattle.markdown_events.specs.page.Spans.{block_end, container_end, end_of, first_offset, front_list, is_alike, is_set_off, last_end, lines_end}
+use Rattle.markdown_events.specs.page.Spans.{list_with, span_of}
 use Rattle.markdown_events.proofs.inline_events.Rise.{rise_from}
 use Rattle.markdown_events.proofs.page.OnePage.{OtherEvents}
 use Rattle.markdown_events.proofs.page.PageBalance.{reassociated}
@@ -100,6 +101,32 @@ module _ (page : List ℕ) (setting : EventSetting) where
       by_kind false rest = omega arith
   end_grows (container_then container offset inner later) from to less = omega arith
 
+  -- what has passed before some nodes is not asked for after them
+  passed_once : (nodes : Nodes) → AreSome nodes → (one other : ℕ) → passed_after one nodes ≡ passed_after other nodes
+  passed_once nothing some one other = absurd some
+  passed_once (leaf_then block later) some one other = refl
+  passed_once (container_then container offset inner later) some one other = refl
+
+  -- the last of their lines ends where what follows them begins
+  lines_pass : (nodes : Nodes) (outer : List Container) (kept passed from : ℕ) → Stand outer kept passed nodes
+      → lines_end from nodes ≡ passed_after from nodes
+  lines_pass nothing outer kept passed from stand = refl
+  lines_pass (leaf_then block later) outer kept passed from stand =
+      lines_pass later outer (length outer) (block_end block) (block_end block) stand.3
+  lines_pass (container_then container offset inner later) outer kept passed from stand =
+      let after = passed_after (suc offset) inner in
+      ap (λ n. lines_end n later) (lines_pass inner (outer ++ past_first_line container ∷ []) kept (suc offset) 0 stand.2
+      ∙ passed_once inner stand.1 0 (suc offset))
+      ∙ lines_pass later outer (length outer) after after stand.3
+
+  -- a container ends by what follows it, and not before the last of its blocks that is not blank
+  end_between : (container : Container) (first last lines after : ℕ) → first ≤ last → last ≤ after → lines ≡ after
+      → (first ≤ end_of container lines last) × (end_of container lines last ≤ after) × (last ≤ end_of container lines last)
+  end_between Quote first last lines after low high are = (omega (arith, low, high, are), omega (arith, are), omega (arith, high, are))
+  end_between (Item one) first last lines after low high are = (low, high, omega arith)
+  end_between Footnote first last lines after low high are = (low, high, omega arith)
+  end_between (TermDefinition one) first last lines after low high are = (low, high, omega arith)
+
   -- the last of their ends that is not of a blank line stands between what has passed before them and what has after them
   ends_between : (nodes : Nodes) (outer : List Container) (kept passed from : ℕ) → Stand outer kept passed nodes → from ≤ first_or passed nodes
       → (from ≤ last_end from nodes) × (last_end from nodes ≤ passed_after passed nodes)
@@ -122,24 +149,33 @@ module _ (page : List ℕ) (setting : EventSetting) where
       let first = first_later (outer ++ past_first_line container ∷ []) kept (suc offset) inner stand.2 in
       let is = first_is (suc offset) inner stand.1 in
       let held = ends_between inner (outer ++ past_first_line container ∷ []) kept (suc offset) (first_offset inner) stand.2 (omega (arith, is)) in
+      let lines = lines_pass inner (outer ++ past_first_line container ∷ []) kept (suc offset) 0 stand.2
+      ∙ passed_once inner stand.1 0 (suc offset) in
+      let own = end_between container (first_offset inner) (last_end (first_offset inner) inner) (lines_end 0 inner)
+      (passed_after (suc offset) inner) held.0 held.1 lines in
       let after = first_later outer (length outer) (passed_after (suc offset) inner) later stand.3 in
-      let there = ends_between later outer (length outer) (passed_after (suc offset) inner) (container_end inner) stand.3
-      (omega (arith, held.1, after)) in
-      (omega (arith, before, first, is, held.0, there.0), there.1)
+      let there = ends_between later outer (length outer) (passed_after (suc offset) inner) (container_end container inner) stand.3
+      (omega (arith, own.1, after)) in
+      (omega (arith, before, first, is, own.0, there.0), there.1)
 
   -- a container ends between its marker and what follows it
-  held_between : (outer : List Container) (kept offset : ℕ) (inner : Nodes) → AreSome inner → Stand outer kept (suc offset) inner
-      → (suc offset ≤ first_offset inner) × (first_offset inner ≤ container_end inner) × (container_end inner ≤ passed_after (suc offset) inner)
-  held_between outer kept offset inner some stand =
+  held_between : (container : Container) (outer : List Container) (kept offset : ℕ) (inner : Nodes) → AreSome inner
+      → Stand outer kept (suc offset) inner → (suc offset ≤ first_offset inner) × (first_offset inner ≤ container_end container inner)
+      × (container_end container inner ≤ passed_after (suc offset) inner)
+      × (last_end (first_offset inner) inner ≤ container_end container inner)
+  held_between container outer kept offset inner some stand =
       let first = first_later outer kept (suc offset) inner stand in
       let is = first_is (suc offset) inner some in
       let held = ends_between inner outer kept (suc offset) (first_offset inner) stand (omega (arith, is)) in
-      (omega (arith, first, is), held.0, held.1)
+      let lines = lines_pass inner outer kept (suc offset) 0 stand ∙ passed_once inner some 0 (suc offset) in
+      let own = end_between container (first_offset inner) (last_end (first_offset inner) inner) (lines_end 0 inner)
+      (passed_after (suc offset) inner) held.0 held.1 lines in
+      (omega (arith, first, is), own.0, own.1, own.2)
 
   -- ---- lists
 
   last_to : (one : ListItem) (inner : Nodes) (set_off : Bool) (found : Option ItemList) → is_alike one found ≡ false
-      → (list_with one inner set_off found).to ≡ container_end inner
+      → (list_with one inner set_off found).to ≡ container_end (Item one) inner
   last_to one inner set_off None none = refl
   last_to one inner set_off (Some list) none = rw none refl
 
@@ -163,23 +199,26 @@ module _ (page : List ℕ) (setting : EventSetting) where
       by_kind true rest there = let more = rest there in (omega (arith, stand.0, stand.1, more.0), more.1)
       by_kind false rest there = absurd (cc)
   list_between (container_then (Item one) offset inner later) outer kept passed from stand before list is =
-      let held = held_between (outer ++ past_first_line (Item one) ∷ []) kept offset inner stand.1 stand.2 in
+      let held = held_between (Item one) (outer ++ past_first_line (Item one) ∷ []) kept offset inner stand.1 stand.2 in
       let after = first_later outer (length outer) (passed_after (suc offset) inner) later stand.3 in
-      let there = ends_between later outer (length outer) (passed_after (suc offset) inner) (container_end inner) stand.3
+      let there = ends_between later outer (length outer) (passed_after (suc offset) inner) (container_end (Item one) inner) stand.3
       (omega (arith, held.2, after)) in
       let same : list_with one inner (is_set_off one inner later) (front_list later) ≡ list = cc in
-      subst (λ (l : ItemList). (passed ≤ l.to) × (l.to ≤ last_end (container_end inner) later)) same
+      subst (λ (l : ItemList). (passed ≤ l.to) × (l.to ≤ last_end (container_end (Item one) inner) later)) same
       (by_case held there.0
-      (λ on on_is. list_between later outer (length outer) (passed_after (suc offset) inner) (container_end inner) stand.3
+      (λ on on_is. list_between later outer (length outer) (passed_after (suc offset) inner) (container_end (Item one) inner) stand.3
       (omega (arith, held.2, after)) on on_is)
       (is_alike one (front_list later)) refl)
     where
-      by_case : (suc offset ≤ first_offset inner) × (first_offset inner ≤ container_end inner) × (container_end inner ≤ passed_after (suc offset) inner)
-          → container_end inner ≤ last_end (container_end inner) later
-          → ((on : ItemList) → front_list later ≡ Some on → (passed_after (suc offset) inner ≤ on.to) × (on.to ≤ last_end (container_end inner) later))
+      end : ℕ
+      end = container_end (Item one) inner
+
+      by_case : (suc offset ≤ first_offset inner) × (first_offset inner ≤ end) × (end ≤ passed_after (suc offset) inner)
+          × (last_end (first_offset inner) inner ≤ end) → end ≤ last_end end later
+          → ((on : ItemList) → front_list later ≡ Some on → (passed_after (suc offset) inner ≤ on.to) × (on.to ≤ last_end end later))
           → (alike : Bool) → is_alike one (front_list later) ≡ alike
           → (passed ≤ (list_with one inner (is_set_off one inner later) (front_list later)).to)
-          × ((list_with one inner (is_set_off one inner later) (front_list later)).to ≤ last_end (container_end inner) later)
+          × ((list_with one inner (is_set_off one inner later) (front_list later)).to ≤ last_end (container_end (Item one) inner) later)
       by_case held there goes false alike =
           let to = last_to one inner (is_set_off one inner later) (front_list later) alike in
           (omega (arith, stand.0, held.0, held.1, to), omega (arith, there, to))
@@ -194,17 +233,17 @@ module _ (page : List ℕ) (setting : EventSetting) where
   -- an item ends within its list
   item_fits : (one : ListItem) (offset : ℕ) (inner later : Nodes) (outer : List Container) (kept passed : ℕ)
       → Stand outer kept passed (container_then (Item one) offset inner later)
-      → container_end inner ≤ (list_with one inner (is_set_off one inner later) (front_list later)).to
+      → container_end (Item one) inner ≤ (list_with one inner (is_set_off one inner later) (front_list later)).to
   item_fits one offset inner later outer kept passed stand = by (is_alike one (front_list later)) refl
     where
       by : (alike : Bool) → is_alike one (front_list later) ≡ alike
-          → container_end inner ≤ (list_with one inner (is_set_off one inner later) (front_list later)).to
+          → container_end (Item one) inner ≤ (list_with one inner (is_set_off one inner later) (front_list later)).to
       by false alike = omega (arith, last_to one inner (is_set_off one inner later) (front_list later) alike)
       by true alike =
           let on = goes_to one inner (is_set_off one inner later) (front_list later) alike in
-          let between = held_between (outer ++ past_first_line (Item one) ∷ []) kept offset inner stand.1 stand.2 in
+          let between = held_between (Item one) (outer ++ past_first_line (Item one) ∷ []) kept offset inner stand.1 stand.2 in
           let follows = first_later outer (length outer) (passed_after (suc offset) inner) later stand.3 in
-          let there = list_between later outer (length outer) (passed_after (suc offset) inner) (container_end inner) stand.3
+          let there = list_between later outer (length outer) (passed_after (suc offset) inner) (container_end (Item one) inner) stand.3
           (omega (arith, between, follows)) on.0 on.1 in
           omega (arith, between, there.0, on.2)
 
@@ -308,71 +347,76 @@ module _ (page : List ℕ) (setting : EventSetting) where
   item_in_list : (one : ListItem) (offset : ℕ) (inner later : Nodes) → Rises inner → Rises later → (room : Room) (here : Place) (list : OpenList)
       (is_tight : Bool)
       → (passed from to : ℕ) (outer : List ℕ) (held rest more : List RangedEvent)
-      → Stand here.containers here.kept passed (container_then (Item one) offset inner later) → from ≤ offset → last_end (container_end inner) later ≤ to
+      → Stand here.containers here.kept passed (container_then (Item one) offset inner later) → from ≤ offset
+      → last_end (container_end (Item one) inner) later ≤ to
       → (list_with one inner (is_set_off one inner later) (front_list later)).to ≡ list.element.to → (alike : Bool)
       → is_alike one (front_list later) ≡ alike → AreNodeEvents page setting room (inside (Item one) is_tight here) (Some (Item one)) None inner held
       → AreNodeEvents page setting (room_after room held) (after_block here) None (list_after (not alike) list) later rest
-      → RiseIn (to ∷ outer) (last_end (container_end inner) later) more
+      → RiseIn (to ∷ outer) (last_end (container_end (Item one) inner) later) more
       → RiseIn (list.element.to ∷ to ∷ outer) from
-      (element item offset (container_end inner) held ++ (list_end (not alike) list ++ (rest ++ more)))
+      (element item offset (container_end (Item one) inner) held ++ (list_end (not alike) list ++ (rest ++ more)))
   item_in_list one offset inner later in_it after_it room here list is_tight passed from to outer held rest more stand low within list_is alike same
       are_held are_rest gives =
-      element_rises item offset (container_end inner) from list.element.to (to ∷ outer) held _ low (omega (arith, between)) fits
-      (λ more closed. in_it room (inside (Item one) is_tight here) (Some (Item one)) None (suc offset) offset (container_end inner)
-      (container_end inner ∷ list.element.to ∷ to ∷ outer) (list.element.to ∷ to ∷ outer) held more stand.2 (omega arith) inner_ends refl are_held
-      (rise_from (container_end inner ∷ list.element.to ∷ to ∷ outer) (last_end offset inner) (container_end inner) more inner_ends closed))
+      element_rises item offset (container_end (Item one) inner) from list.element.to (to ∷ outer) held _ low (omega (arith, between)) fits
+      (λ more closed. in_it room (inside (Item one) is_tight here) (Some (Item one)) None (suc offset) offset (container_end (Item one) inner)
+      (container_end (Item one) inner ∷ list.element.to ∷ to ∷ outer) (list.element.to ∷ to ∷ outer) held more stand.2 (omega arith) inner_ends refl are_held
+      (rise_from (container_end (Item one) inner ∷ list.element.to ∷ to ∷ outer) (last_end offset inner) (container_end (Item one) inner) more
+      inner_ends closed))
       (after alike same are_rest)
     where
-      between : (suc offset ≤ first_offset inner) × (first_offset inner ≤ container_end inner) × (container_end inner ≤ passed_after (suc offset) inner)
-      between = held_between (here.containers ++ past_first_line (Item one) ∷ []) here.kept offset inner stand.1 stand.2
+      between : (suc offset ≤ first_offset inner) × (first_offset inner ≤ container_end (Item one) inner)
+          × (container_end (Item one) inner ≤ passed_after (suc offset) inner) × (last_end (first_offset inner) inner ≤ container_end (Item one) inner)
+      between = held_between (Item one) (here.containers ++ past_first_line (Item one) ∷ []) here.kept offset inner stand.1 stand.2
 
-      inner_ends : last_end offset inner ≤ container_end inner
+      inner_ends : last_end offset inner ≤ container_end (Item one) inner
       inner_ends = end_grows inner offset (first_offset inner) (omega (arith, between))
 
-      fits : container_end inner ≤ list.element.to
+      fits : container_end (Item one) inner ≤ list.element.to
       fits = omega (arith, list_is, item_fits one offset inner later here.containers here.kept passed stand)
 
       after : (alike : Bool) → is_alike one (front_list later) ≡ alike
           → AreNodeEvents page setting (room_after room held) (after_block here) None (list_after (not alike) list) later rest
-          → RiseIn (list.element.to ∷ to ∷ outer) (container_end inner) (list_end (not alike) list ++ (rest ++ more))
+          → RiseIn (list.element.to ∷ to ∷ outer) (container_end (Item one) inner) (list_end (not alike) list ++ (rest ++ more))
       after false same are_rest =
           let at_end = sym (last_to one inner (is_set_off one inner later) (front_list later) same) ∙ list_is in (
             omega (arith, at_end),
             refl,
             subst (λ n. RiseIn (to ∷ outer) n (rest ++ more)) at_end
-                (after_it (room_after room held) (after_block here) None None (passed_after (suc offset) inner) (container_end inner) to
+                (after_it (room_after room held) (after_block here) None None (passed_after (suc offset) inner) (container_end (Item one) inner) to
                 (to ∷ outer) outer rest more stand.3
                 (omega (arith, between)) within refl are_rest gives),
           )
       after true same are_rest =
           let on = goes_to one inner (is_set_off one inner later) (front_list later) same in
-          after_it (room_after room held) (after_block here) None (Some list) (passed_after (suc offset) inner) (container_end inner) to
+          after_it (room_after room held) (after_block here) None (Some list) (passed_after (suc offset) inner) (container_end (Item one) inner) to
           (list.element.to ∷ to ∷ outer) outer rest more
           stand.3 (omega (arith, between)) within (on.0, on.1, sym on.2 ∙ list_is, refl) are_rest gives
 
   -- a container that is no item, and what follows it
   other_rises : (container : Container) (offset : ℕ) (inner later : Nodes) → Rises inner → Rises later → (room : Room) (here : Place)
       → (passed from to : ℕ) (ends outer : List ℕ) (events more : List RangedEvent)
-      → Stand here.containers here.kept passed (container_then container offset inner later) → from ≤ passed → last_end (container_end inner) later ≤ to
+      → Stand here.containers here.kept passed (container_then container offset inner later) → from ≤ passed
+      → last_end (container_end container inner) later ≤ to
       → ends ≡ to ∷ outer → OtherEvents page setting container offset inner later room here events
-      → RiseIn (to ∷ outer) (last_end (container_end inner) later) more → RiseIn ends from (events ++ more)
+      → RiseIn (to ∷ outer) (last_end (container_end container inner) later) more → RiseIn ends from (events ++ more)
   other_rises container offset inner later in_it after_it room here passed from to ends outer events more stand low within are_open
       (held, rest, are_held, are_rest, is) gives =
       let tag = container_tag container in
-      let between = held_between (here.containers ++ past_first_line container ∷ []) here.kept offset inner stand.1 stand.2 in
+      let between = held_between container (here.containers ++ past_first_line container ∷ []) here.kept offset inner stand.1 stand.2 in
       let follows = first_later here.containers (length here.containers) (passed_after (suc offset) inner) later stand.3 in
-      let there = ends_between later here.containers (length here.containers) (passed_after (suc offset) inner) (container_end inner) stand.3
+      let there = ends_between later here.containers (length here.containers) (passed_after (suc offset) inner) (container_end container inner) stand.3
       (omega (arith, between, follows)) in
-      let inner_ends = end_grows inner offset (first_offset inner) (omega (arith, between)) in
+      let inner_ends : last_end offset inner ≤ container_end container inner =
+      omega (arith, between, end_grows inner offset (first_offset inner) (omega (arith, between))) in
       subst (λ (es : List RangedEvent). RiseIn ends from (es ++ more)) (sym is)
-      (subst (λ (e : List ℕ). RiseIn e from (element tag offset (container_end inner) held ++ rest ++ more)) (sym are_open)
-      (subst (RiseIn (to ∷ outer) from) (sym (append_assoc (element tag offset (container_end inner) held) rest more))
-      (element_rises tag offset (container_end inner) from to outer held (rest ++ more) (omega (arith, low, stand.0)) (omega (arith, between))
+      (subst (λ (e : List ℕ). RiseIn e from (element tag offset (container_end container inner) held ++ rest ++ more)) (sym are_open)
+      (subst (RiseIn (to ∷ outer) from) (sym (append_assoc (element tag offset (container_end container inner) held) rest more))
+      (element_rises tag offset (container_end container inner) from to outer held (rest ++ more) (omega (arith, low, stand.0)) (omega (arith, between))
       (omega (arith, there.0, within))
-      (λ more closed. in_it room (inside container false here) (Some container) None (suc offset) offset (container_end inner)
-      (container_end inner ∷ to ∷ outer) (to ∷ outer) held more stand.2 (omega arith) inner_ends refl are_held
-      (rise_from (container_end inner ∷ to ∷ outer) (last_end offset inner) (container_end inner) more inner_ends closed))
-      (after_it (room_after room held) (after_block here) None None (passed_after (suc offset) inner) (container_end inner) to
+      (λ more closed. in_it room (inside container false here) (Some container) None (suc offset) offset (container_end container inner)
+      (container_end container inner ∷ to ∷ outer) (to ∷ outer) held more stand.2 (omega arith) inner_ends refl are_held
+      (rise_from (container_end container inner ∷ to ∷ outer) (last_end offset inner) (container_end container inner) more inner_ends closed))
+      (after_it (room_after room held) (after_block here) None None (passed_after (suc offset) inner) (container_end container inner) to
       (to ∷ outer) outer rest more stand.3
       (omega (arith, between)) within refl are_rest gives))))
 
@@ -389,7 +433,7 @@ module _ (page : List ℕ) (setting : EventSetting) where
       let whole = element item offset span.to held in
       let list = list_between (container_then (Item one) offset inner later) here.containers here.kept passed from stand (omega (arith, low, stand.0))
       (list_with one inner (is_set_off one inner later) (front_list later)) refl in
-      let between = held_between (here.containers ++ past_first_line (Item one) ∷ []) here.kept offset inner stand.1 stand.2 in
+      let between = held_between (Item one) (here.containers ++ past_first_line (Item one) ∷ []) here.kept offset inner stand.1 stand.2 in
       let within_list = item_fits one offset inner later here.containers here.kept passed stand in
       let rises = item_in_list one offset inner later (nodes_rise inner) (nodes_rise later) room here now now.is_tight passed offset to outer held rest more stand
       (omega arith) within refl (is_alike one (front_list later)) refl are_held are_rest gives in

@@ -99,15 +99,15 @@ abbrev pub OtherEvents : List ℕ → EventSetting → Container → ℕ → Nod
 OtherEvents page setting container offset inner later room here events =
     (held : List RangedEvent) × (rest : List RangedEvent) × AreNodeEvents page setting room (inside container false here) (Some container) None inner held
     × AreNodeEvents page setting (room_after room held) (after_block here) None None later rest
-    × (events ≡ starting (container_tag container) offset (container_end inner) ++ held
-    ++ ending (element_of (container_tag container) offset (container_end inner)) ++ rest)
+    × (events ≡ starting (container_tag container) offset (container_end container inner) ++ held
+    ++ ending (element_of (container_tag container) offset (container_end container inner)) ++ rest)
 
 one_of_other : (page : List ℕ) (setting : EventSetting) (container : Container) (offset : ℕ) (inner later : Nodes) (room : Room) (here : Place)
     → (events others : List RangedEvent) → (h : OtherEvents page setting container offset inner later room here events)
     → (k : OtherEvents page setting container offset inner later room here others) → h.0 ≡ k.0 → h.1 ≡ k.1 → events ≡ others
 one_of_other page setting container offset inner later room here events others h k held rest =
     let tag = container_tag container in
-    let to = container_end inner in
+    let to = container_end container inner in
     h.4 ∙ (ap (λ es. starting tag offset to ++ es ++ ending (element_of tag offset to) ++ h.1) held
     ∙ (ap (λ es. starting tag offset to ++ k.0 ++ ending (element_of tag offset to) ++ es) rest ∙ sym k.4))
 

@@ -121,7 +121,7 @@ module _ (page : List ℕ) (setting : EventSetting) where
       (elements outer : List Started) (events more : List RangedEvent) → elements ≡ outer
       → OtherEvents page setting container offset inner later room here events → AreOutside outer → StandIn outer more → StandIn elements (events ++ more)
   other_stands container offset inner later in_it after_it room here elements outer events more are_open (held, rest, are_held, are_rest, is) outside gives =
-      let to = container_end inner in
+      let to = container_end container inner in
       let whole = element (container_tag container) offset to held in
       let stands = element_stands (container_tag container) offset to held (other_container container)
       (alone inner in_it room (inside container false here) (Some container) held are_held) in

@@ -169,8 +169,8 @@ module _ (cost : Cost) (byte tail edge held line info row cell block holder : �
           arith,
           ap (total cost) all,
           ap (λ (es : List RangedEvent). cell * begun_cells es) all,
-          ap (λ n. cell * n) (cells_in_other one offset (container_end inner) inside_it rest),
-          other_costs one offset (container_end inner) inside_it rest,
+          ap (λ n. cell * n) (cells_in_other one offset (container_end one inner) inside_it rest),
+          other_costs one offset (container_end one inner) inside_it rest,
           inner_cost room (inside one false here) (Some one) None inside_it are_inside,
           later_cost (room_after room inside_it) (after_block here) None None rest are_rest,
         )

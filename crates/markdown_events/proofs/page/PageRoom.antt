@@ -37,7 +37,7 @@ module _ (page : List ℕ) (setting : EventSetting) where
       omega (
         arith,
         ap added is,
-        added_by_other container offset (container_end inner) held rest,
+        added_by_other container offset (container_end container inner) held rest,
         held_fit room (inside container false here) (Some container) None held are_held,
         later_fit (room_after room held) (after_block here) None None rest are_rest,
       )

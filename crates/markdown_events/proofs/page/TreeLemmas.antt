@@ -466,8 +466,8 @@ record AreOther (page : List ℕ) (setting : EventSetting) (room : Room) (contai
   of_nodes : (held : List RangedEvent) × (next : List RangedEvent)
       × AreNodeEvents page setting room (inside container false (place_in s)) (Some container) None inner held
       × AreNodeEvents page setting (room_after room held) (after_block (place_in s)) None None later next
-      × (here ≡ starting (container_tag container) offset (container_end inner) ++ held
-      ++ ending (element_of (container_tag container) offset (container_end inner)) ++ next)
+      × (here ≡ starting (container_tag container) offset (container_end container inner) ++ held
+      ++ ending (element_of (container_tag container) offset (container_end container inner)) ++ next)
   of_tail : AreEventsFrom page setting (room_after room here) (record {
     spans = more;
     containers = s.containers;
@@ -482,9 +482,9 @@ joined_other a b c d e = simp append_assoc refl
 
 other_joined : (page : List ℕ) (setting : EventSetting) (room : Room) (container : Container) (offset : ℕ) (inner later : Nodes) (more : List Span) (tail : List Event)
     → (s : OpenElements) (events rest : List RangedEvent) → innermost_list s.elements ≡ None
-    → let open_now = other_element container offset (container_end inner) ∷ s.elements in
+    → let open_now = other_element container offset (container_end container inner) ∷ s.elements in
     innermost_list open_now ≡ None → is_tight_in (without_list open_now) ≡ false → without_list open_now ≡ open_now
-    → events ≡ starting (container_tag container) offset (container_end inner) ++ rest
+    → events ≡ starting (container_tag container) offset (container_end container inner) ++ rest
     → AreBoth page setting room inner (spans later ++ more) (ends ∷ (flatten later ++ tail)) (inside_of container open_now s) rest
     → ((room2 : Room) (rest2 : List RangedEvent) → AreEventsFrom page setting room2 (with_spans (spans later ++ more) (past s.elements s))
     (flatten later ++ tail) rest2
@@ -492,7 +492,7 @@ other_joined : (page : List ℕ) (setting : EventSetting) (room : Room) (contain
     → AreOther page setting room container offset inner later more tail s events
 other_joined page setting room container offset inner later more tail s events rest none no_list not_tight same given held follow =
     let tag = container_tag container in
-    let to = container_end inner in
+    let to = container_end container inner in
     let open_now = other_element container offset to ∷ s.elements in
     let after_it = subst (λ elements. AreEventsFrom page setting (room_after room held.here) (record {
       spans = spans later ++ more;
@@ -586,8 +586,8 @@ flat_tree page setting room (container_then Quote offset inner later) more tail 
     let none = none_now_other (innermost_list s.elements) (container_then Quote offset inner later) refl goes in
     let other = other_joined page setting room Quote offset inner later more tail s events are.0 none refl refl refl are.2
     (flat_tree page setting room inner (spans later ++ more) (ends ∷ (flatten later ++ tail))
-    (inside_of Quote (other_element Quote offset (container_end inner) ∷ s.elements) s) are.0 refl tt
-    (split_events page setting room inner later more tail (inside_of Quote (other_element Quote offset (container_end inner) ∷ s.elements) s) are.0 are.1))
+    (inside_of Quote (other_element Quote offset (container_end Quote inner) ∷ s.elements) s) are.0 refl tt
+    (split_events page setting room inner later more tail (inside_of Quote (other_element Quote offset (container_end Quote inner) ∷ s.elements) s) are.0 are.1))
     (λ room2 rest2 are2. flat_tree page setting room2 later more tail (past s.elements s) rest2 parted
     (subst (λ current. GoesOn current later) (sym none) tt) are2) in
     record { here = other.here; rest = other.rest; of_nodes = other.of_nodes; of_tail = other.of_tail; both = other.both }
@@ -595,8 +595,8 @@ flat_tree page setting room (container_then Footnote offset inner later) more ta
     let none = none_now_other (innermost_list s.elements) (container_then Footnote offset inner later) refl goes in
     let other = other_joined page setting room Footnote offset inner later more tail s events are.0 none refl refl refl are.2
     (flat_tree page setting room inner (spans later ++ more) (ends ∷ (flatten later ++ tail))
-    (inside_of Footnote (other_element Footnote offset (container_end inner) ∷ s.elements) s) are.0 refl tt
-    (split_events page setting room inner later more tail (inside_of Footnote (other_element Footnote offset (container_end inner) ∷ s.elements) s) are.0 are.1))
+    (inside_of Footnote (other_element Footnote offset (container_end Footnote inner) ∷ s.elements) s) are.0 refl tt
+    (split_events page setting room inner later more tail (inside_of Footnote (other_element Footnote offset (container_end Footnote inner) ∷ s.elements) s) are.0 are.1))
     (λ room2 rest2 are2. flat_tree page setting room2 later more tail (past s.elements s) rest2 parted
     (subst (λ current. GoesOn current later) (sym none) tt) are2) in
     record { here = other.here; rest = other.rest; of_nodes = other.of_nodes; of_tail = other.of_tail; both = other.both }
@@ -604,9 +604,9 @@ flat_tree page setting room (container_then (TermDefinition one) offset inner la
     let none = none_now_other (innermost_list s.elements) (container_then (TermDefinition one) offset inner later) refl goes in
     let other = other_joined page setting room (TermDefinition one) offset inner later more tail s events are.0 none refl refl refl are.2
     (flat_tree page setting room inner (spans later ++ more) (ends ∷ (flatten later ++ tail))
-    (inside_of (TermDefinition one) (other_element (TermDefinition one) offset (container_end inner) ∷ s.elements) s) are.0 refl tt
+    (inside_of (TermDefinition one) (other_element (TermDefinition one) offset (container_end (TermDefinition one) inner) ∷ s.elements) s) are.0 refl tt
     (split_events page setting room inner later more tail (inside_of (TermDefinition one) (other_element (TermDefinition one) offset
-    (container_end inner) ∷ s.elements) s) are.0 are.1))
+    (container_end (TermDefinition one) inner) ∷ s.elements) s) are.0 are.1))
     (λ room2 rest2 are2. flat_tree page setting room2 later more tail (past s.elements s) rest2 parted
     (subst (λ current. GoesOn current later) (sym none) tt) are2) in
     record { here = other.here; rest = other.rest; of_nodes = other.of_nodes; of_tail = other.of_tail; both = other.both }

@@ -1,5 +1,5 @@
 -- What is known of blocks where a page is read from its end. (CommonMark 0.31.2, section 5.3)
-use Rattle.std.specs.Prelude.{ℕ, Bool, true, false, not, ◌&&◌, ◌||◌, ◌≡◌, List, [], ◌∷◌, ◌++◌, map, Option, Some, None, is_some, unwrap_or}
+use Rattle.std.specs.Prelude.{ℕ, Bool, true, false, not, ◌&&◌, ◌||◌, ◌≡◌, List, [], ◌∷◌, ◌++◌, map, Option, Some, None, is_some, unwrap_or, if◌then◌else◌}
 use Rattle.markdown_blocks.specs.declared.containers.Container.{Container}
 use Rattle.markdown_blocks.specs.declared.containers.Container.TheVariants.{Item}
 use Rattle.markdown_blocks.specs.events.Events.{Event, ends}
@@ -11,13 +11,15 @@ use Rattle.markdown_events.specs.declared.page.levels.ItemList.{ItemList}
 use Rattle.markdown_events.specs.declared.page.levels.LastBlock.{LastBlock}
 use Rattle.markdown_events.specs.declared.page.levels.Level.{Level}
 use Rattle.markdown_events.specs.declared.page.spans.Span.{Span}
-use Rattle.markdown_events.specs.page.Spans.{first_offset, block_end, container_end, is_parted, is_alike, front_list, spans}
+use Rattle.markdown_events.specs.page.Spans.{first_offset, block_end, last_end, lines_end, container_end}
+use Rattle.markdown_events.specs.page.Spans.{is_parted, is_alike, front_list, spans}
 
 -- ---- all blocks in a container
 
 abbrev pub content_of : Nodes → ContainerContent
 content_of nodes = record {
-  to = container_end nodes;
+  to = last_end (first_offset nodes) nodes;
+  lines_to = lines_end 0 nodes;
   is_parted = is_parted nodes;
   ends_blank = ends_blank false (children true 0 0 nodes);
 }
@@ -38,7 +40,7 @@ last_of nothing = None
 last_of (leaf_then block later) =
     last_with (is_blank_kind block.kind) (last_of later) (record { to = block_end block; is_blank = begins_blank later })
 last_of (container_then container offset inner later) =
-    last_with false (last_of later) (record { to = container_end inner; is_blank = is_followed container inner later })
+    last_with false (last_of later) (record { to = container_end container inner; is_blank = is_followed container inner later })
 
 abbrev pub begins_blank_twice : Nodes → Bool
 begins_blank_twice (leaf_then block later) = is_blank_kind block.kind && begins_blank later
@@ -47,6 +49,7 @@ begins_blank_twice nodes = false
 abbrev pub level_of : Nodes → Level
 level_of nodes = record {
   offset = first_offset nodes;
+  lines_to = lines_end 0 nodes;
   last = last_of nodes;
   is_parted = are_parted (children false 0 0 nodes);
   begins_blank = begins_blank nodes;
@@ -65,12 +68,17 @@ goes_on container list = false
 abbrev pub with_block : ℕ → LastBlock → Bool → Option ItemList → Level → Level
 with_block offset block more list later = record {
   offset = offset;
+  lines_to = later.lines_to;
   last = Some (unwrap_or later.last block);
   is_parted = (is_some later.last && (block.is_blank && not more)) || later.is_parted;
   begins_blank = false;
   begins_blank_twice = false;
   list = list;
 }
+
+-- blocks before which a block ends here, blank or not
+abbrev pub ended_at : ℕ → Level → Level
+ended_at to later = record later { lines_to = if later.begins_blank || is_some later.last then later.lines_to else to }
 
 -- ---- a page that is read from its end
 

@@ -104,7 +104,7 @@ AreNodeEvents page setting room here waiting current (container_then (Item one) 
     ++ ending (element_of item offset span.to) ++ list_end span.is_last now ++ rest)
 AreNodeEvents page setting room here waiting current (container_then container offset inner later) events =
     let tag = container_tag container in
-    let to = container_end inner in
+    let to = container_end container inner in
     (held : List RangedEvent) × (rest : List RangedEvent)
     × AreNodeEvents page setting room (inside container false here) (Some container) None inner held
     × AreNodeEvents page setting (room_after room held) (after_block here) None None later rest

@@ -1,7 +1,7 @@
 -- Where the containers of a page end, and the lists that their items are in. (CommonMark 0.31.2, chapter 5)
 use Rattle.std.specs.Prelude.{ℕ, Bool, true, false, not, ◌||◌, ◌==◌, List, [], ◌∷◌, ◌++◌, Option, Some, None, if◌then◌else◌}
 use Rattle.markdown_blocks.specs.declared.containers.Container.{Container}
-use Rattle.markdown_blocks.specs.declared.containers.Container.TheVariants.{Item}
+use Rattle.markdown_blocks.specs.declared.containers.Container.TheVariants.{Quote, Item}
 use Rattle.markdown_blocks.specs.declared.containers.ListItem.{ListItem}
 pub use Rattle.markdown_blocks.specs.events.Events.{block_end}
 use Rattle.markdown_blocks.specs.blocks.Pages.{is_blank_kind}
@@ -17,15 +17,27 @@ first_offset nothing = 0
 first_offset (leaf_then block later) = block.offset
 first_offset (container_then container offset inner later) = offset
 
--- Where the last of the blocks ends that is not blank, if this is where the one before them does. A container ends with its last
--- block that is not blank; one without such a block ends where the rest of its line begins.
+-- where the last of the blocks ends, blank lines too, if this is where the one before them does
+abbrev pub lines_end : ℕ → Nodes → ℕ
+lines_end end nothing = end
+lines_end end (leaf_then block later) = lines_end (block_end block) later
+lines_end end (container_then container offset inner later) = lines_end (lines_end 0 inner) later
+
+-- To a block quote each of its lines belongs (5.1). Any other container ends with its last block that is not blank.
+abbrev pub end_of : Container → ℕ → ℕ → ℕ
+end_of Quote lines last = lines
+end_of container lines last = last
+
+-- Where the last of the blocks ends that is not blank, if this is where the one before them does. A container without such a block ends
+-- where the rest of its line begins.
 abbrev pub last_end : ℕ → Nodes → ℕ
 last_end end nothing = end
 last_end end (leaf_then block later) = last_end (if is_blank_kind block.kind then end else block_end block) later
-last_end end (container_then container offset inner later) = last_end (last_end (first_offset inner) inner) later
+last_end end (container_then container offset inner later) =
+    last_end (end_of container (lines_end 0 inner) (last_end (first_offset inner) inner)) later
 
-abbrev pub container_end : Nodes → ℕ
-container_end inner = last_end (first_offset inner) inner
+abbrev pub container_end : Container → Nodes → ℕ
+container_end container inner = end_of container (lines_end 0 inner) (last_end (first_offset inner) inner)
 
 -- ---- the lists of items (5.3)
 
@@ -42,7 +54,7 @@ abbrev pub list_alone : ListItem → Nodes → ItemList
 list_alone item inner = record {
   delimiter = item.delimiter;
   is_loose = is_parted inner;
-  to = container_end inner;
+  to = container_end (Item item) inner;
 }
 
 -- the item is one of the list before which it stands
@@ -74,7 +86,7 @@ front_list (container_then container offset inner later) = None
 abbrev pub item_span : ListItem → Nodes → Nodes → Span
 item_span item inner later =
     let list = list_with item inner (is_set_off item inner later) (front_list later) in record {
-      to = container_end inner;
+      to = container_end (Item item) inner;
       is_loose = list.is_loose;
       list_to = list.to;
       is_last = not (is_alike item (front_list later));
@@ -82,7 +94,7 @@ item_span item inner later =
 
 abbrev pub span_of : Container → Nodes → Nodes → Span
 span_of (Item item) inner later = item_span item inner later
-span_of container inner later = record { to = container_end inner; is_loose = false; list_to = 0; is_last = false }
+span_of container inner later = record { to = container_end container inner; is_loose = false; list_to = 0; is_last = false }
 
 -- the spans of the containers among nodes and in them, in the order in which they begin
 abbrev pub spans : Nodes → List Span

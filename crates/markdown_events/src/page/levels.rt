@@ -4,8 +4,10 @@ ghost use Rattle.std.specs.Prelude.{◌≡◌, ℕ, None, false, true};
 ghost use Rattle.markdown_blocks.specs.events.Events.{seen_leaf};
 ghost use Rattle.markdown_blocks.specs.blocks.Pages.{is_blank_kind};
 ghost use Rattle.markdown_blocks.specs.lists.Lists.{Nodes, nothing, leaf_then, container_then};
-ghost use Rattle.markdown_events.specs.page.Levels.{content_of, goes_on, is_followed, level_of, with_block};
-ghost use Rattle.markdown_events.specs.page.Spans.{front_list, is_parted, list_with, span_of};
+ghost use Rattle.markdown_events.specs.page.Levels.{content_of, ended_at, goes_on, is_followed};
+ghost use Rattle.markdown_events.specs.page.Levels.{level_of, with_block};
+ghost use Rattle.markdown_events.specs.page.Spans.{end_of, front_list, is_parted, list_with};
+ghost use Rattle.markdown_events.specs.page.Spans.{span_of};
 
 use crate::page::spans::Span;
 use markdown_blocks::blocks::BlockKind;
@@ -35,8 +37,11 @@ pub(crate) struct LastBlock {
 /// All that stands in a container.
 #[derive(Clone, Copy)]
 pub(crate) struct ContainerContent {
-    /// How many bytes of the page stand before what follows the container.
+    /// How many bytes of the page stand before what follows the last of its blocks that is not
+    /// blank.
     pub(crate) to: usize,
+    /// How many stand before what follows the last of its lines, blank or not.
+    pub(crate) lines_to: usize,
     /// Whether a blank line stands between two of the blocks.
     pub(crate) is_parted: bool,
     /// Whether they end with a blank line.
@@ -48,6 +53,8 @@ pub(crate) struct ContainerContent {
 pub(crate) struct Level {
     // How many bytes of the page stand before the first of them, blank lines too.
     offset: usize,
+    // How many stand before what follows the last of them, blank lines too; of none, 0.
+    lines_to: usize,
     // The last of them that is not blank.
     last: Option<LastBlock>,
     // Whether a blank line stands between two of them.
@@ -59,7 +66,7 @@ pub(crate) struct Level {
     list: Option<ItemList>,
 }
 
-const _: () = prove!(size_of::<Level>() <= 64);
+const _: () = prove!(size_of::<Level>() <= 72);
 
 impl Level {
     /// No blocks.
@@ -68,6 +75,7 @@ impl Level {
     {
         Level {
             offset: 0,
+            lines_to: 0,
             last: None,
             is_parted: false,
             begins_blank: false,
@@ -83,12 +91,14 @@ impl Level {
         ensures { (later : Nodes) → self.old ≡ level_of later
             → self.new ≡ level_of (leaf_then (seen_leaf block.entry) later) }
     {
+        let to = block.start + block.bytes;
+        self.end_at(to);
         if is_blank(block.kind) {
             self.add_blank_line(block.offset);
             return;
         }
         let last = LastBlock {
-            to: block.start + block.bytes,
+            to,
             is_blank: self.begins_blank,
         };
         self.add_block(block.offset, last);
@@ -105,12 +115,14 @@ impl Level {
             → result ≡ level_of (container_then container offset inner later) }
     {
         let block = LastBlock {
-            to: content.to,
+            to: content.end_in(container),
             is_blank: self.is_followed(container, content),
         };
         let is_alike = goes_on(container, self.list);
         let list = self.list_begun(container, content);
-        self.with_block(offset, block, is_alike, list)
+        let mut later = self;
+        later.end_at(content.lines_to);
+        later.with_block(offset, block, is_alike, list)
     }
 
     /// What the container spans in which these stand, before the blocks.
@@ -118,15 +130,16 @@ impl Level {
         ensures { (inner later : Nodes) → content ≡ content_of inner → self ≡ level_of later
             → result ≡ span_of container inner later }
     {
+        let to = content.end_in(container);
         match self.list_begun(container, content) {
             Some(list) => Span {
-                to: content.to,
+                to,
                 is_loose: list.is_loose,
                 list_to: list.to,
                 is_last: !goes_on(container, self.list),
             },
             None => Span {
-                to: content.to,
+                to,
                 is_loose: false,
                 list_to: 0,
                 is_last: false,
@@ -144,6 +157,7 @@ impl Level {
         });
         ContainerContent {
             to: last.to,
+            lines_to: self.lines_to,
             is_parted: self.is_parted(),
             ends_blank: last.is_blank,
         }
@@ -177,6 +191,15 @@ impl Level {
                 Some(list_with(item, content, is_followed, self.list))
             }
             _ => None,
+        }
+    }
+
+    // A block ends here, blank or not, before the blocks.
+    fn end_at(&mut self, to: usize)
+        ensures { self.new ≡ ended_at to self.old }
+    {
+        if !(self.begins_blank || self.last.is_some()) {
+            self.lines_to = to;
         }
     }
 
@@ -222,11 +245,24 @@ impl Level {
         let is_parted = self.last.is_some() && block.is_blank && !is_alike;
         Level {
             offset,
+            lines_to: self.lines_to,
             last: Some(self.last.unwrap_or(block)),
             is_parted: is_parted || self.is_parted,
             begins_blank: false,
             begins_blank_twice: false,
             list,
+        }
+    }
+}
+
+impl ContainerContent {
+    // How many bytes of the page stand before what follows the container in which it stands.
+    fn end_in(self, container: Container) -> usize
+        ensures { result ≡ end_of container self.lines_to self.to }
+    {
+        match container {
+            Container::Quote => self.lines_to,
+            _ => self.to,
         }
     }
 }
