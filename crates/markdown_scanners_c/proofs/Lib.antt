@@ -12,6 +12,7 @@ pub mod NoSpaces
 pub mod OpenLemmas
 pub mod PageTexts
 pub mod Parts
+pub mod RecordLemmas
 pub mod Rows
 pub mod SameKept
 pub mod Sides

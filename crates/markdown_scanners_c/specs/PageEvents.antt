@@ -1,5 +1,5 @@
 -- What C callers get of the events of a page.
-use Rattle.std.specs.Prelude.{ℕ, ◌≡◌, ◌≤◌, ◌<◌, ◌++◌, ◌⊎◌, List, drop, length}
+use Rattle.std.specs.Prelude.{ℕ, ◌≡◌, ◌≤◌, ◌<◌, ◌++◌, ◌⊎◌, ◌+◌, ◌*◌, List, drop, length}
 use Rattle.std.specs.Str.{IsUtf8, IsValidUpTo}
 use Rattle.markdown_events.specs.InlineEvents.{RangedEvent}
 use Rattle.markdown_events.specs.page.PageEvents.{ArePageEvents}
@@ -8,6 +8,10 @@ use Rattle.markdown_scanners_c.specs.Extensions.{AreBuilt, extensions_of}
 use Rattle.markdown_scanners_c.specs.Status.{ok, too_short, bad_kind, not_utf8, no_memory}
 use Rattle.markdown_scanners_c.specs.declared.event_records.PageEvent.{PageEvent}
 use Rattle.markdown_scanners_c.specs.declared.page_events.EventCount.{EventCount}
+
+-- There are no more events than 13 for each byte of the page, and 200000, as of `EventsFit`; also no more are needed where there is less room.
+abbrev pub HasFewEvents : List ℕ → EventCount → Type 0
+HasFewEvents page returned = returned.count ≤ 13 * length page + 200000
 
 -- a status, and no event
 abbrev pub IsNoEvent : ℕ → EventCount → Type 0

@@ -4,8 +4,9 @@ ghost use Rattle.std.specs.Str.{IsUtf8};
 ghost use Rattle.markdown_events.specs.InlineEvents.{RangedEvent};
 ghost use Rattle.markdown_events.specs.page.Given.{Gives};
 ghost use Rattle.markdown_events.specs.page.PageEvents.{ArePageEvents};
+ghost use Rattle.markdown_events.specs.page.Sizes.{EventsFit};
 ghost use Rattle.markdown_scanners_c.specs.EventRecords.{records_from, texts_of};
-ghost use Rattle.markdown_scanners_c.specs.PageEvents.{AreBothWritten, AreEventsReturned};
+ghost use Rattle.markdown_scanners_c.specs.PageEvents.{AreBothWritten, AreEventsReturned, HasFewEvents};
 ghost use Rattle.markdown_scanners_c.specs.Extensions.{extensions_of};
 ghost use Rattle.markdown_scanners_c.specs.Status.{not_utf8, ok, too_short};
 
@@ -35,6 +36,7 @@ pub extern "C" fn mds_events(
 ) -> EventCount
     ensures events { AreEventsReturned text.now extensions
         events.old events.new texts.old texts.new result }
+    ensures few { HasFewEvents text.now result }
     ensures utf8 { result.status ≡ ok → IsUtf8 (take result.length texts.new) }
 {
     if !are_built(extensions) {
@@ -79,7 +81,7 @@ fn made_events(
     extensions: u32,
 ) -> Result<(Vec<PageEvent>, String), AllocError>
     ensures { IfOk result (λ made. (all : List RangedEvent)
-        × ArePageEvents page.now (extensions_of extensions) all
+        × ArePageEvents page.now (extensions_of extensions) all × EventsFit page.now all
         × (made.0.items ≡ records_from 0 all) × (string_bytes made.1 ≡ texts_of all)) }
 {
     events_left(

@@ -1031,9 +1031,9 @@ struct mds_events {
  * the page is read as it is.
  *
  * Where one of the buffers is too short both are left as they were, MDS_TOO_SHORT, and the same call with buffers of `count` events
- * and `length` bytes makes them anew, and is MDS_OK. How long texts are at most is not known, as of mds_html. An event for each eight
- * bytes of the text, and as many bytes as the text has, and 64 of each, are enough for most pages. fillaqut_parser.h has a handle that
- * keeps both buffers.
+ * and `length` bytes makes them anew, and is MDS_OK. `count` is at most 13 for each byte of the page, and 200,000; no such number is known of
+ * the length of texts. An event for each eight bytes of the text, and as many bytes as the text has, and 64 of each, are enough for most
+ * pages. fillaqut_parser.h has a handle that keeps both buffers.
  *
  * MDS_BAD_KIND as of mds_html. A page that is not UTF-8 is refused, MDS_NOT_UTF8, and `length` is the offset of its first byte that is wrong:
  * the ranges of a text that is read in its place would not be those of the page. Memory is asked for as by mds_html, with the events and
