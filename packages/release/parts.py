@@ -145,7 +145,7 @@ class Making:
     def sources(self):
         """The files of the tree that the release is made of, with their bytes."""
         folders = [*SOURCES, *[f"crates/{name}/src" for name in components.ours()]]
-        left = re.compile(r"/(?:test|totals|lacks)$|/tests/(?!\w+\.rs$)|\.png$")
+        left = re.compile(r"/(?:test|totals|missing)$|/tests/(?!\w+\.rs$)|\.png$")
         names = [name for name in self.made_files if name.startswith(tuple(folders)) and not left.search(name)]
         return {name: (self.tree / name).read_bytes() for name in names}
 

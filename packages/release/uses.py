@@ -13,7 +13,7 @@ ASKED = "*a* <b> [c](javascript:d)\n"
 PRINTED = '<p><em>a</em> &lt;b&gt; <a href="" rel="nofollow noopener">c</a></p>\n'
 WINE = "/usr/lib/wine/wine64"
 # Prints what is not here to build the crate with.
-LACKS = Path(__file__).resolve().parents[1] / "rust/lacks"
+MISSING = Path(__file__).resolve().parents[1] / "rust/missing"
 # What makes and runs a program for each platform, as its archive is called; without a row it is not tried.
 MACHINES = {
     "aarch64-linux": (["aarch64-linux-gnu-gcc"], ["qemu-aarch64", "-L", "/usr/aarch64-linux-gnu"]),
@@ -107,8 +107,8 @@ def installed(package, scratch):
 def crate(archive, scratch):
     """A program that depends on the crate, which makes the library of the file of C that it has."""
     need("cc", "ar")
-    if lacks := subprocess.run([LACKS], capture_output=True, text=True, check=True).stdout.strip():
-        raise NotTried(f"there is no {lacks}")
+    if missing := subprocess.run([MISSING], capture_output=True, text=True, check=True).stdout.strip():
+        raise NotTried(f"there is no {missing}")
     user = scratch / "user"
     (user / "src").mkdir(parents=True)
     (user / "Cargo.toml").write_text(CARGO.format(unpacked(archive, scratch)))

@@ -189,9 +189,9 @@ END
 
 # The crate, and its example, with the archive that is packed.
 check_packed_rust() {
-    local lacks
-    lacks=$(packages/rust/lacks)
-    [ -z "$lacks" ] || { leave packed_rust "$lacks"; return; }
+    local missing
+    missing=$(packages/rust/missing)
+    [ -z "$missing" ] || { leave packed_rust "$missing"; return; }
     (
         cd "$1/rust" || exit
         unset FILLAQUT_LIB_DIR PKG_CONFIG_PATH
