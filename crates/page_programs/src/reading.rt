@@ -89,8 +89,9 @@ impl Unread {
         self.text.truncate(left);
     }
 }
+
 /// The bytes of the input, up to its end.
-pub fn read_page<R: StepReader>(alloc: Global, input: &mut R) -> Result<Vec<u8>, Stop>
+pub fn read_to_end<R: StepReader>(alloc: Global, input: &mut R) -> Result<Vec<u8>, Stop>
     ensures page { IfOk result (λ page.
         IfSome (R.remaining input.old) (λ bytes. page.items ≡ bytes)) }
     ensures read { IfOk result (λ _. IsAtEnd (R.remaining input.new)) }

@@ -7,7 +7,7 @@ ghost use Rattle.page_programs.specs.declared.stops.Refusal.{Refusal};
 ghost use Rattle.page_programs.specs.Cuts.{RefusesAllOf};
 ghost use Rattle.page_programs.specs.Texts.{IsReadAs, IsRefused};
 
-use crate::reading::read_page;
+use crate::reading::read_to_end;
 use crate::stops::Stop;
 use program_faults::StepReader;
 use std::alloc::Global;
@@ -46,6 +46,6 @@ pub fn read_text<R: StepReader>(alloc: Global, input: &mut R) -> Result<String, 
     ensures failed { IfErr result (λ stop. (why : Reason) → stop ≡ Stop.Read why →
         HasFailed R.reads why input.new ⊎ AreReads R.reads 281474976710655 input.old input.new) }
 {
-    let bytes = read_page(alloc, input)?;
+    let bytes = read_to_end(alloc, input)?;
     text_of(alloc, bytes, false)
 }

@@ -3,7 +3,7 @@ ghost use Rattle.std.specs.Prelude.{◌≡◌, Bool, ℕ, List, IfOk, string_byt
 
 use crate::came::is_reported;
 use crate::pages::DoesPages;
-use crate::reading::read_page;
+use crate::reading::read_to_end;
 use crate::stops::Stop;
 use crate::streams::Outputs;
 use crate::texts::text_of;
@@ -61,7 +61,7 @@ impl<P: PrintsWholePages, F, W: StepWriter, V> DoesPages<F, W, V> for Whole<P> {
         input: &mut R,
         outputs: &mut Outputs<F, W, V>,
     ) -> Result<bool, Stop> {
-        let bytes = read_page(alloc, input)?;
+        let bytes = read_to_end(alloc, input)?;
         let page = text_of(alloc, bytes, self.printer.mends_pages())?;
         let text = self.printer.text_of_page(alloc, name, page.as_str())?;
         write_text(&mut outputs.output, text.as_str())?;

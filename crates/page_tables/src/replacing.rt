@@ -5,7 +5,7 @@ ghost use Rattle.page_programs.specs.declared.stops.Refusal.{Refusal};
 ghost use Rattle.page_tables.specs.Files.{AreOthersKept, HeldPage, HoldsNow, IsUnreplaced, WasRefused};
 
 use crate::files::ReplacesFiles;
-use page_programs::reading::read_page;
+use page_programs::reading::read_to_end;
 use page_programs::stops::{Refusal, Stop};
 use program_faults::{Reason, write_bytes};
 use std::alloc::Global;
@@ -95,7 +95,7 @@ fn open_same<F: ReplacesFiles>(
         Ok(file) => file,
         Err(reason) => return Err(reason),
     };
-    match read_page(alloc, &mut file) {
+    match read_to_end(alloc, &mut file) {
         Ok(held) => {
             if *held != *page {
                 return Ok(None);

@@ -1,7 +1,7 @@
 use Rattle.std.proofs.Common.{ℕ, ◌+◌, ◌≡◌}
 use Rattle.std.specs.Io.KnownBytes.{Consumes}
 use Rattle.program_faults.specs.Steps.{AreReads}
-use Rattle.page_programs.proofs.reading.read_page.Given as goal
+use Rattle.page_programs.proofs.reading.read_to_end.Given as goal
 
 -- the text is what was read so far, by the reads that are no longer left
 abbrev pub invariant-loop-unread : goal.invariant-loop-unread

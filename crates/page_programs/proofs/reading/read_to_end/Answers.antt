@@ -3,7 +3,7 @@ use Rattle.std.specs.Io.KnownBytes.{Consumes}
 use Rattle.program_faults.specs.Steps.{no_read}
 use Rattle.page_programs.proofs.ReadingLemmas.{consumes-none, consumes-more, reads_on, reads_made, reads_all}
 use Rattle.page_programs.proofs.ReadingLemmas.{whole_input, by_err}
-use Rattle.page_programs.proofs.reading.read_page.Goals as goal
+use Rattle.page_programs.proofs.reading.read_to_end.Goals as goal
 
 pub loop-unread-init : goal.loop-unread-init
 loop-unread-init g c = record {
