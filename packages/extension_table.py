@@ -26,6 +26,11 @@ class Extension:
         return self.name.replace("-", "_")
 
     @property
+    def is_github(self):
+        """Whether the program is asked for it by --gfm."""
+        return self.is_built and self.source.startswith("GitHub Flavored Markdown")
+
+    @property
     def short(self):
         return self.constant.removeprefix("MDS_")
 

@@ -1,8 +1,8 @@
-"""The constants of crates/*/src/help.rt: what --help prints, as crates/fillaqut/help has it, and the usage lines that the table makes."""
+"""The constants of crates/*/src/help.rt: what --help prints, as crates/fillaqut has it, and the usage lines that the table makes."""
 import re
 from dataclasses import dataclass
 
-from options_table import PROGRAM, TOP, usage_of
+from options_table import PROGRAM, TOP, usage_of, usage_text
 
 # Commands whose constants stand in the crate of another, with what their names begin with there.
 BESIDE = {"json": ("events", "JSON_")}
@@ -26,20 +26,29 @@ def meaning_of(literal):
     return re.sub(r"\\.", lambda escape: ESCAPES.get(escape[0], escape[0]), literal, flags=re.S)
 
 
-def literal_of(text, is_help):
+def literal_of(text):
+    """Its first line stands on a line of its own."""
     escaped = text.replace("\\", "\\\\").replace('"', '\\"')
-    return f"\\\n{escaped}" if is_help else escaped
+    return escaped if escaped.startswith("\n") else f"\\\n{escaped}"
+
+
+def own_constants(commands, top=TOP):
+    """Those of the program itself."""
+    path = f"crates/{PROGRAM}/src/help.rt"
+    called, _, alone = usage_of(commands[0])
+    names = "|".join(command.name for command in commands[1:])
+    yield Constant(path, "HELP", (top / f"crates/{PROGRAM}/stdout").read_text())
+    yield Constant(path, "USAGE", f"usage: {called.replace('COMMAND', names)}\n       {alone}\n")
 
 
 def constants(commands, top=TOP):
-    """Those of all commands."""
+    """Those of the program, and of all commands."""
+    yield from own_constants(commands, top)
     for command in [command for command in commands if command.name != PROGRAM]:
         crate, prefix = BESIDE.get(command.name, (command.name, ""))
         path = f"crates/page_{crate}/src/help.rt"
-        first, *others = usage_of(command)
-        usage = "".join([f"\nusage: {first}\n", *(f"       {line}\n" for line in others)])
         yield Constant(path, f"{prefix}HELP", (top / f"crates/fillaqut/help/{command.name}.txt").read_text())
-        yield Constant(path, f"{prefix}USAGE", usage)
+        yield Constant(path, f"{prefix}USAGE", f"\n{usage_text(command)}")
 
 
 def faults(commands, top=TOP):
@@ -49,7 +58,7 @@ def faults(commands, top=TOP):
         if not found:
             yield f"{constant.path}: no text constant {constant.name}"
         elif meaning_of(found[1]) != constant.text:
-            yield f"{constant.path}: {constant.name} is not as the table and crates/fillaqut/help have it: run packages/program/write --write"
+            yield f"{constant.path}: {constant.name} is not as the table and crates/fillaqut have it: run packages/program/write --write"
 
 
 def write(commands, top=TOP):
@@ -58,5 +67,4 @@ def write(commands, top=TOP):
         source = (top / constant.path).read_text()
         found = constant.found(source)
         if found and meaning_of(found[1]) != constant.text:
-            literal = literal_of(constant.text, constant.name.endswith("HELP"))
-            (top / constant.path).write_text(source[: found.start(1)] + literal + source[found.end(1) :])
+            (top / constant.path).write_text(source[: found.start(1)] + literal_of(constant.text) + source[found.end(1) :])

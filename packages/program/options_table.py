@@ -10,6 +10,8 @@ from extension_table import extensions
 TOP = Path(__file__).resolve().parents[2]
 TABLE = "packages/program/options.tsv"
 PROGRAM, EACH = "fillaqut", "*"
+# The option that asks for an extension.
+ASKS = "-e"
 COLUMNS = 6
 HOW = ("", "..", "|", "alone")
 
@@ -73,6 +75,17 @@ class Command:
     def files(self):
         return self.rows_of(r"\.")
 
+    @property
+    def extensions(self):
+        """What each extension is that the command takes, by the name; its own rows come before those of each command."""
+        said = {}
+        for row in self.rows_of("="):
+            said.setdefault(row.word.removeprefix("="), row.sentence)
+        taken = [name for row in self.options if row.word == ASKS for name in row.values]
+        if unsaid := [name for name in taken if name not in said]:
+            raise BadTable(f"{TABLE}: no row says what {unsaid[0]} is of {self.name}")
+        return {name: said[name] for name in taken}
+
 
 def words_of(cell):
     """The words of a cell of values, where @extensions and @built stand for the names of extensions, and @folder for no word."""
@@ -81,14 +94,21 @@ def words_of(cell):
     return [] if cell == "@folder" else cell.split()
 
 
+def github():
+    """The options that ask for the extensions of GitHub Flavored Markdown."""
+    return " ".join(f"{ASKS} {it.name}" for it in extensions() if it.is_github)
+
+
 def row_of(number, line):
     cells = line.split("\t")
     if len(cells) != COLUMNS or not cells[0] or cells[3] not in HOW or not re.fullmatch(r"[A-Z].*\.", cells[5]):
         raise BadTable(f"{TABLE}:{number}: no row of {COLUMNS} cells with a command and a sentence")
     command, word, value, how, values, sentence = cells
-    if word and not re.match(r"-|\d$|\$ |\.|[A-Z]+$", word):
+    if word and not re.match(r"-|\d$|\$ |\.|=|[A-Z]+$", word):
         raise BadTable(f"{TABLE}:{number}: {word} is nothing that a row is of")
-    return Row(command, word, value, how, words_of(values), sentence, values == "@folder")
+    if word.startswith("=") and word[1:] not in words_of("@extensions"):
+        raise BadTable(f"{TABLE}:{number}: there is no extension {word[1:]}")
+    return Row(command, word, value, how, words_of(values), sentence.replace("@github", github()), values == "@folder")
 
 
 def rows_of_table(text):
@@ -131,6 +151,12 @@ def calls_of(command):
         else:
             found.append(f"[{row.shown}]{row.how}")
     return found
+
+
+def usage_text(command):
+    """The usage lines, with the word usage, as --help prints them."""
+    first, *others = usage_of(command)
+    return "".join([f"usage: {first}\n", *(f"       {line}\n" for line in others)])
 
 
 def usage_of(command):

@@ -70,9 +70,9 @@ or more files are named, an object of one member, page, has the name of each bef
     strikethrough     is taken, and changes no block
     tasks             is taken, and changes no block
     definition-lists  a paragraph is a term where a line that begins with : follows it, at once or
-                      after one blank line. That line begins a definition of it: a container of
-                      what follows on that line, and of the lines that are indented as that is.
-                      Further definitions of the term may follow
+                      after one blank line. That line begins a definition of it: a container of what
+                      follows on that line, and of the lines that are indented as that is. Further
+                      definitions of the term may follow
     wikilinks         is taken, and changes no block
 
   --gfm               the same as -e tables -e strikethrough -e tasks
