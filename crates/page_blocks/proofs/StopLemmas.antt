@@ -1,5 +1,5 @@
 -- What comes of a page of blocks at which it stops.
-use Rattle.std.proofs.Common.{ℕ, Bool, ◌≡◌, ◌≢◌, inl, inr, List, Option, Result, Ok, Err, refl, sym, subst, ◌∙◌}
+use Rattle.std.proofs.Common.{ℕ, Bool, ◌≡◌, ◌≢◌, inl, inr, List, Option, Result, Ok, Err, refl, sym, subst}
 use Rattle.std.specs.Result.{IsErrAnd}
 use Rattle.markdown_values.specs.declared.values.extensions.Extensions.{Extensions}
 use Rattle.program_faults.specs.Steps.{no_read}

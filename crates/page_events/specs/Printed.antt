@@ -1,5 +1,5 @@
 -- What the program prints of a page: a line for each of its events, in words or as JSON.
-use Rattle.std.specs.Prelude.{ℕ, false, ◌≡◌, List, Option}
+use Rattle.std.specs.Prelude.{ℕ, ◌≡◌, List}
 use Rattle.std.specs.List.{flat_map}
 use Rattle.std.specs.Str.{IsUtf8}
 use Rattle.markdown_events.specs.InlineEvents.{RangedEvent}

@@ -1,5 +1,5 @@
 -- What the program prints of a page: a line for each of its blocks that has inlines, and then one for each of these.
-use Rattle.std.specs.Prelude.{ℕ, false, ◌+◌, ◌≡◌, ◌⊎◌, List, [], ◌∷◌, ◌++◌, length, take, drop, Option, MatchBool}
+use Rattle.std.specs.Prelude.{ℕ, ◌+◌, ◌≡◌, ◌⊎◌, List, [], ◌∷◌, ◌++◌, length, take, drop, Option, MatchBool}
 use Rattle.std.specs.List.{concat, flat_map}
 use Rattle.std.specs.Option.{is_some}
 use Rattle.std.specs.Str.{IsUtf8}
