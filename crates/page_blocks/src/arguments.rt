@@ -2,7 +2,7 @@
 ghost use Rattle.std.specs.Prelude.{◌≡◌};
 ghost use Rattle.page_blocks.specs.Arguments.{form_of};
 
-use page_programs::arguments::has_option;
+use page_programs::asked::Flags;
 
 /// How a block is printed.
 #[derive(Clone, Copy)]
@@ -13,11 +13,11 @@ pub(crate) enum Form {
     Json,
 }
 
-/// How the arguments ask for blocks to be printed.
-pub(crate) fn form_of(arguments: &[&str]) -> Form
-    ensures { result ≡ form_of arguments.now }
+/// How these options ask for blocks to be printed.
+pub(crate) fn form_of(flags: Flags) -> Form
+    ensures { result ≡ form_of flags }
 {
-    if has_option(arguments, "--json") {
+    if flags.json {
         return Form::Json;
     }
     Form::Words

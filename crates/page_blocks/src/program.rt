@@ -4,6 +4,7 @@ ghost use Rattle.std.specs.Io.KnownBytes.{IsAtEnd};
 ghost use Rattle.program_faults.specs.Steps.{AreReads, CantWrite, HasEnded, HasFailed};
 ghost use Rattle.program_faults.specs.declared.reasons.Reason.{Reason};
 ghost use Rattle.page_programs.specs.Answers.{texts_of};
+ghost use Rattle.page_programs.specs.Asked.{flags_of};
 ghost use Rattle.page_programs.specs.Cuts.{PrintsAllOf, PrintsPart};
 ghost use Rattle.page_programs.specs.Extensions.{extensions_of};
 ghost use Rattle.page_programs.specs.Runs.{IsRun};
@@ -20,7 +21,8 @@ use crate::help::{HELP, USAGE, VERSION};
 use crate::printing::make_title;
 use markdown_values::values::Extensions;
 use page_programs::arguments::Options;
-use page_programs::extensions::{EXTENSION_OPTIONS, extensions_of};
+use page_programs::asked::asked_options;
+use page_programs::extensions::EXTENSION_OPTIONS;
 use page_programs::files::OpensFiles;
 use page_programs::pages::DoesPages;
 use page_programs::program::{Command, run_command};
@@ -48,7 +50,8 @@ where
     F::File: StepReader,
     W: StepWriter,
     V: StepWriter,
-    ensures { IsRun (PrintsBlocks (extensions_of arguments.now) (form_of arguments.now) W.contents)
+    ensures { IsRun (PrintsBlocks (extensions_of arguments.now) (form_of (flags_of arguments.now))
+        W.contents)
         R.remaining R.reads F.opens F.holds F.File.remaining F.File.reads W.writes V.writes W.contents
         (texts_of USAGE.now HELP.now VERSION.now) own_options false false
         arguments.now result streams.old streams.new }
@@ -62,9 +65,10 @@ where
             extensions: EXTENSION_OPTIONS,
         },
     };
+    let asked = asked_options(arguments);
     let blocks = Blocks {
-        form: form_of(arguments),
-        extensions: extensions_of(arguments),
+        form: form_of(asked.flags),
+        extensions: asked.extensions,
     };
     run_command(alloc, says, &blocks, arguments, streams)
 }

@@ -11,7 +11,8 @@ use crate::help::{VERSION, help_of, usage_of};
 use crate::page::{EventForm, lines_of_page};
 use markdown_values::values::Extensions;
 use page_programs::arguments::Options;
-use page_programs::extensions::{EVENT_OPTIONS, extensions_of};
+use page_programs::asked::asked_options;
+use page_programs::extensions::EVENT_OPTIONS;
 use page_programs::files::OpensFiles;
 use page_programs::program::{Command, run_command};
 use page_programs::streams::Streams;
@@ -56,7 +57,7 @@ where
     let events = Whole {
         printer: Events {
             form,
-            setting: extensions_of(arguments),
+            setting: asked_options(arguments).extensions,
         },
     };
     run_command(alloc, says, &events, arguments, streams)

@@ -3,8 +3,7 @@ ghost use Rattle.std.specs.Prelude.{◌≡◌};
 ghost use Rattle.page_html.specs.Asked.{asked_of, form_of, is_html};
 
 use markdown_values::values::Extensions;
-use page_programs::arguments::has_option;
-use page_programs::extensions::extensions_of;
+use page_programs::asked::{Flags, asked_options};
 
 /// What is printed of a page.
 #[derive(Clone, Copy)]
@@ -35,22 +34,23 @@ pub struct Asked {
 pub(crate) fn asked_of(arguments: &[&str]) -> Asked
     ensures { result ≡ asked_of arguments.now }
 {
+    let asked = asked_options(arguments);
     Asked {
-        form: form_of(arguments),
-        safe: !has_option(arguments, "--unsafe"),
-        strict: has_option(arguments, "--strict"),
-        setting: extensions_of(arguments),
+        form: form_of(asked.flags),
+        safe: !asked.flags.unsafe_html,
+        strict: asked.flags.strict,
+        setting: asked.extensions,
     }
 }
 
 // In which form a page is printed.
-fn form_of(arguments: &[&str]) -> Form
-    ensures { result ≡ form_of arguments.now }
+fn form_of(flags: Flags) -> Form
+    ensures { result ≡ form_of flags }
 {
-    if has_option(arguments, "--to events") {
+    if flags.to_events {
         return Form::Events;
     }
-    if has_option(arguments, "--to json") {
+    if flags.to_json {
         return Form::Json;
     }
     Form::Html

@@ -10,7 +10,8 @@ use crate::help::{HELP, USAGE, VERSION};
 use crate::page::lines_of_page;
 use markdown_values::values::Extensions;
 use page_programs::arguments::Options;
-use page_programs::extensions::{EXTENSION_OPTIONS, extensions_of};
+use page_programs::asked::asked_options;
+use page_programs::extensions::EXTENSION_OPTIONS;
 use page_programs::files::OpensFiles;
 use page_programs::program::{Command, run_command};
 use page_programs::streams::Streams;
@@ -51,7 +52,7 @@ where
     };
     let inlines = Whole {
         printer: Inlines {
-            asked: extensions_of(arguments),
+            asked: asked_options(arguments).extensions,
         },
     };
     run_command(alloc, says, &inlines, arguments, streams)

@@ -1,14 +1,11 @@
 //! The arguments of the command line.
 ghost use Rattle.std.specs.Prelude.{◌≡◌};
-ghost use Rattle.std.specs.Option.{option_map};
-ghost use Rattle.page_links.specs.arguments.Arguments.{form_of, is_check, root_of};
+ghost use Rattle.page_links.specs.arguments.Arguments.{form_of};
 
 use crate::printing::LinkForm;
-use page_programs::arguments::{Options, has_option, value_of};
+use page_programs::arguments::Options;
+use page_programs::asked::{Flags, ROOT};
 use page_programs::extensions::EVENT_OPTIONS;
-
-// The option that has a folder after it.
-const ROOT: &str = "--root ";
 
 /// The options of the program.
 pub(crate) const OPTIONS: Options = Options {
@@ -16,26 +13,12 @@ pub(crate) const OPTIONS: Options = Options {
     extensions: EVENT_OPTIONS,
 };
 
-/// The form that the arguments ask for.
-pub(crate) fn form_of(arguments: &[&str]) -> LinkForm
-    ensures { result ≡ form_of arguments.now }
+/// The form that these options ask for.
+pub(crate) fn form_of(flags: Flags) -> LinkForm
+    ensures { result ≡ form_of flags }
 {
-    if has_option(arguments, "--json") {
+    if flags.json {
         return LinkForm::Json;
     }
     LinkForm::Words
-}
-
-/// Whether pages are checked.
-pub(crate) fn is_check(arguments: &[&str]) -> bool
-    ensures { result ≡ is_check arguments.now }
-{
-    has_option(arguments, "--check")
-}
-
-/// The folder from which destinations lead that begin with a slash, if the arguments give one.
-pub(crate) fn root_of<'a>(arguments: &[&'a str]) -> Option<&'a str>
-    ensures { option_map (λ root. root.now) result ≡ root_of arguments.now }
-{
-    value_of(arguments, ROOT)
 }

@@ -1,17 +1,18 @@
 //! What the program does with its arguments, its input and its output.
 ghost use Rattle.std.specs.Prelude.{false};
 ghost use Rattle.page_programs.specs.Answers.{texts_of};
+ghost use Rattle.page_programs.specs.Asked.{flags_of, root_of};
 ghost use Rattle.page_programs.specs.Extensions.{extensions_of};
 ghost use Rattle.page_programs.specs.Runs.{IsRun};
 ghost use Rattle.page_programs.specs.Wholes.{PrintsWhole};
-ghost use Rattle.page_links.specs.arguments.Arguments.{form_of, is_check, own_options, root_of};
+ghost use Rattle.page_links.specs.arguments.Arguments.{form_of, own_options};
 ghost use Rattle.page_links.specs.page.Printed.{IsPrinted};
 
-use crate::arguments::{OPTIONS, form_of, is_check, root_of};
+use crate::arguments::{OPTIONS, form_of};
 use crate::checks::{Checks, FindsFiles};
 use crate::help::{HELP, USAGE, VERSION};
 use crate::page::{check_of_page, list_of_page, name_in};
-use page_programs::extensions::extensions_of;
+use page_programs::asked::asked_options;
 use page_programs::files::OpensFiles;
 use page_programs::program::{Command, run_command};
 use page_programs::streams::Streams;
@@ -38,11 +39,11 @@ where
     F::File: StepReader,
     W: StepWriter,
     V: StepWriter,
-    ensures { IsRun (PrintsWhole false (IsPrinted (is_check arguments.now) (L.reads finder.now)
+    ensures { IsRun (PrintsWhole false (IsPrinted (flags_of arguments.now).check (L.reads finder.now)
         (extensions_of arguments.now) (L.finds finder.now) (root_of arguments.now)
-        (form_of arguments.now)) (is_check arguments.now) W.contents)
+        (form_of (flags_of arguments.now))) (flags_of arguments.now).check W.contents)
         R.remaining R.reads F.opens F.holds F.File.remaining F.File.reads W.writes V.writes W.contents
-        (texts_of USAGE.now HELP.now VERSION.now) own_options (is_check arguments.now) false
+        (texts_of USAGE.now HELP.now VERSION.now) own_options (flags_of arguments.now).check false
         arguments.now result streams.old streams.new }
 {
     let says = Command {
@@ -51,15 +52,16 @@ where
         version: VERSION,
         options: OPTIONS,
     };
+    let asked = asked_options(arguments);
     let links = Whole {
         printer: Links {
             checks: Checks {
                 finder,
-                root: root_of(arguments),
-                form: form_of(arguments),
-                setting: extensions_of(arguments),
+                root: asked.root,
+                form: form_of(asked.flags),
+                setting: asked.extensions,
             },
-            is_check: is_check(arguments),
+            is_check: asked.flags.check,
         },
     };
     run_command(alloc, says, &links, arguments, streams)

@@ -7,3 +7,4 @@ mod WholeLemmas
 pub mod ReadingLemmas
 mod StopLemmas
 mod ArgumentLemmas
+mod AskedLemmas

@@ -1,6 +1,7 @@
 -- The extensions that the arguments of the command line ask for. An option and its value are one word.
 use Rattle.std.specs.Prelude.{ℕ, Bool, ◌||◌, List, [], ◌∷◌, codes}
 use Rattle.std.specs.Borrow.{Bor}
+use Rattle.std.specs.Str.{bytes_eq}
 use Rattle.markdown_values.specs.declared.values.extensions.Extensions.{Extensions}
 use Rattle.page_programs.specs.Arguments.{asks}
 
@@ -46,6 +47,27 @@ extensions_of arguments = record {
   tasks = is_on tasks arguments;
   definition_lists = asks definition_lists arguments;
   wikilinks = asks wikilinks arguments;
+}
+
+-- those that a word asks for
+abbrev pub extensions_by : List ℕ → Extensions
+extensions_by word = record {
+  tables = bytes_eq word gfm || bytes_eq word tables;
+  footnotes = bytes_eq word footnotes;
+  strikethrough = bytes_eq word gfm || bytes_eq word strikethrough;
+  tasks = bytes_eq word gfm || bytes_eq word tasks;
+  definition_lists = bytes_eq word definition_lists;
+  wikilinks = bytes_eq word wikilinks;
+}
+
+abbrev pub both : Extensions → Extensions → Extensions
+both some others = record {
+  tables = some.tables || others.tables;
+  footnotes = some.footnotes || others.footnotes;
+  strikethrough = some.strikethrough || others.strikethrough;
+  tasks = some.tasks || others.tasks;
+  definition_lists = some.definition_lists || others.definition_lists;
+  wikilinks = some.wikilinks || others.wikilinks;
 }
 
 -- end

@@ -1,5 +1,6 @@
 pub mod Answers
 pub mod Arguments
+pub mod Asked
 pub mod Came
 pub mod Cuts
 pub mod Extensions

@@ -1,8 +1,8 @@
 //! The arguments of the command line.
 ghost use Rattle.std.specs.Prelude.{◌≡◌, ◌++◌, IfOk, OnOk};
 ghost use Rattle.std.specs.Option.{option_map};
-ghost use Rattle.page_programs.specs.Arguments.{after, all_options, asks, is_named, is_option, is_known, is_this, operands, pages_of};
-ghost use Rattle.page_programs.specs.Arguments.{request_of, takes_any, texts, unknown_of, value_of};
+ghost use Rattle.page_programs.specs.Arguments.{after, all_options, is_named, is_option, is_known, is_this, operands, pages_of};
+ghost use Rattle.page_programs.specs.Arguments.{request_of, takes_any, texts, unknown_of};
 
 use std::alloc::{AllocError, Global};
 
@@ -57,36 +57,6 @@ pub fn parse_request(arguments: &[&str]) -> Request
         }
     }
     Request::Pages
-}
-
-/// Whether an option stands before the word `--`.
-pub fn has_option(arguments: &[&str], option: &str) -> bool
-    ensures { result ≡ asks option.now arguments.now }
-{
-    for word in arguments {
-        if *word == "--" {
-            return false;
-        }
-        if *word == option {
-            return true;
-        }
-    }
-    false
-}
-
-/// The value of an option that ends with a space, where that stands before the word `--`: the last
-/// one, where it has several.
-pub fn value_of<'a>(arguments: &[&'a str], option: &str) -> Option<&'a str>
-    ensures { option_map (λ value. value.now) result ≡ value_of option.now arguments.now }
-{
-    let mut value = None;
-    for word in arguments {
-        if *word == "--" {
-            return value;
-        }
-        value = after(word, option).or(value);
-    }
-    value
 }
 
 // What stands in a word after this.

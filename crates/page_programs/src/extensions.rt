@@ -1,8 +1,7 @@
-//! The extensions that the arguments of the command line ask for.
+//! The options that ask for extensions.
 ghost use Rattle.std.specs.Prelude.{◌≡◌};
-ghost use Rattle.page_programs.specs.Extensions.{extensions_of};
+ghost use Rattle.page_programs.specs.Extensions.{both, extensions_by};
 
-use crate::arguments::has_option;
 use markdown_values::values::Extensions;
 
 // packages/extensions
@@ -26,19 +25,19 @@ pub const EXTENSION_OPTIONS: &[&str] = &[
     "--gfm",
 ];
 
-/// The extensions that the arguments ask for: each by `-e` and its name, and those of GitHub Flavored
-/// Markdown by `--gfm`. An option and its value are one word, as `join_values` makes them.
-pub fn extensions_of(arguments: &[&str]) -> Extensions
-    ensures { result ≡ extensions_of arguments.now }
+/// These extensions, and those that a word asks for: one by `-e` and its name, and those of GitHub
+/// Flavored Markdown by `--gfm`. An option and its value are one word, as `join_values` makes them.
+pub(crate) fn with_extensions(asked: Extensions, word: &str) -> Extensions
+    ensures { result ≡ both (extensions_by word.now) asked }
 {
-    let gfm = has_option(arguments, "--gfm");
+    let gfm = word == "--gfm";
     Extensions {
-        tables: gfm || has_option(arguments, "-e tables"),
-        footnotes: has_option(arguments, "-e footnotes"),
-        strikethrough: gfm || has_option(arguments, "-e strikethrough"),
-        tasks: gfm || has_option(arguments, "-e tasks"),
-        definition_lists: has_option(arguments, "-e definition-lists"),
-        wikilinks: has_option(arguments, "-e wikilinks"),
+        tables: gfm || word == "-e tables" || asked.tables,
+        footnotes: word == "-e footnotes" || asked.footnotes,
+        strikethrough: gfm || word == "-e strikethrough" || asked.strikethrough,
+        tasks: gfm || word == "-e tasks" || asked.tasks,
+        definition_lists: word == "-e definition-lists" || asked.definition_lists,
+        wikilinks: word == "-e wikilinks" || asked.wikilinks,
     }
 }
 // end

@@ -2,6 +2,7 @@
 #![tactic(auto)]
 
 pub mod arguments;
+pub mod asked;
 pub mod came;
 pub mod extensions;
 pub mod files;

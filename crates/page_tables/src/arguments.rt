@@ -2,7 +2,7 @@
 ghost use Rattle.std.specs.Prelude.{◌≡◌};
 ghost use Rattle.page_tables.specs.Arguments.{is_check, task_for, task_of};
 
-use page_programs::arguments::has_option;
+use page_programs::asked::Flags;
 
 /// What is done with each page.
 #[derive(Clone, Copy)]
@@ -15,14 +15,14 @@ pub enum Task {
     Replace,
 }
 
-/// What the arguments ask for.
-pub(crate) fn task_of(arguments: &[&str]) -> Task
-    ensures { result ≡ task_of arguments.now }
+/// What these options ask for.
+pub(crate) fn task_of(flags: Flags) -> Task
+    ensures { result ≡ task_of flags }
 {
-    if has_option(arguments, "--check") {
+    if flags.check {
         return Task::Check;
     }
-    if has_option(arguments, "--write") {
+    if flags.write {
         return Task::Replace;
     }
     Task::Print

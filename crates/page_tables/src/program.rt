@@ -1,6 +1,7 @@
 //! What the program does with its arguments, its input, its files and its output.
 ghost use Rattle.std.specs.Prelude.{true};
 ghost use Rattle.page_programs.specs.Answers.{texts_of};
+ghost use Rattle.page_programs.specs.Asked.{flags_of};
 ghost use Rattle.page_programs.specs.Runs.{IsRun};
 ghost use Rattle.page_tables.specs.Arguments.{is_check, own_options, task_of};
 ghost use Rattle.page_tables.specs.Runs.{IsHandled};
@@ -10,6 +11,7 @@ use crate::files::ReplacesFiles;
 use crate::handling::Tables;
 use crate::help::{HELP, USAGE, VERSION};
 use page_programs::arguments::Options;
+use page_programs::asked::asked_options;
 use page_programs::program::{Command, run_command};
 use page_programs::streams::Streams;
 use program_faults::{StepReader, StepWriter};
@@ -34,10 +36,10 @@ where
     W: StepWriter,
     V: StepWriter,
     ensures { IsRun (IsHandled W.contents V.writes F.refuses F.File.reads F.NewFile.writes F.holds
-        F.is_beside (task_of arguments.now))
+        F.is_beside (task_of (flags_of arguments.now)))
         R.remaining R.reads F.opens F.holds F.File.remaining F.File.reads W.writes V.writes W.contents
-        (texts_of USAGE.now HELP.now VERSION.now) own_options (is_check (task_of arguments.now)) true
-        arguments.now result streams.old streams.new }
+        (texts_of USAGE.now HELP.now VERSION.now) own_options
+        (is_check (task_of (flags_of arguments.now))) true arguments.now result streams.old streams.new }
 {
     let says = Command {
         usage: USAGE,
@@ -49,7 +51,7 @@ where
         },
     };
     let tables = Tables {
-        task: task_of(arguments),
+        task: task_of(asked_options(arguments).flags),
     };
     run_command(alloc, says, &tables, arguments, streams)
 }

@@ -1,4 +1,4 @@
 use Rattle.page_inlines.proofs.program.run_program.Goals as goal
 
 pub returns : goal.returns
-returns g c = rw (← c.extensions_of.ensures) c.run_command.ensures
+returns g c = rw (← c.asked_options.ensures.extensions) c.run_command.ensures
