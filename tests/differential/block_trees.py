@@ -9,7 +9,8 @@ from xml.etree import ElementTree
 
 TOP = Path(__file__).resolve().parents[2]
 FILLAQUT = os.environ.get("FILLAQUT", str(TOP / "crates/fillaqut/out/fillaqut"))
-OURS = [FILLAQUT, "blocks", "-e", "tables"]
+PLAIN = [FILLAQUT, "blocks"]
+OURS = [*PLAIN, "-e", "tables"]
 # What is not UTF-8 they replace by U+FFFD: else their patterns end there.
 AS_XML = ["--validate-utf8", "--sourcepos", "-t", "xml"]
 CMARK = [os.environ.get("CMARK", "cmark"), *AS_XML]
@@ -107,9 +108,9 @@ def in_order(found):
     return sorted(found, key=lambda item: (item.first, item.depth, item.kind != "list"))
 
 
-def our_rows(page):
+def our_rows(page, program=OURS):
     """What fillaqut blocks prints of a page: of each line its numbers, the kind, and the words after it."""
-    rows = [row.split(b" ") for row in said_by(OURS, page).splitlines()]
+    rows = [row.split(b" ") for row in said_by(program, page).splitlines()]
     return [(int(first), int(last), int(depth), kind.decode(), more) for first, last, depth, kind, *more in rows]
 
 
@@ -138,9 +139,9 @@ def our_block(row, begin, lines, defined):
     return Block(SAME_KIND.get(kind, kind), detail, begin, end, depth)
 
 
-def our_blocks(page):
+def our_blocks(page, program=OURS):
     """What fillaqut blocks says of a page, and the lines of its definitions. Blank lines and definitions are no blocks of cmark."""
-    lines, rows = lines_of(page), our_rows(page)
+    lines, rows = lines_of(page), our_rows(page, program)
     defined = definitions_in(rows)
     blocks = [pair for pair in zip(rows, begins_of(rows)) if pair[0][3] not in ("blank", "definition")]
     return in_order(our_block(row, begin, lines, defined) for row, begin in blocks), defined

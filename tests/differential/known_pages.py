@@ -47,6 +47,7 @@ BLOCKS = [
     (["header"], b"> a\nb|c\n> -|-\n> d|e\n"),
     (["header"], b"- a\n      b|c\n  -|-\n"),
     (["lazy"], b"> a\n |b|c|\n> -|-\n"),
+    (["declaration"], b"> <!a>\n>      ===\n>:-\n"),
 ]
 
 LONG = b"`" * 1001
@@ -93,7 +94,7 @@ EVENTS = [
     (["agree", "end collapsed", "end escape"], b"\\# [a][]\r\n\r\n[a]: /b\r\n\r\n\tc\r\n"),
     (["agree", "text indent", "end indent"], b"  <p\n"),
     (["agree", "text code"], b"``` `\n`m`\n"),
-    (["agree", "end blank", "end fence", "end marker", "end tab"], b"> ```\n> ```\n>\n -\t\td\n"),
+    (["agree", "end fence", "end marker", "end tab"], b"> ```\n> ```\n>\n -\t\td\n"),
     (["agree", "text indent", "end closed"], b"<textarea\n</style>\n "),
     (["agree"], b"*    ~~~ a`\r\n \r\n"),
     (["agree", "text indent", "end part"], b"> <?a\n>\t"),
