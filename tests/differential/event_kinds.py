@@ -301,7 +301,7 @@ def is_fence(parting):
 
 def is_blank(parting):
     is_later = parting.is_end and parting.our < parting.their
-    return parting.pair.element() in ("list", "item") and is_later and BLANK.fullmatch(parting.page, parting.our, parting.their) is not None
+    return parting.pair.element() in CONTAINERS and is_later and BLANK.fullmatch(parting.page, parting.our, parting.their) is not None
 
 
 def is_of_task(parting):
@@ -330,7 +330,7 @@ PLACE_KINDS = {
     "closed": Kind("end with the line that closes HTML, for pulldown-cmark after the spaces at the end of the page", "4.6", is_last_line),
     "part": Kind("end with a last line of HTML that is a part of a tab, for pulldown-cmark before it", "2.2", is_part_of_tab),
     "fence": Kind("end with the line of a closing fence, for pulldown-cmark before its line ending", "4.5", is_fence),
-    "blank": Kind("end with the last block of a list or an item, for pulldown-cmark after the blank lines that follow", "5.1, 5.2", is_blank),
+    "blank": Kind("end with the last block of a container, for pulldown-cmark after the blank lines that follow", "5.1, 5.2", is_blank),
     "row": Kind("end with the text of a row, for pulldown-cmark after its line ending", "GFM 4.10", is_row),
     "cell": Kind("are those of a cell's content, for pulldown-cmark with the spaces around it", "GFM 4.10", is_cell),
     "task": Kind("begin with the marker of a task, for pulldown-cmark after it", "GFM 5.3", is_of_task),
