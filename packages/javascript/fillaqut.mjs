@@ -2,7 +2,7 @@
  * A Markdown parser whose every function is proved to meet its contract: HTML and events of a page, its blocks and inlines, and the scanners
  * below them.
  *
- *     import { load } from "./fillaqut.mjs";
+ *     import { load } from "fillaqut";
  *
  *     const scanners = await load();
  *     const page = scanners.text("# A heading\n> - [b](<c d>)\n");
