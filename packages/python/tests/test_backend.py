@@ -1,7 +1,9 @@
 """For which system a wheel says that it is. What other systems answer stands here in the place of what this one does."""
 import contextlib
+import json
 import os
 import sys
+import tomllib
 import unittest
 from pathlib import Path
 from types import SimpleNamespace
@@ -10,6 +12,7 @@ from unittest import mock
 sys.path.append(str(Path(__file__).resolve().parents[1] / "backend"))
 import fillaqut_build as backend
 
+PACKAGES = Path(__file__).resolve().parents[2]
 MUSL = "musl libc (x86_64)\nVersion 1.2.3\nDynamic Program Loader\n"
 
 
@@ -25,6 +28,19 @@ def on(system, machine, name, confstr=None, loader=None):
         enter(mock.patch.object(backend.subprocess, "run", mock.Mock(side_effect=[loader])))
         enter(mock.patch.multiple(os, create=True, **answers))
         yield
+
+
+class Registries(unittest.TestCase):
+    def test_packages_say_the_same(self):
+        """What PyPI, crates.io and npm show of each package. That of JavaScript has a keyword of its own."""
+        python = backend.project()
+        rust = tomllib.loads((PACKAGES / "rust/Cargo.toml").read_text())["package"]
+        javascript = json.loads((PACKAGES / "javascript/package.json").read_text())
+        for field in ("name", "version", "description", "license"):
+            self.assertEqual({python[field], rust[field], javascript[field]}, {python[field]}, field)
+        self.assertEqual([python["authors"], rust["authors"]], [[{"name": javascript["author"]}], [javascript["author"]]])
+        self.assertEqual(python["keywords"] + ["wasm"], javascript["keywords"])
+        self.assertEqual(python["keywords"], rust["keywords"])
 
 
 class Tags(unittest.TestCase):
