@@ -123,6 +123,135 @@ pub struct Target<'a> {
     pub id: Cow<'a, str>,
 }
 
+impl Event<'_> {
+    /// The same event, which borrows nothing of the page.
+    ///
+    /// ```
+    /// use fillaqut::{Event, Extensions, Parser};
+    /// let page = String::from("a");
+    /// let kept: Vec<Event<'static>> = Parser::new(&page, Extensions::default()).map(Event::into_static).collect();
+    /// drop(page);
+    /// assert_eq!(kept[1], Event::Text("a".into()));
+    /// ```
+    #[must_use]
+    pub fn into_static(self) -> Event<'static> {
+        match self {
+            Event::Start(tag) => Event::Start(tag.into_static()),
+            Event::End(tag) => Event::End(tag),
+            Event::Text(text) => Event::Text(owned(text)),
+            Event::Code(text) => Event::Code(owned(text)),
+            Event::Html(text) => Event::Html(owned(text)),
+            Event::InlineHtml(text) => Event::InlineHtml(owned(text)),
+            Event::SoftBreak => Event::SoftBreak,
+            Event::HardBreak => Event::HardBreak,
+            Event::Rule => Event::Rule,
+            Event::TaskListMarker(is_checked) => Event::TaskListMarker(is_checked),
+        }
+    }
+}
+
+impl Tag<'_> {
+    /// What ends it.
+    ///
+    /// ```
+    /// use fillaqut::{Tag, TagEnd};
+    /// assert_eq!(Tag::List(Some(7)).to_end(), TagEnd::List(true));
+    /// ```
+    #[must_use]
+    pub fn to_end(&self) -> TagEnd {
+        match self {
+            Tag::Paragraph => TagEnd::Paragraph,
+            Tag::Heading(level) => TagEnd::Heading(*level),
+            Tag::BlockQuote => TagEnd::BlockQuote,
+            Tag::CodeBlock(_) => TagEnd::CodeBlock,
+            Tag::HtmlBlock => TagEnd::HtmlBlock,
+            Tag::List(first) => TagEnd::List(first.is_some()),
+            Tag::Item => TagEnd::Item,
+            Tag::Table(_) => TagEnd::Table,
+            Tag::TableHead => TagEnd::TableHead,
+            Tag::TableRow => TagEnd::TableRow,
+            Tag::TableCell => TagEnd::TableCell,
+            Tag::Emphasis => TagEnd::Emphasis,
+            Tag::Strong => TagEnd::Strong,
+            Tag::Strikethrough => TagEnd::Strikethrough,
+            Tag::Link(_) => TagEnd::Link,
+            Tag::Image(_) => TagEnd::Image,
+        }
+    }
+
+    /// The same tag, which borrows nothing of the page.
+    ///
+    /// ```
+    /// use fillaqut::{Event, Extensions, Parser, Tag};
+    /// let page = String::from("# a");
+    /// let Some(Event::Start(tag)) = Parser::new(&page, Extensions::default()).next() else { panic!() };
+    /// let kept: Tag<'static> = tag.into_static();
+    /// drop(page);
+    /// assert_eq!(kept, Tag::Heading(fillaqut::HeadingLevel::H1));
+    /// ```
+    #[must_use]
+    pub fn into_static(self) -> Tag<'static> {
+        match self {
+            Tag::Paragraph => Tag::Paragraph,
+            Tag::Heading(level) => Tag::Heading(level),
+            Tag::BlockQuote => Tag::BlockQuote,
+            Tag::CodeBlock(kind) => Tag::CodeBlock(kind.into_static()),
+            Tag::HtmlBlock => Tag::HtmlBlock,
+            Tag::List(first) => Tag::List(first),
+            Tag::Item => Tag::Item,
+            Tag::Table(alignments) => Tag::Table(alignments),
+            Tag::TableHead => Tag::TableHead,
+            Tag::TableRow => Tag::TableRow,
+            Tag::TableCell => Tag::TableCell,
+            Tag::Emphasis => Tag::Emphasis,
+            Tag::Strong => Tag::Strong,
+            Tag::Strikethrough => Tag::Strikethrough,
+            Tag::Link(target) => Tag::Link(target.into_static()),
+            Tag::Image(target) => Tag::Image(target.into_static()),
+        }
+    }
+}
+
+impl CodeBlockKind<'_> {
+    /// The same kind, which borrows nothing of the page.
+    ///
+    /// ```
+    /// use fillaqut::CodeBlockKind;
+    /// let kept: CodeBlockKind<'static> = CodeBlockKind::Fenced(String::from("rust").as_str().into()).into_static();
+    /// assert_eq!(kept, CodeBlockKind::Fenced("rust".into()));
+    /// ```
+    #[must_use]
+    pub fn into_static(self) -> CodeBlockKind<'static> {
+        match self {
+            CodeBlockKind::Indented => CodeBlockKind::Indented,
+            CodeBlockKind::Fenced(info) => CodeBlockKind::Fenced(owned(info)),
+        }
+    }
+}
+
+impl Target<'_> {
+    /// The same target, which borrows nothing of the page.
+    ///
+    /// ```
+    /// use fillaqut::{LinkType, Target};
+    /// let page = String::from("b");
+    /// let target = Target { link_type: LinkType::Inline, dest_url: page.as_str().into(), title: "".into(), id: "".into() };
+    /// let kept: Target<'static> = target.into_static();
+    /// drop(page);
+    /// assert_eq!(kept.dest_url, "b");
+    /// ```
+    #[must_use]
+    pub fn into_static(self) -> Target<'static> {
+        let Target { link_type, dest_url, title, id } = self;
+        Target { link_type, dest_url: owned(dest_url), title: owned(title), id: owned(id) }
+    }
+}
+
+/// The text with memory of its own.
+fn owned(text: Cow<'_, str>) -> Cow<'static, str> {
+    Cow::Owned(text.into_owned())
+}
+
 /// The events of a page, in order. All of them are made when it is; a text that stands in the page as it is is lent from there.
 ///
 /// ```

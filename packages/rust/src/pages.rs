@@ -291,6 +291,10 @@ impl BlockReader {
 
     /// Takes the next bytes of the page.
     ///
+    /// # Panics
+    ///
+    /// After [`BlockReader::end`].
+    ///
     /// ```
     /// let mut reader = fillaqut::BlockReader::default();
     /// reader.feed(b"# A\n> b\n");
@@ -298,6 +302,7 @@ impl BlockReader {
     /// assert!(reader.next_block().is_none());
     /// ```
     pub fn feed(&mut self, bytes: &[u8]) {
+        assert!(!self.has_ended, "the page has ended");
         self.text.drain(..self.used);
         self.used = 0;
         self.text.extend_from_slice(bytes);

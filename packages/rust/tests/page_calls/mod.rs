@@ -321,3 +321,46 @@ fn lossy_html() {
         assert_eq!(html_unsafe_lossy(&page, NONE), html_unsafe(&text, NONE));
     }
 }
+
+/// A page that has each kind of event and each element.
+const ALL: &str = "# a\n\n> - b\n\n1. c\n\n```d\ne\n```\n\n    f\n\n<p>\n\n|g|\n|-|\n|h|\n\n*i* **j** ~~k~~ [l](m \"n\") ![o][p]\n\n[p]: q\n\n***\n\
+    - [x] r <b> `s` \\\nt\nu";
+
+/// Each tag ends by what `to_end` says, and an event that borrows nothing is the same event.
+#[test]
+fn ends_and_owned_events() {
+    let asked = Extensions { tables: true, strikethrough: true, tasks: true, ..NONE };
+    let (mut tags, mut ended) = (Vec::new(), std::collections::HashSet::new());
+    for event in Parser::new(ALL, asked) {
+        let kept: Event<'static> = event.clone().into_static();
+        assert_eq!(kept, event);
+        match event {
+            Event::Start(tag) => tags.push(tag),
+            Event::End(end) => {
+                assert_eq!(tags.pop().map(|it| it.to_end()), Some(end));
+                ended.insert(end);
+            }
+            _ => {}
+        }
+    }
+    assert_eq!((tags, ended.len()), (vec![], 17)); // 16 elements, and lists of two kinds
+}
+
+fn is_shared<T: Send + Sync>() {}
+
+/// Calls and what they return may be in many threads at once.
+#[test]
+fn threads() {
+    is_shared::<(Parser, OffsetIter, Event, Extensions, HtmlSetting, BlockReader, Block, Inline)>();
+    let setting = HtmlSetting { rel: false, ..HtmlSetting::default() };
+    let pages: Vec<_> = (0..400).map(|number| format!("[{number}](b)\n\n").repeat(100)).collect();
+    let made = |page: &String| html_with(page, NONE, &setting);
+    let found: Vec<Vec<String>> = std::thread::scope(|scope| {
+        let threads: Vec<_> = pages.chunks(100).map(|part| scope.spawn(|| part.iter().map(made).collect())).collect();
+        threads.into_iter().map(|it| it.join().unwrap()).collect()
+    });
+    assert_eq!(found.len(), 4);
+    for (number, html) in found.concat().iter().enumerate() {
+        assert_eq!(*html, format!("<p><a href=\"b\">{number}</a></p>\n").repeat(100));
+    }
+}

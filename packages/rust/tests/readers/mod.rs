@@ -53,3 +53,11 @@ fn deep_and_long_blocks_are_fed() {
     let block = reader.next_block().unwrap();
     assert_eq!((returned, block.containers().len(), block.lines.len()), (0, 1000, 10_000));
 }
+
+#[test]
+#[should_panic(expected = "the page has ended")]
+fn nothing_is_fed_after_the_end() {
+    let mut reader = BlockReader::default();
+    reader.end();
+    reader.feed(b"a");
+}
