@@ -8,6 +8,7 @@ import ctypes
 from array import array
 from bisect import bisect_right
 from codecs import utf_8_decode
+from enum import IntEnum
 from functools import lru_cache
 from mmap import mmap
 from operator import index
@@ -148,6 +149,31 @@ def character_number(given: Union[str, int]) -> int:
     if not 0 <= found < 2**32:
         raise ValueError(f"{given} is no number of a character")
     return found
+
+
+Kind = TypeVar("Kind", bound=IntEnum)
+
+
+def kind_of(what: str, kinds: type[Kind], given: Any) -> Kind:
+    """The one of these kinds that is given, or that has the number."""
+    if type(given) is kinds:
+        return given
+    found = whole_number(what, given)
+    try:
+        return kinds(found)
+    except ValueError:
+        raise ValueError(f"{what} is {found}, which no {kinds.__name__} is") from None
+
+
+def pair(what: str, given: Any) -> tuple[Any, Any]:
+    """The two that are given."""
+    try:
+        one, other = given
+    except TypeError:
+        raise TypeError(f"{what} is {named(given)}, and not two numbers") from None
+    except ValueError:
+        raise ValueError(f"{what} has not two numbers: {given!r}") from None
+    return one, other
 
 
 def flag(what: str, given: bool) -> bool:

@@ -7,7 +7,9 @@ from typing import Any, Callable, Generic, NamedTuple, Optional, Union, overload
 
 from . import _c
 from ._library import ROOM, function, writer
-from ._pages import Buffer, Made, Page, after, character_number, flag, front, limits, number, place_in, stated_of, text_for, whole
+from ._pages import (
+    Buffer, Made, Page, after, character_number, flag, front, kind_of, limits, number, place_in, stated_of, text_for, whole, whole_number,
+)
 from .errors import stated
 from .skips import Skips, table
 
@@ -124,7 +126,9 @@ def scan_delimiter_run(data: Page, at: int = 0, end: Optional[int] = None, *, be
     (DelimiterRun(end=4, byte=42, can_open=True, can_close=False), DelimiterRun(end=2, byte=95, can_open=False, can_close=False))
     """
     address, length, first, origin = whole(data, at, end)
-    before = place_in(data, limits(data, begin, at)[0])
+    if not 0 <= whole_number("begin", begin) <= at:
+        raise IndexError(f"begin {begin} is not in 0 <= begin <= at, which is {at}")
+    before = place_in(data, begin)
     found = _scan_delimiter_run(address + before, length - before, first - before)
     if not stated(found.status):
         return None
@@ -211,7 +215,7 @@ def ends_html_block(data: Page, at: int = 0, end: Optional[int] = None, *, kind:
     [True, False]
     """
     address, length, _held = front(data, at, end)
-    return stated(_ends_html_block(address, length, kind if type(kind) is HtmlBlockKind else HtmlBlockKind(kind)))
+    return stated(_ends_html_block(address, length, kind_of("kind", HtmlBlockKind, kind)))
 
 
 def scan_html_tag(data: Page, at: int = 0, end: Optional[int] = None) -> Optional[int]:

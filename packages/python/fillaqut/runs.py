@@ -7,7 +7,7 @@ from typing import Any, Callable, Iterable, Optional, TypeVar, Union
 
 from . import _c
 from ._library import function, writer
-from ._pages import Made, Page, after, number, place_in, several, text_for, whole
+from ._pages import Made, Page, after, kind_of, number, pair, place_in, several, text_for, whole
 from .errors import StoppedError, TooLargeError, refusal, stated
 from .line_start import LineStart, ListMarker
 
@@ -56,11 +56,15 @@ def run_line(start: LineStart[Made], calls: Iterable[tuple[int, int]]) -> tuple[
     >>> run_line(start, [(CallKind.QUOTE, 0), (CallKind.UPTO, 1)]), start.place, start.pending
     ((True, 1), 2, 1)
     """
-    kinds: list[Any] = [(CallKind(kind), number("a number of a call", value)) for kind, value in several("calls", calls, "calls")]
+    kinds: list[Any] = [_call(*pair("a call", call)) for call in several("calls", calls, "calls")]
     given, answers = (_c.LineCall * len(kinds))(*kinds), (_c.LineAnswer * len(kinds))()
     found = _run_line(*_checked(start)._given, addressof(given), len(kinds), addressof(answers), len(kinds))
     run = tuple(_answer(kind, answer) for (kind, _), answer in zip(kinds, answers[: found.count]))
     return _ended(found.status, run)
+
+
+def _call(kind: int, value: int) -> tuple[CallKind, int]:
+    return kind_of("the kind of a call", CallKind, kind), number("a number of a call", value)
 
 
 def line_rest(start: LineStart[Made]) -> Made:

@@ -6,7 +6,7 @@ from typing import Any, Callable, Iterable, Optional
 
 from . import _c
 from ._library import function
-from ._pages import NUMBERS, Page, number, place_in, several, whole
+from ._pages import NUMBERS, Page, number, pair, place_in, several, whole
 from .errors import stated
 
 _check_skips: Callable[..., int] = function("check_skips")
@@ -28,7 +28,7 @@ class Skips:
     def __init__(self, data: Page, rows: Iterable[tuple[int, int]] = ()) -> None:
         address, length, _, held = whole(data, 0, None)
         given = several("rows", rows, "rows")
-        listed: list[Any] = [_bytes_of(data, number("a place", place), number("a length", length)) for place, length in given]
+        listed: list[Any] = [_row(data, *pair("a row", row)) for row in given]
         self.data, self._table = data, (_c.Skip * len(listed))(*listed)
         stated(_check_skips(address, length, addressof(self._table), len(listed)))
         del held  # until here the page has stayed where it is
@@ -37,8 +37,9 @@ class Skips:
         return len(self._table)
 
 
-def _bytes_of(data: Page, place: int, length: int) -> tuple[int, int]:
+def _row(data: Page, place: int, length: int) -> tuple[int, int]:
     """A row in bytes."""
+    place, length = number("a place", place), number("a length", length)
     first = place_in(data, place)
     return min(first, NUMBERS - 1), min(place_in(data, place + length) - first, NUMBERS - 1)
 

@@ -62,6 +62,11 @@ class Arguments(unittest.TestCase):
             "places ": lambda: mds.run_inline_html(b"<!", 2),
             "rows ": lambda: mds.Skips(b"a", None),
             "calls ": lambda: mds.run_line(start, None),
+            "a row ": lambda: mds.Skips(b"a", [0]),
+            "a call ": lambda: mds.run_line(start, [0]),
+            "the kind of a call ": lambda: mds.run_line(start, [(None, 0)]),
+            "kind ": lambda: mds.ends_html_block(b"a", kind="2"),
+            "begin ": lambda: mds.scan_delimiter_run(b"a*", 1, begin="0"),
             "byte'": lambda: mds.scan_ch(b"a#", 1),
         }.items():
             with self.assertRaises(TypeError) as why:
@@ -79,8 +84,22 @@ class Arguments(unittest.TestCase):
         self.assertRaisesRegex(TypeError, "the byte is True", mds.is_whitespace, True)
 
     def test_kinds(self):
-        self.assertRaises(ValueError, mds.ends_html_block, b"a", kind=8)
+        start = mds.LineStart(b"a")
+        self.assertRaisesRegex(ValueError, "kind is 8, ", mds.ends_html_block, b"a", kind=8)
+        self.assertRaisesRegex(ValueError, "the kind of a call is 77, ", mds.run_line, start, [(77, 0)])
+        self.assertRaisesRegex(TypeError, "kind is True, ", mds.ends_html_block, b"a", kind=True)
+        self.assertRaisesRegex(TypeError, "the kind of a call is True, ", mds.run_line, start, [(True, 0)])
         self.assertTrue(mds.ends_html_block(b"a -->", kind=2))
+
+
+    def test_pairs(self):
+        for row in ((), (1,), (1, 2, 3)):
+            self.assertRaisesRegex(ValueError, "a row has not two numbers", mds.Skips, b"a", [row])
+            self.assertRaisesRegex(ValueError, "a call has not two numbers", mds.run_line, mds.LineStart(b"a"), [row])
+
+    def test_begin(self):
+        for begin in (-1, 3):
+            self.assertRaisesRegex(IndexError, f"begin {begin} is not in", mds.scan_delimiter_run, b"a*b*", 1, begin=begin)
 
 
 class Pages(unittest.TestCase):
