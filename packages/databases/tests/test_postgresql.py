@@ -15,6 +15,20 @@ ANSWERED = {
 ESCAPES = str.maketrans({"\\": "\\\\", "\t": "\\t", "\n": "\\n", "\r": "\\r"})
 
 
+# Has three workers do all that they may, and the process of the session nothing.
+IN_WORKERS = "".join(f"SET {setting};\n" for setting in (
+    "max_parallel_workers_per_gather = 3", "parallel_leader_participation = off", "min_parallel_table_scan_size = 0",
+    "parallel_setup_cost = 0", "parallel_tuple_cost = 0",
+))
+
+
+def nodes_of(plan):
+    """The nodes of a plan."""
+    yield plan
+    for part in plan.get("Plans", []):
+        yield from nodes_of(part)
+
+
 def psql(script, *words):
     """What psql prints of a script, and what it says of faults."""
     done = subprocess.run(["psql", "-XAtq", *words], input=script, capture_output=True, encoding="utf-8", check=False)
@@ -38,6 +52,18 @@ class Pages(Answers, unittest.TestCase):
         for query, answer in examples:
             self.assertEqual([line for line in self.printed(f"BEGIN;\n{query}\nROLLBACK;").splitlines() if line], answer, query)
         self.assertEqual(len(examples), 4)
+
+    def test_workers(self):
+        """The workers that a query over many pages is given share the pages."""
+        self.printed("CREATE TABLE many AS SELECT repeat('*a* ', 2500) AS page FROM generate_series(1, 2000);")
+        self.addCleanup(self.printed, "DROP TABLE many;")
+        query = "SELECT sum(length(markdown_html(page))) FROM many;\n"
+        self.assertEqual(int(self.printed(IN_WORKERS + query)), 2000 * len("<p>" + "<em>a</em> " * 2499 + "<em>a</em></p>\n"))
+        [found] = json.loads(self.printed(f"{IN_WORKERS}EXPLAIN (ANALYZE, VERBOSE, FORMAT json) {query}"))
+        [scan] = [node for node in nodes_of(found["Plan"]) if node["Node Type"] == "Seq Scan"]
+        rows = [worker["Actual Rows"] for worker in scan["Workers"]]
+        self.assertEqual((len(rows), sum(rows)), (3, 2000))
+        self.assertGreater(min(rows), 0)
 
     def test_other_encodings(self):
         for encoding in ("LATIN1", "SQL_ASCII"):
