@@ -62,9 +62,12 @@ def write(part, paths):
 def run(client, paths, out, size=100):
     """Writes the rows of all pages, so many into each file, and answers how many there are. It says which files could not be written."""
     parts = {out / f"part-{at // size:06}.jsonl": paths[at : at + size] for at in range(0, len(paths), size)}
-    for done in as_completed(client.map(write, parts, parts.values(), key=[str(part) for part in parts])):
+    for _ in as_completed(client.map(write, parts, parts.values(), pure=False)):
+        pass  # without its answer, which is lost with the worker that has it
+    for part in [part for part in parts if not part.is_file()]:  # once more, one by one: dask gives up also what waits beside a page that ends workers
+        [done] = as_completed([client.submit(write, part, parts[part], pure=False)])
         if done.status == "error":
-            print(f"corpus.py: {done.key}: {done.exception()!r}", file=sys.stderr)
+            print(f"corpus.py: {part}: {done.exception()!r}", file=sys.stderr)
     for draft in out.glob(".*"):  # of workers that have died
         draft.unlink()
     return sum(len(parts[part]) for part in parts if part.is_file())

@@ -120,6 +120,7 @@ class Corpus(unittest.TestCase):
         cls.addClassCleanup(cls.client.close)
 
     def setUp(self):
+        self.client.wait_for_workers(2, timeout=DEADLINE)  # one that was killed comes again
         scratch = tempfile.TemporaryDirectory()
         self.addCleanup(scratch.cleanup)
         self.pages, self.out = [Path(scratch.name).resolve() / name for name in ("pages", "out")]
@@ -170,9 +171,10 @@ class Corpus(unittest.TestCase):
         allowed = self.cluster.scheduler.allowed_failures
         self.assertGreater(allowed, 0)
         with ThreadPoolExecutor() as executor, contextlib.redirect_stderr(io.StringIO()) as said:
-            killed = executor.submit(lambda: [kill_reader(self.cluster, pipe, self.out) for _ in range(allowed + 1)])
+            kills = 2 * (allowed + 1)  # beside other files, and alone
+            killed = executor.submit(lambda: [kill_reader(self.cluster, pipe, self.out) for _ in range(kills)])
             self.assertEqual(self.corpus.run(self.client, paths, self.out, 5), 55)
-        self.assertEqual(len(set(killed.result())), allowed + 1)
+        self.assertEqual(len(set(killed.result())), kills)
         self.assertIn(f"corpus.py: {self.out}/part-000006.jsonl: KilledWorker(", said.getvalue())
         expected = [f"<h1>{number}</h1>\n" for number in range(60) if not 30 <= number < 35]
         self.assertEqual([made["html"] for made in rows_in(self.out)], expected)
