@@ -155,7 +155,7 @@ PAGE_KINDS = {
     "space": PageKind("have a form feed or a vertical tab, which for cmark is space at ends", "2.1", substituted(rb"[\f\v]", b"x")),
     "escape": PageKind("have an escaped & in a destination, title or info string, which cmark resolves first", "2.4", substituted(rb"\\&", b"x")),
     "begin": PageKind("have an item that begins with two blank lines, which ends at the second", "5.2",
-        substituted(rb"(?m)^([ >]*(?:[-*+]|[0-9]+[.)]))[ \t]*(?=\r?\n[ \t>]*\r?\n)", rb"\1 x")),
+        substituted(rb"(?m)^((?:[ \t>]|(?:[-*+]|[0-9]+[.)])(?=[ \t]))*(?:[-*+]|[0-9]+[.)]))[ \t]*(?=\r?\n[ \t>]*\r?\n)", rb"\1 x")),
     "title": PageKind("have a title whose last quotation mark is escaped, which then is not one", "6.3", substituted(rb"\\['\")]", b"x")),
     "label": PageKind("have a label of white space, which is not a label", "6.3", substituted(rb"\[\s+\]", b"x")),
 }
