@@ -114,7 +114,7 @@ EVENTS_EXTENDED = [
     (["inside"], b"- [ ] # a\n"),
     (["inside"], b"- [ ] # a\n\n- b\n"),
     (["rows"], b"a|b\n-|-\n|\n10. c|d\n"),
-    (["cell"], b"a\\\\|b\nc | `d|e`\n-|-|-\n"),
+    (["alone"], b"a\\\\|b\nc | `d|e`\n-|-|-\n"),
 ]
 
 
