@@ -48,6 +48,7 @@ BLOCKS = [
     (["header"], b"- a\n      b|c\n  -|-\n"),
     (["lazy"], b"> a\n |b|c|\n> -|-\n"),
     (["declaration"], b"> <!a>\n>      ===\n>:-\n"),
+    (["older"], b"a\nb\n:-:\n<textarea\nc\n"),
 ]
 
 LONG = b"`" * 1001
