@@ -203,6 +203,14 @@ def has_block_in_rows(parting):
     return after is not None and parting.our.end <= after.start < parting.their.end
 
 
+def has_lazy_header(parting):
+    """That a table of ours begins in the next line, with a pipe after spaces, where their paragraph goes on."""
+    if not (parting.our and parting.their and parting.our.words == "end paragraph" and parting.their.words == "soft break"):
+        return False
+    begun = [pair.our for pair in parting.pairs[parting.at + 1 : parting.at + 2] if pair.our and pair.our.words.startswith("start table ")]
+    return any(re.search(rb"[\r\n][ \t]+$", parting.page[: event.start]) and parting.page[event.start :].startswith(b"|") for event in begun)
+
+
 def has_quote(parting):
     """That a block quote of ours begins in the next line, where their paragraph goes on."""
     if not (parting.our and parting.their and parting.our.words.startswith("end ") and parting.their.words == "soft break"):
@@ -260,6 +268,7 @@ EVENT_KINDS = {
     "there": Kind("have them up to where they part from pulldown-cmark", "pulldown-cmark 0.9.2 alone", is_alone_there),
     "quote": Kind("have a block quote that interrupts a paragraph, which goes on for pulldown-cmark", "5.1", has_quote),
     "rows": Kind("have a block that ends a table, in which it is a row for pulldown-cmark", "GFM 4.10", has_block_in_rows),
+    "lazy": Kind("have spaces before a header row's pipe in a lazy line, which is no row for pulldown-cmark", "5.1", has_lazy_header),
 }
 
 

@@ -115,6 +115,7 @@ EVENTS_EXTENDED = [
     (["inside"], b"- [ ] # a\n"),
     (["inside"], b"- [ ] # a\n\n- b\n"),
     (["rows"], b"a|b\n-|-\n|\n10. c|d\n"),
+    (["lazy"], b"> a\n\t||\n>|--|\n"),
     (["alone"], b"a\\\\|b\nc | `d|e`\n-|-|-\n"),
 ]
 
