@@ -24,7 +24,7 @@ def our_list(block):
 
 
 class Page:
-    """A page of which the two say something else."""
+    """A page of which the two say something else. Where theirs is None cmark-gfm finds a table, and writes no places of lines before it."""
 
     def __init__(self, lines, ours, defined, theirs):
         self.lines, self.ours, self.defined, self.theirs = lines, ours, defined, theirs
@@ -58,7 +58,7 @@ class Page:
 
     def has_a_table(self):
         """Whether one of the two finds a table."""
-        return self.has_our_table() or any(block.kind == "table" for block in self.theirs)
+        return self.theirs is None or self.has_our_table() or any(block.kind == "table" for block in self.theirs)
 
 
 def begins(pattern):

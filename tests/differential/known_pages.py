@@ -49,6 +49,7 @@ BLOCKS = [
     (["lazy"], b"> a\n |b|c|\n> -|-\n"),
     (["declaration"], b"> <!a>\n>      ===\n>:-\n"),
     (["older"], b"a\nb\n:-:\n<textarea\nc\n"),
+    (["older"], b"a\n<textarea\n:-\n"),
 ]
 
 LONG = b"`" * 1001
