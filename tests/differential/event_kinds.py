@@ -204,10 +204,10 @@ def has_block_in_rows(parting):
 
 
 def has_lazy_header(parting):
-    """That a table of ours begins in the next line, with a pipe after spaces, where their paragraph goes on."""
-    if not (parting.our and parting.their and parting.our.words == "end paragraph" and parting.their.words == "soft break"):
-        return False
-    begun = [pair.our for pair in parting.pairs[parting.at + 1 : parting.at + 2] if pair.our and pair.our.words.startswith("start table ")]
+    """That a table of ours begins in the next line, with a pipe after spaces, where their paragraph goes on: there, or with the text before it."""
+    ours = [pair.our for pair in parting.pairs[parting.at : parting.at + 3] if pair.our]
+    ends = [at for at, event in enumerate(ours) if event.words == "end paragraph" and all(other.words == "text" for other in ours[:at])]
+    begun = [event for at in ends for event in ours[at + 1 : at + 2] if event.words.startswith("start table ")]
     return any(re.search(rb"[\r\n][ \t]+$", parting.page[: event.start]) and parting.page[event.start :].startswith(b"|") for event in begun)
 
 
@@ -313,6 +313,11 @@ def is_blank(parting):
     return parting.pair.element() in CONTAINERS and is_later and BLANK.fullmatch(parting.page, parting.our, parting.their) is not None
 
 
+def is_return(parting):
+    beyond = parting.page[parting.our : parting.their]
+    return parting.is_end and parting.page[parting.our - 1 : parting.our] == b"\r" and beyond != b"" and not beyond.strip(b"\r\n")
+
+
 def is_of_task(parting):
     return parting.pair.our.words.endswith(" paragraph") and not parting.is_end and MARKER.fullmatch(parting.page, parting.our, parting.their) is not None
 
@@ -340,6 +345,7 @@ PLACE_KINDS = {
     "part": Kind("end with a last line of HTML that is a part of a tab, for pulldown-cmark before it", "2.2", is_part_of_tab),
     "fence": Kind("end with the line of a closing fence, for pulldown-cmark before its line ending", "4.5", is_fence),
     "blank": Kind("end with the last block of a container, for pulldown-cmark after the blank lines that follow", "5.1, 5.2", is_blank),
+    "return": Kind("end with a line that a CR without a LF ends, for pulldown-cmark with the next line ending", "2.1", is_return),
     "row": Kind("end with the text of a row, for pulldown-cmark after its line ending", "GFM 4.10", is_row),
     "cell": Kind("are those of a cell's content, for pulldown-cmark with the spaces around it", "GFM 4.10", is_cell),
     "task": Kind("begin with the marker of a task, for pulldown-cmark after it", "GFM 5.3", is_of_task),

@@ -96,6 +96,7 @@ EVENTS = [
     (["agree", "end collapsed", "end escape"], b"\\# [a][]\r\n\r\n[a]: /b\r\n\r\n\tc\r\n"),
     (["agree", "text indent", "end indent"], b"  <p\n"),
     (["agree", "text code"], b"``` `\n`m`\n"),
+    (["agree", "end return"], b"<div>\n> n\r\r\n"),
     (["agree", "end fence", "end marker", "end tab"], b"> ```\n> ```\n>\n -\t\td\n"),
     (["agree", "text indent", "end closed"], b"<textarea\n</style>\n "),
     (["agree"], b"*    ~~~ a`\r\n \r\n"),
@@ -117,6 +118,7 @@ EVENTS_EXTENDED = [
     (["inside"], b"- [ ] # a\n\n- b\n"),
     (["rows"], b"a|b\n-|-\n|\n10. c|d\n"),
     (["lazy"], b"> a\n\t||\n>|--|\n"),
+    (["lazy"], b">a|b\\\n   |:-:|-:|\n> ---|---\n"),
     (["alone"], b"a\\\\|b\nc | `d|e`\n-|-|-\n"),
 ]
 

@@ -60,12 +60,14 @@ LAZY = rb"[\r\n][ >]*[ \t]"
 FENCE_AFTER_TAB = re.compile(rb"\t *(?:```|~~~)")
 
 
+def has_last_line(difference, change=lambda text: text):
+    """That the page has a last line without an ending, and the two are the same without such lines, after another change too."""
+    return not difference.page.endswith((b"\n", b"\r")) and difference.same_by(lambda text: without_last_lines(change(text)))
+
+
 def has_fence(difference):
-    return FENCE_AFTER_TAB.search(difference.page) is not None and difference.same_by(without_indent)
-
-
-def has_last_line(difference):
-    return not difference.page.endswith((b"\n", b"\r")) and difference.same_by(without_last_lines)
+    is_one = difference.same_by(without_indent) or has_last_line(difference, without_indent)
+    return FENCE_AFTER_TAB.search(difference.page) is not None and is_one
 
 
 def has_loose_list(difference):
