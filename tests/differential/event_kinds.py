@@ -139,7 +139,8 @@ def has_columns(parting):
 
 def others(parting):
     """What cmark says of the page, and if it is read with extensions cmark-gfm."""
-    return [their_shape(parting.page, program) for program in ([CMARK, WITH_EXTENSIONS] if parting.options else [CMARK])]
+    asked = [(CMARK, False), *([(WITH_EXTENSIONS, False), (WITH_EXTENSIONS, True)] if parting.options else [])]
+    return [their_shape(parting.page, *how) for how in asked]
 
 
 def is_alone(parting):

@@ -78,7 +78,13 @@ def their_details(element, name):
     return ("",)
 
 
-def their_shape(page, program=CMARK):
+def is_read_tight(element, has_tight_tables):
+    """Whether a list is tight: as cmark says, or also where a table stands directly in one of its items, by which cmark-gfm takes it for loose."""
+    held = [name_of(block) for item in element for block in item] if has_tight_tables else []
+    return element.get("tight") == "true" or "table" in held
+
+
+def their_shape(page, program=CMARK, has_tight_tables=False):
     """The same of cmark, or of cmark-gfm. The paragraphs of a tight list are none."""
     said, waiting = [], [(iter(parsed(said_by(program, page))), False, None)]
     while waiting:
@@ -98,7 +104,7 @@ def their_shape(page, program=CMARK):
         else:
             said.append(("start", THEIR_NAMES[name], *their_details(element, THEIR_NAMES[name])))
             said += [("text", text)] if name == "code_block" else []
-            tight = element.get("tight") == "true" if name == "list" else name == "item" and is_tight
+            tight = is_read_tight(element, has_tight_tables) if name == "list" else name == "item" and is_tight
             waiting.append((iter(element), tight, ("end",)))
     return joined(said)
 

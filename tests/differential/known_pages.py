@@ -120,6 +120,7 @@ EVENTS_EXTENDED = [
     (["lazy"], b"> a\n\t||\n>|--|\n"),
     (["lazy"], b">a|b\\\n   |:-:|-:|\n> ---|---\n"),
     (["alone"], b"a\\\\|b\nc | `d|e`\n-|-|-\n"),
+    (["alone"], b"- | -\n\t10. -  a|b\n  :-|:-\n- c\n"),
 ]
 
 
