@@ -85,6 +85,11 @@ def begins_textarea(page):
     return page.has_a_table() and b"<textarea" in page.text
 
 
+def begins_lazy_tag(page):
+    """That the two part at a tag alone in its line, in a page with a table."""
+    return page.has_a_table() and begins(rb"</?[a-zA-Z][^>]*>[ \t]*\r?$")(page)
+
+
 def hyphens(page):
     """The lines of thematic breaks of hyphens directly after definitions, which are text for cmark, with the paragraph after them."""
     lines, end = set(), 0
@@ -149,6 +154,7 @@ KINDS = {
     "space": Kind("have a form feed or vertical tab in a table's first rows", "GFM 4.10", has_other_white_space),
     "older": Kind("have a table for one of them, and a block of <textarea>", "4.6, condition 1", begins_textarea),
     "lazy": Kind("have spaces before a header row's pipe in a lazy line", "5.1", has_lazy_pipe),
+    "tag": Kind("have a tag alone in a lazy line, which ends the paragraph for cmark-gfm", "5.1", begins_lazy_tag),
     # Compared by kinds and depths alone: cmark-gfm writes no places of these lines.
     "header": Kind("have lines of a paragraph before a table", "GFM 4.10", lambda page: False),
 }

@@ -50,6 +50,7 @@ BLOCKS = [
     (["declaration"], b"> <!a>\n>      ===\n>:-\n"),
     (["older"], b"a\nb\n:-:\n<textarea\nc\n"),
     (["older"], b"a\n<textarea\n:-\n"),
+    (["tag"], b"- a\n</h7>\n     :-:\n"),
 ]
 
 LONG = b"`" * 1001
