@@ -52,7 +52,7 @@ def outside_of_code(change):
 without_tabs = substituted(rb"[ \t]+(?=\n|<br />)")
 without_slashes = substituted(rb'<input(?: type="checkbox"| checked=""| disabled=""| /)*>', b"<input>")
 without_indent = substituted(rb"(\n|<code(?: [^>]*)?>)[ \t]+", rb"\1")
-without_lazy_indent = outside_of_code(substituted(rb"(\n|<code>)[ \t]+|[ \t]+(</code>)|([ \t])[ \t]+", rb"\1\2\3"))
+without_lazy_indent = outside_of_code(substituted(rb"(\n|<code>|<p>)[ \t]+|[ \t]+(</code>)|([ \t])[ \t]+", rb"\1\2\3"))
 without_last_lines = substituted(rb"(<code(?: [^>]*)?>)\n(?=</code></pre>)|\n(?=\n)", rb"\1")
 without_paragraphs = substituted(rb"</?p>|\n")
 
@@ -81,7 +81,7 @@ def has_loose_list(difference):
 CHANGES = {
     "tasks": (Kind("have a task, whose attributes cmark-gfm writes in another order", "GFM 5.3", lambda difference: difference.is_extended), without_slashes),
     "tabs": (Kind("have a tab before a line ending, which cmark leaves out as it does spaces", "6.7, 6.8", has(rb"\t[ \t]*(?:[\r\n]|$)")), without_tabs),
-    "lazy": (Kind("have a lazy line in code or HTML, or after a backslash, whose indent cmark keeps", "5.1, 6.7", has(LAZY)), without_lazy_indent),
+    "lazy": (Kind("have a lazy line in code, HTML, after a backslash or a definition, whose indent cmark keeps", "5.1, 6.7", has(LAZY)), without_lazy_indent),
 }
 KINDS = {
     "fence": Kind("have a code fence after a tab, whose indent is less for cmark than it is", "2.2, 4.5", has_fence),

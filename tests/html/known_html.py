@@ -15,6 +15,7 @@ KNOWN = [
     ("tasks", True, b"- [ ] a\n- [x] b\n"),
     ("tabs", False, b"a\t\nb\n"),
     ("lazy", False, b"> a\n   <b\n     >c\n"),
+    ("lazy", False, b"> [a]: b\n    c\n"),
     ("fence", False, b">\t```\n>\ta\n"),
     ("last", False, b"# a\n\n- ~~~\n  "),
     ("last", False, b"> ~~~ a\n> "),
