@@ -1,5 +1,6 @@
 -- The HTML of a page has no more than so many bytes for each of the page's bytes.
-use Rattle.std.proofs.Common.{ℕ, zero, suc, Bool, true, false, ◌+◌, ◌-◌, ◌*◌, ◌<◌, ◌≤◌, ◌≡◌, ◌^◌, ◌∙◌, List, [], ◌∷◌, ◌++◌, length, drop, take, map, max}
+use Rattle.std.proofs.Common.{ℕ, zero, suc, Bool, true, false, ◌+◌, ◌-◌, ◌*◌, ◌<◌, ◌≤◌, ◌≡◌, ◌^◌, ◌∙◌, List}
+use Rattle.std.proofs.Common.{[], ◌∷◌, ◌++◌, length, drop, take, map, max}
 use Rattle.std.proofs.Common.{ap, refl, sym, subst, arith, inl, inr, Option, Some, None}
 use Rattle.std.specs.Prelude.{◌==◌, ◌||◌, ◌&&◌, if◌then◌else◌, slice_range}
 use Rattle.std.specs.Fmt.{decimal}

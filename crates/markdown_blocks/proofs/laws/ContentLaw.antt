@@ -1,5 +1,6 @@
 -- The content of the leaf blocks of a page stands after the markers of their containers.
-use Rattle.std.proofs.Common.{ℕ, zero, suc, ◌+◌, ◌-◌, ◌<◌, ◌≤◌, ◌≡◌, ◌≢◌, ◌∙◌, ◌==◌, List, [], ◌∷◌, ◌++◌, length, take, drop, map, Bool, IsTrue, true, false}
+use Rattle.std.proofs.Common.{ℕ, zero, suc, ◌+◌, ◌-◌, ◌<◌, ◌≤◌, ◌≡◌, ◌≢◌, ◌∙◌, ◌==◌, List, [], ◌∷◌, ◌++◌}
+use Rattle.std.proofs.Common.{length, take, drop, map, Bool, IsTrue, true, false}
 use Rattle.std.proofs.Common.{inl, inr, refl, ap, arith, subst, sym, append_assoc, append-nil, replicate}
 use Rattle.std.specs.Prelude.{⊤, slice_index}
 use Rattle.std.specs.List.{concat, flat_map, prefix_len}
