@@ -123,7 +123,7 @@ def parts_at_a_list(is_tight, kind):
 
 def has_other_white_space(page):
     """That cmark-gfm finds a table whose header or delimiter row has a form feed or a vertical tab."""
-    rows = [b"".join(page.lines[block.first - 1 : block.first + 1]) for block in page.theirs if block.kind == "table"]
+    rows = [b"".join(page.lines[block.first - 1 : block.first + 1]) for block in page.theirs or [] if block.kind == "table"]
     return any(re.search(rb"[\v\f]", row) for row in rows)
 
 
@@ -160,6 +160,10 @@ KINDS = {
 }
 
 
-def kind_of(page):
-    """The way in which a page is known to differ, or None."""
-    return next((name for name, kind in KINDS.items() if kind.fits(page)), None)
+# Those in which cmark-gfm reads tables apart.
+OF_TABLES = ("pipe", "space", "older", "lazy")
+
+
+def kind_of(page, among=tuple(KINDS)):
+    """The way in which a page is known to differ, of these, or None."""
+    return next((name for name in among if KINDS[name].fits(page)), None)

@@ -206,7 +206,11 @@ def has_block_in_rows(parting):
 
 def has_lazy_header(parting):
     """That a table of ours begins in the next line, with a pipe after spaces, where their paragraph goes on: there, or with the text before it."""
-    ours = [pair.our for pair in parting.pairs[parting.at : parting.at + 3] if pair.our]
+    near = parting.pairs[parting.at : parting.at + 3]
+    ours, theirs = ([pair[side] for pair in near if pair[side]] for side in (0, 1))
+    after = next((event.words for event in theirs if event.words != "text"), None)
+    if after not in ("soft break", "hard break"):
+        return False
     ends = [at for at, event in enumerate(ours) if event.words == "end paragraph" and all(other.words == "text" for other in ours[:at])]
     begun = [event for at in ends for event in ours[at + 1 : at + 2] if event.words.startswith("start table ")]
     return any(re.search(rb"[\r\n][ \t]+$", parting.page[: event.start]) and parting.page[event.start :].startswith(b"|") for event in begun)
