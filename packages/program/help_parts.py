@@ -44,14 +44,3 @@ def stale(commands, top=TOP):
         text = (top / path).read_text() if (top / path).is_file() else ""
         if made_of(command, text) != text:
             yield path, made_of(command, text)
-
-
-def faults(commands, top=TOP):
-    """A line for each of them."""
-    for path, _ in stale(commands, top):
-        yield f"{path}: usage and extensions are not as the table has them: run packages/program/write --write"
-
-
-def write(commands, top=TOP):
-    for path, text in stale(commands, top):
-        (top / path).write_text(text)

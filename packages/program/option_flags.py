@@ -71,14 +71,3 @@ def stale(commands, top=TOP):
         whole = MARKED[path].sub(lambda _: made, text)
         if len(MARKED[path].findall(text)) != 1 or whole != text:
             yield path, whole
-
-
-def faults(commands, top=TOP):
-    """A line for each of them."""
-    for path, _ in stale(commands, top):
-        yield f"{path}: what stands between the marks is not as the table has it: run packages/program/write --write"
-
-
-def write(commands, top=TOP):
-    for path, text in stale(commands, top):
-        (top / path).write_text(text)
